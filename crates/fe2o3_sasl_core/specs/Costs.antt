@@ -30,8 +30,8 @@ acceptor_hmacs (ScramAcceptor provider state) (frames.Init mechanism (Some text)
     ⊎ (¬ ReachesLookUp provider mechanism text × (n ≡ 0))
 acceptor_hmacs (ScramAcceptor provider state) (frames.Response text) n =
     (answer : Result (Option (List ℕ)) ServerScramErrorKind) × (after : ServerState)
-    × ConcludesFrom state provider.version provider.rules text answer after
-    × FinalCostsFrom state provider.version provider.rules text answer 0 n
+    × ConcludesFrom state provider.version provider.rules provider.rights text answer after
+    × FinalCostsFrom state provider.version provider.rules provider.rights text answer 0 n
 acceptor_hmacs acceptor frame n = n ≡ 0
 
 -- no more HMAC values were made than an answer takes, also if memory ran out

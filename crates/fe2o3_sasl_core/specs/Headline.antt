@@ -16,7 +16,8 @@ use Rattle.fe2o3_sasl_core.specs.declared.sasl_profile.error.ProfileError.TheVar
 
 -- what a server answers Ok to, exactly
 pub record AnswersOkExactly (provider : Provider) (events : List Given) (replies : List ServerSays) : Type 0 where
-  -- Ok answers only a response that fits its open challenge, and whose proof meets the stored key
+  -- Ok answers only a response that fits its open challenge, whose proof meets the stored key, and whose user may act for
+  -- the identity that the init named
   pub only : (n : ℕ) (body : List ℕ) → slice_get replies n ≡ Some (Concluded outcomes.Ok body)
       → (accepted : Accepted) × AcceptsAt provider events replies n accepted
       × (Concluded outcomes.Ok body ≡ says_ok provider accepted)

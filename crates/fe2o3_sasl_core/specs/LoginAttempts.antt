@@ -22,19 +22,30 @@ any_kind = record {
   strict = false;
   channels =
       Some (record { tls_unique = Some no_data; tls_server_end_point = Some no_data; tls_exporter = Some no_data });
+  accept_authzid = false;
 }
 
 -- the GS2 headers of a mechanism (RFC 5802, section 6): with -PLUS the client binds a channel, and without it none
-abbrev pub headers_of : Bool → ServerRules
-headers_of false = either_header
-headers_of true = any_kind
+abbrev pub headers_for : Bool → ServerRules
+headers_for false = either_header
+headers_for true = any_kind
+
+-- those with an identity too, if it is accepted. A reader that accepts identities is strict, like every server that does
+-- (`is_strict`), so that no single reader accepts each message that some server accepts
+abbrev pub headers_of : Bool → Bool → ServerRules
+headers_of plus accept = record (headers_for plus) { accept_authzid = accept }
+
+-- a client-first message of SCRAM, with -PLUS or without it, names this user (RFC 5802, section 7): to a server that accepts
+-- identities or to one that accepts none
+abbrev pub NamesUser : Bool → List ℕ → List ℕ → Type 0
+NamesUser plus text name = (accept : Bool) × (first : ClientFirst)
+    × ReadsClientFirst (headers_of plus accept) text (Ok first) × (name ≡ first.user)
 
 -- an initial response of this mechanism claims this user name: a client-first message of SCRAM, after a GS2 header of
 -- the mechanism (RFC 5802, sections 4, 6 and 7), or a message of PLAIN that is accepted for a test (RFC 4616, section 2)
 abbrev pub ClaimsUser : List ℕ → List ℕ → List ℕ → Type 0
 ClaimsUser mechanism text name =
-    ((version : ScramVersion) × (plus : Bool) × (first : ClientFirst) × (mechanism ≡ mechanism_of version plus)
-    × ReadsClientFirst (headers_of plus) text (Ok first) × (name ≡ first.user))
+    ((version : ScramVersion) × (plus : Bool) × (mechanism ≡ mechanism_of version plus) × NamesUser plus text name)
     ⊎ ((mechanism ≡ codes "PLAIN") × ((parts : PlainParts) × SpellsPlain parts text × IsTaken parts
     × (name ≡ parts.user)))
 
@@ -43,11 +54,11 @@ abbrev pub ClaimOf : List ℕ → List ℕ → Option (List ℕ) → Type 0
 ClaimOf mechanism text user =
     MatchOption user ((name : List ℕ) → ¬ ClaimsUser mechanism text name) (ClaimsUser mechanism text)
 
--- memory is requested to read a claim: the initial response claims a name, or its client-first message has a name with
--- escapes
+-- memory is requested to read a claim: the initial response claims a name, or its client-first message has a name or an
+-- identity with escapes
 abbrev pub ClaimAllocates : List ℕ → List ℕ → Type 0
 ClaimAllocates mechanism text = ((version : ScramVersion) × (plus : Bool) × (mechanism ≡ mechanism_of version plus)
-    × HasEscapes (headers_of plus) text)
+    × ((accept : Bool) × HasEscapes (headers_of plus accept) text))
     ⊎ ((name : List ℕ) × ClaimsUser mechanism text name)
 
 -- what an init claims: its mechanism, the user name of its initial response, and its hostname

@@ -1,12 +1,14 @@
 -- A server of SCRAM, PLAIN, ANONYMOUS and EXTERNAL over one list of records, of which some mechanisms are offered (AMQP
 -- 1.0, part 5, section 5.3.3.1).
 use Rattle.std.specs.Prelude.{◌≡◌, ◌<◌, ◌&&◌, ℕ, Bool, true, false, not, is_some, Option, Some, None, MatchOption, List, [], ◌∷◌, codes, option_map}
+use Rattle.std.specs.Arc.{arc_value}
 use Rattle.fe2o3_sasl_wire.specs.SaslFrames.{SaslFrame}
+use Rattle.fe2o3_scram.specs.ActingRights.{Rights, some_rights}
 use Rattle.fe2o3_scram.specs.declared.channel_binding.ChannelBindings.{ChannelBindings}
 use Rattle.fe2o3_scram.specs.declared.hmac.ScramVersion.{ScramVersion}
 use Rattle.fe2o3_scram.specs.declared.hmac.ScramVersion.TheVariants.{Sha1, Sha256, Sha512}
 use Rattle.fe2o3_scram.specs.declared.scram_messages.server_rules.ServerRules.{ServerRules}
-use Rattle.fe2o3_scram.specs.Credentials.{Provider, Record, Store, kept, serving}
+use Rattle.fe2o3_scram.specs.Credentials.{Provider, Record, Store, kept, serving, with_rights}
 use Rattle.fe2o3_scram.specs.Mixed.{MultiRecords, is_version, provider_for}
 use Rattle.fe2o3_scram.specs.MockSettings.{MockSettings, mocking}
 use Rattle.fe2o3_scram.specs.ScramServer.{ServerState, Initial, ServerFirstSent, ServerFinalSent, challenge_kept, open_challenge, served_by, state_in}
@@ -19,7 +21,7 @@ use Rattle.fe2o3_sasl_core.specs.Costs.{acceptor_hmacs}
 use Rattle.fe2o3_sasl_core.specs.ExternalServer.{External, external_machine, external_of, external_reasons, external_user}
 use Rattle.fe2o3_sasl_core.specs.PlainServer.{PlainState, plain_allocates, plain_hmacs, plain_machine, plain_reasons, plain_state}
 use Rattle.fe2o3_sasl_core.specs.RestrictMechanisms.{Offering, offering_allocates, offering_hmacs, offering_machine, offering_names, offering_of, offering_reasons}
-use Rattle.fe2o3_sasl_core.specs.SaslAcceptor.{Acceptor, AnonymousAcceptor, ScramAcceptor, acceptor_allocates, acceptor_machine, acceptor_names, acceptor_reasons, acceptor_user}
+use Rattle.fe2o3_sasl_core.specs.SaslAcceptor.{Acceptor, AnonymousAcceptor, ScramAcceptor, acceptor_acting, acceptor_allocates, acceptor_machine, acceptor_names, acceptor_reasons, acceptor_user}
 use Rattle.fe2o3_sasl_core.specs.declared.rejection.Rejection.{Rejection}
 use Rattle.fe2o3_sasl_core.specs.declared.any_mechanism.Selected.{Selected}
 use Rattle.fe2o3_sasl_core.specs.declared.any_mechanism.Selected.TheVariants.{First, Second}
@@ -190,6 +192,21 @@ abbrev pub password_user : PasswordState → Option (List ℕ)
 password_user server = let parts = server.inner in
     part_names parts.selected (all_scrams_user parts.first) (others_user parts.second)
 
+-- the identity that this user acts for: that of the mechanism of the last init
+abbrev pub scrams_acting : ScramStates → Option (List ℕ)
+scrams_acting parts = part_names parts.selected (acceptor_acting parts.first)
+    (part_names parts.second.selected (acceptor_acting parts.second.first) (acceptor_acting parts.second.second))
+
+abbrev pub all_scrams_acting : AllScramStates → Option (List ℕ)
+all_scrams_acting parts = part_names parts.selected (scrams_acting parts.first) (scrams_acting parts.second)
+
+abbrev pub others_acting : OtherStates → Option (List ℕ)
+others_acting parts = part_names parts.selected None (part_names parts.second.selected None None)
+
+abbrev pub password_acting : PasswordState → Option (List ℕ)
+password_acting server = let parts = server.inner in
+    part_names parts.selected (all_scrams_acting parts.first) (others_acting parts.second)
+
 -- what this part has, of two
 abbrev pub of_part : {A : Type 0} → Option Selected → Option A → Option A → Option A
 of_part None first second = None
@@ -229,7 +246,7 @@ pub record SavedExchange : Type 0 where
   pub state : ServerState
 
 -- what a server offers and knows: the records; the settings of mock authentication, if any; the hashes of SCRAM, and
--- what it accepts in a client's messages; whether PLAIN is offered, the hash of its records, the iteration count for an
+-- what it accepts in a client's messages; who may act as whom in SCRAM; whether PLAIN is offered, the hash of its records, the iteration count for an
 -- unknown user, if one is set, and the form of its passwords; whether ANONYMOUS is; the name of EXTERNAL, which is not
 -- offered if the name is empty; and the exchange of SCRAM that the server continues, if any
 pub record PasswordSettings : Type 0 where
@@ -237,6 +254,7 @@ pub record PasswordSettings : Type 0 where
   pub mock : Option MockChoice
   pub hashes : ScramHashes
   pub rules : ServerRules
+  pub rights : Rights
   pub plain : Bool
   pub plain_version : ScramVersion
   pub plain_count : Option ℕ
@@ -278,10 +296,10 @@ scram_rules false rules = record rules {
   channels = None;
 }
 
--- the provider of SCRAM by one hash, with -PLUS or without it: the records of that hash
+-- the provider of SCRAM by one hash, with -PLUS or without it: the records of that hash, and the rights of all
 abbrev pub scram_provider : Bool → PasswordSettings → ScramVersion → Provider
-scram_provider plus settings version = mocking (option_map (mock_for version) settings.mock)
-    (serving (scram_rules plus settings.rules) (provider_for version settings.records))
+scram_provider plus settings version = with_rights settings.rights (mocking (option_map (mock_for version) settings.mock)
+    (serving (scram_rules plus settings.rules) (provider_for version settings.records)))
 
 -- the parts of SCRAM to which the last init went, if it was of this hash: of all, and of SCRAM-SHA-256 and SCRAM-SHA-1
 abbrev pub first_asked : Option ScramVersion → Option Selected
@@ -466,7 +484,7 @@ mock_held mock = record { secret = mock.secret.now; salt_len = mock.salt_len; co
 
 abbrev pub state_held : RestoredState → ServerState
 state_held (states.Challenge challenge stored) = ServerFirstSent (challenge_kept challenge.now) (kept stored.now)
-state_held (states.Authenticated user) = ServerFinalSent user.now
+state_held (states.Authenticated user acts_for) = ServerFinalSent user.now (option_map (λ name. name.now) acts_for)
 
 abbrev pub restored_held : Restored → SavedExchange
 restored_held held = record { version = held.version; plus = held.plus; state = state_held held.state }
@@ -478,6 +496,7 @@ settings_of builder = record {
   mock = option_map mock_held builder.mock;
   hashes = builder.hashes;
   rules = builder.rules;
+  rights = some_rights (option_map (λ rights. arc_value rights.now) builder.rights);
   plain = builder.plain;
   plain_version = builder.plain_version;
   plain_count = builder.plain_iterations;

@@ -17,7 +17,7 @@ use Rattle.fe2o3_scram.specs.ClientFinal.{ReadsClientFinal}
 use Rattle.fe2o3_scram.specs.ClientFirst.{ClientFirst, ReadsClientFirst}
 use Rattle.fe2o3_scram.specs.Credentials.{Provider}
 use Rattle.fe2o3_scram.specs.ChannelBinding.{server_mechanism}
-use Rattle.fe2o3_scram.specs.ScramServer.{ServerState, ServerFirstSent, logged_in, server_against, ChallengesFrom, ConcludesFrom, ReachesBase64In}
+use Rattle.fe2o3_scram.specs.ScramServer.{ServerState, ServerFirstSent, logged_in_for, logged_in, server_against, ChallengesFrom, ConcludesFrom, ReachesBase64In}
 use Rattle.fe2o3_scram.specs.ServerFirst.{ReachesChallenge}
 
 -- the acceptors, each with all that its answers depend on: SCRAM over a provider, in a state; PLAIN for one user, with
@@ -33,6 +33,11 @@ abbrev pub acceptor_user : Acceptor → Option (List ℕ)
 acceptor_user (ScramAcceptor provider state) = logged_in state
 acceptor_user (PlainAcceptor user password true) = Some user
 acceptor_user acceptor = None
+
+-- the identity that this user acts for, if it named one (RFC 4422, section 2; RFC 5802, section 5.1)
+abbrev pub acceptor_acting : Acceptor → Option (List ℕ)
+acceptor_acting (ScramAcceptor provider state) = logged_in_for state
+acceptor_acting acceptor = None
 
 -- the names of an acceptor's mechanisms
 abbrev pub acceptor_names : Acceptor → List (List ℕ)
@@ -79,7 +84,7 @@ acceptor_machine (ScramAcceptor provider state) nonce (frames.Init mechanism (So
     × (reply ≡ server_frame (λ message. frames.Challenge message) answer) × (next ≡ ScramAcceptor provider after)))
 acceptor_machine (ScramAcceptor provider state) nonce (frames.Response text) reply next =
     (answer : Result (Option (List ℕ)) ServerScramErrorKind) × (after : ServerState)
-    × ConcludesFrom state provider.version provider.rules text answer after
+    × ConcludesFrom state provider.version provider.rules provider.rights text answer after
     × (reply ≡ server_frame (λ message. frames.Outcome outcomes.Ok (Some message)) answer)
     × (next ≡ ScramAcceptor provider after)
 acceptor_machine (PlainAcceptor user password accepted) nonce (frames.Init mechanism (Some text) hostname) reply next =
@@ -117,7 +122,7 @@ FirstRejected provider text reason = ⊥
 -- no challenge is open
 abbrev pub FinalFault : ServerState → Provider → List ℕ → ServerScramErrorKind → Type 0
 FinalFault (ServerFirstSent challenge stored) provider text kind =
-    ReadsClientFinal (server_against provider.version provider.rules challenge stored) text (Err kind)
+    ReadsClientFinal (server_against provider.version provider.rules provider.rights challenge stored) text (Err kind)
 FinalFault state provider text kind = kind ≡ IllegalAuthenticatorState
 
 -- the acceptor of PLAIN for one user rejects a message (RFC 4616, section 2) that has no third part, and every other

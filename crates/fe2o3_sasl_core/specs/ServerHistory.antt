@@ -6,6 +6,7 @@ use Rattle.fe2o3_sasl_wire.specs.declared.sasl_frames.error.Error.{Error}
 use Rattle.fe2o3_sasl_wire.specs.declared.sasl_frames.error.Error.TheVariants as faults
 use Rattle.fe2o3_sasl_wire.specs.SaslFrames.{SaslFrame}
 use Rattle.fe2o3_sasl_wire.specs.SaslFrames as frames
+use Rattle.fe2o3_scram.specs.ActingRights.{may_act}
 use Rattle.fe2o3_scram.specs.Texts.{base64_text}
 use Rattle.fe2o3_scram.specs.ServerFirst.{server_first_of}
 use Rattle.fe2o3_scram.specs.ClientFirst.{ClientFirst, ReadsClientFirst}
@@ -32,11 +33,13 @@ full_nonce challenge = challenge.client.nonce ++ challenge.nonce
 abbrev pub first_message : Challenging → List ℕ
 first_message challenge = server_first_of (full_nonce challenge) challenge.stored
 
--- what the server knows when it reads a response to a challenge
+-- what the server knows when it reads a response to a challenge: whether the user may act for the identity of its init is
+-- decided by the rights of the provider (RFC 4422, section 2)
 abbrev pub server_at : Provider → Challenging → Server
 server_at provider challenge =
     server_of provider.version (expected_header provider.rules.channels challenge.client.header)
     (is_strict provider.rules) challenge.client.bare (first_message challenge) (full_nonce challenge) challenge.stored
+    (may_act provider.rights challenge.client.user challenge.client.header.acts_for)
 
 -- the frame, with the event's nonce, fits as init: it names the mechanism, and its response is a client-first message
 -- of a user who has a record
@@ -52,7 +55,8 @@ pub record Accepted : Type 0 where
   pub challenge : Challenging
   pub final : ClientFinal
 
--- the frame fits as response to a challenge that is open: every test of a client-final message passes
+-- the frame fits as response to a challenge that is open: every test of a client-final message passes; the last are that
+-- its proof meets the stored key, and that the user may act for the identity that the init named (`IsAccepted`)
 abbrev pub FitsAsResponse : Provider → (Challenging → Type 0) → SaslFrame → Accepted → Type 0
 FitsAsResponse provider IsOpen (frames.Response text) accepted =
     IsOpen accepted.challenge × ReadsClientFinal (server_at provider accepted.challenge) text (Ok accepted.final)

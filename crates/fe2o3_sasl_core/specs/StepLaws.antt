@@ -4,6 +4,7 @@ use Rattle.fe2o3_sasl_wire.specs.declared.amqp_types.SaslCode.TheVariants as out
 use Rattle.fe2o3_sasl_wire.specs.SaslFrames as frames
 use Rattle.fe2o3_sasl_wire.specs.SaslFrames.{SaslFrame}
 use Rattle.fe2o3_scram.specs.declared.scram_messages.server_rules.ServerRules.{ServerRules}
+use Rattle.fe2o3_scram.specs.ActingRights.{Rights}
 use Rattle.fe2o3_scram.specs.ClientKeys.{ClientKeys}
 use Rattle.fe2o3_scram.specs.Credentials.{Provider}
 use Rattle.fe2o3_scram.specs.declared.hmac.ScramVersion.{ScramVersion}
@@ -17,17 +18,19 @@ use Rattle.fe2o3_sasl_core.specs.Profiles.{Profile, ScramProfile}
 use Rattle.fe2o3_sasl_core.specs.Runs.{AcceptorSteps, ProfileSteps}
 use Rattle.fe2o3_sasl_core.specs.SaslAcceptor.{Acceptor, ScramAcceptor, acceptor_machine}
 
--- the body is a response that logs this user in (RFC 5802, section 5)
-abbrev pub BodyLogsIn : ScramVersion → ServerRules → ServerState → List ℕ → List ℕ → Type 0
-BodyLogsIn version rules state body user =
-    (text : List ℕ) × SpellsBody body (Ok (frames.Response text)) × TextLogsIn version rules state text user
+-- the body is a response that logs this user in, for this identity or for itself (RFC 5802, section 5; RFC 4422, section 2)
+abbrev pub BodyLogsIn : ScramVersion → ServerRules → Rights → ServerState → List ℕ → List ℕ → Option (List ℕ) → Type 0
+BodyLogsIn version rules rights state body user acts_for = (text : List ℕ) × SpellsBody body (Ok (frames.Response text))
+    × TextLogsIn version rules rights state text user acts_for
 
--- a SCRAM acceptor answers Ok only to a body that logs a user in, and then names that user
+-- a SCRAM acceptor answers Ok only to a body that logs a user in, and then names that user and the identity that it acts
+-- for
 abbrev pub OksLogIn : Type 0
 OksLogIn = (provider : Provider) (state : ServerState) (event : Given) (body : List ℕ) (next : Acceptor)
     → AcceptorSteps acceptor_machine (ScramAcceptor provider state) event (Concluded outcomes.Ok body) next
-    → (user : List ℕ) × BodyLogsIn provider.version provider.rules state event.body user
-    × (next ≡ ScramAcceptor provider (ServerFinalSent user))
+    → (user : List ℕ) × (acts_for : Option (List ℕ))
+    × BodyLogsIn provider.version provider.rules provider.rights state event.body user acts_for
+    × (next ≡ ScramAcceptor provider (ServerFinalSent user acts_for))
 
 -- an acceptor of PLAIN over records answers Ok only to a body that logs a user in, and then names that user
 abbrev pub PlainOksLogIn : Type 0

@@ -4,6 +4,7 @@ use Rattle.fe2o3_sasl_wire.specs.declared.amqp_types.SaslCode.TheVariants as out
 use Rattle.fe2o3_sasl_wire.specs.declared.sasl_frames.error.Error.TheVariants as faults
 use Rattle.fe2o3_sasl_wire.specs.SaslFrames.{IsBytes, canonical}
 use Rattle.fe2o3_sasl_wire.specs.SaslFrames as frames
+use Rattle.fe2o3_scram.specs.ActingRights.{may_act}
 use Rattle.fe2o3_scram.specs.Texts.{base64_text}
 use Rattle.fe2o3_scram.specs.Grammar.{is_nonce, is_value}
 use Rattle.fe2o3_scram.specs.ChannelBinding.{TakesHeader, cbind_data, header_of, expected_header}
@@ -71,12 +72,14 @@ pub record Suffices (sides : Sides) : Type 0 where
 
 -- the provider holds the record of a password with this salt and this count, which the client's secret opens and whose
 -- count it accepts; and it accepts the client's GS2 header and has the data of the client's channel, as each provider
--- without channels does of each client without one; a strict provider accepts the user's name (RFC 5802, section 7)
+-- without channels does of each client without one; the user may act for the identity that the client names, as each may
+-- for itself (RFC 4422, section 2); a strict provider accepts the user's name (RFC 5802, section 7)
 pub record HoldsLogin (sides : Sides) (password salt : List ℕ) (count : ℕ) : Type 0 where
   pub version : sides.provider.version ≡ sides.login.version
   pub header : TakesHeader sides.provider.rules (header_of (login_header sides.login))
   pub channel : cbind_data sides.login.channel
       ≡ cbind_data (expected_header sides.provider.rules.channels (header_of (login_header sides.login))).channel
+  pub identity : may_act sides.provider.rights sides.login.user (header_of (login_header sides.login)).acts_for ≡ true
   pub name : T sides.provider.rules.strict → is_value sides.login.user ≡ true
   pub stored : sides.provider.records sides.login.user
       ≡ Some (record_of sides.login.version password salt count)

@@ -6,8 +6,9 @@ use Rattle.fe2o3_sasl_wire.specs.SaslFrames.{SaslFrame}
 use Rattle.fe2o3_scram.specs.declared.scram_messages.server_rules.ServerRules.{ServerRules}
 use Rattle.fe2o3_scram.specs.declared.hmac.ScramVersion.{ScramVersion}
 use Rattle.fe2o3_scram.specs.declared.hmac.ScramVersion.TheVariants.{Sha512}
+use Rattle.fe2o3_scram.specs.ActingRights.{Rights}
 use Rattle.fe2o3_scram.specs.ClientFinal.{recovered_key}
-use Rattle.fe2o3_scram.specs.Credentials.{Provider, Store, records_with, records_without, serving}
+use Rattle.fe2o3_scram.specs.Credentials.{Provider, Store, records_with, records_without, serving, with_rights}
 use Rattle.fe2o3_scram.specs.Hmac.{digest, hmac_of}
 use Rattle.fe2o3_scram.specs.MockSettings.{MockSettings, mock_record, mocking}
 use Rattle.fe2o3_scram.specs.ScramServer.{ServerState}
@@ -33,9 +34,10 @@ abbrev pub with_mock : Store → MockSettings → List ℕ → Store
 with_mock store mock name =
     record { version = store.version; records = records_with store.records name (mock_record mock name) }
 
--- a server with mock authentication over a store, in this state
-abbrev pub mock_server : ServerRules → MockSettings → Store → ServerState → Acceptor
-mock_server rules mock store state = ScramAcceptor (mocking (Some mock) (serving rules store)) state
+-- a server with mock authentication over a store, with these rights, in this state
+abbrev pub mock_server : ServerRules → Rights → MockSettings → Store → ServerState → Acceptor
+mock_server rules rights mock store state =
+    ScramAcceptor (with_rights rights (mocking (Some mock) (serving rules store))) state
 
 -- the salt of each mock record is an HMAC value (RFC 2104, section 2), cut to its length, of a text that no other
 -- mechanism and no other name has: so one secret serves several mechanisms
@@ -53,30 +55,31 @@ GivesAlike machine state other = (events : List Given) (replies : List ServerSay
 
 -- an unknown user is answered like a user whose record is the mock record of the name
 abbrev pub UnknownIsMock : Type 0
-UnknownIsMock = (rules : ServerRules) (mock : MockSettings) (store : Store) (name : List ℕ) (state : ServerState)
-    → GivesAlike acceptor_machine (mock_server rules mock (without_user store name) state)
-    (mock_server rules mock (with_mock store mock name) state)
+UnknownIsMock = (rules : ServerRules) (rights : Rights) (mock : MockSettings) (store : Store) (name : List ℕ)
+    (state : ServerState) → GivesAlike acceptor_machine (mock_server rules rights mock (without_user store name) state)
+    (mock_server rules rights mock (with_mock store mock name) state)
 
 -- the answer to an unknown user takes as many HMAC values as that to a user with the mock record (RFC 5802, section 3)
 abbrev pub UnknownCostsAsMock : Type 0
-UnknownCostsAsMock = (rules : ServerRules) (mock : MockSettings) (store : Store) (name : List ℕ) (state : ServerState)
-    (frame : SaslFrame) (n : ℕ) → acceptor_hmacs (mock_server rules mock (without_user store name) state) frame n
-    ↔ acceptor_hmacs (mock_server rules mock (with_mock store mock name) state) frame n
+UnknownCostsAsMock = (rules : ServerRules) (rights : Rights) (mock : MockSettings) (store : Store) (name : List ℕ)
+    (state : ServerState) (frame : SaslFrame) (n : ℕ)
+    → acceptor_hmacs (mock_server rules rights mock (without_user store name) state) frame n
+    ↔ acceptor_hmacs (mock_server rules rights mock (with_mock store mock name) state) frame n
 
 -- a server of two mechanisms, each over its own store, that has the name in neither store gives the replies of one that
 -- has its mock records
 abbrev pub UnknownIsMockInBoth : Type 0
-UnknownIsMockInBoth = (rules other_rules : ServerRules) (mock other_mock : MockSettings) (store other : Store)
+UnknownIsMockInBoth = (rules other_rules : ServerRules) (rights other_rights : Rights) (mock other_mock : MockSettings) (store other : Store)
     (name : List ℕ) (state other_state : ServerState) (asked : Option Selected)
     → GivesAlike (any_mechanism_machine acceptor_names acceptor_names acceptor_machine acceptor_machine)
     (record {
-      first = mock_server rules mock (without_user store name) state;
-      second = mock_server other_rules other_mock (without_user other name) other_state;
+      first = mock_server rules rights mock (without_user store name) state;
+      second = mock_server other_rules other_rights other_mock (without_user other name) other_state;
       selected = asked;
     })
     (record {
-      first = mock_server rules mock (with_mock store mock name) state;
-      second = mock_server other_rules other_mock (with_mock other other_mock name) other_state;
+      first = mock_server rules rights mock (with_mock store mock name) state;
+      second = mock_server other_rules other_rights other_mock (with_mock other other_mock name) other_state;
       selected = asked;
     })
 

@@ -226,14 +226,28 @@ impl<A: HasMechanism, B: HasMechanism> SaslAcceptor for AnyMechanism<A, B> {
 impl<A: HasMechanism, B: HasMechanism> AuthenticatedUser for AnyMechanism<A, B> {
     ghost named = { λ both. part_names both.selected (A.named both.first) (B.named both.second) };
 
+    ghost acting = { λ both. part_names both.selected (A.acting both.first) (B.acting both.second) };
+
     ghost named_by_state = { λ both other same i. part_names (same i).selected
         (A.named_by_state both.first other.first (λ j. (same j).first) i)
         (B.named_by_state both.second other.second (λ j. (same j).second) i) };
+
+    ghost acting_by_state = { λ both other same i. part_names (same i).selected
+        (A.acting_by_state both.first other.first (λ j. (same j).first) i)
+        (B.acting_by_state both.second other.second (λ j. (same j).second) i) };
 
     fn authenticated_user(&self) -> Option<&str> {
         match self.selected {
             Some(Selected::First) => self.first.authenticated_user(),
             Some(Selected::Second) => self.second.authenticated_user(),
+            None => None,
+        }
+    }
+
+    fn acts_for(&self) -> Option<&str> {
+        match self.selected {
+            Some(Selected::First) => self.first.acts_for(),
+            Some(Selected::Second) => self.second.acts_for(),
             None => None,
         }
     }

@@ -1,7 +1,7 @@
 //! The server's side of EXTERNAL (RFC 4422, appendix A).
 
-ghost use Rattle.std.specs.Prelude.{◌≡◌, ◌≢◌, ◌↔◌, true, false, ℕ, List, Some, ◌∷◌, [], IfErr, IfOk, IsOk, codes, option_map, string_bytes};
-ghost use Rattle.std.proofs.Common.{ap};
+ghost use Rattle.std.specs.Prelude.{◌≡◌, ◌≢◌, ◌↔◌, true, false, ℕ, List, Some, ◌∷◌, [], IfErr, IfOk, IsOk, codes, option_map, string_bytes, None};
+ghost use Rattle.std.proofs.Common.{ap, refl};
 ghost use Rattle.fe2o3_sasl_wire.specs.AmqpTypes.{binary_bytes, init_frame, response_frame};
 ghost use Rattle.fe2o3_sasl_core.specs.SaslAcceptor.{HasReason, sent_frame};
 
@@ -154,7 +154,11 @@ impl AuthenticatedUser for ExternalServer {
 
     ghost named = { λ acceptor. external_user (external_of acceptor) };
 
+    ghost acting = { λ _. None };
+
     ghost named_by_state = { λ acceptor other same. ap external_user same };
+
+    ghost acting_by_state = { λ acceptor other same. refl };
 
     fn authenticated_user(&self) -> Option<&str>
         ensures named { option_map (λ user. user.now) result ≡ external_user (external_of self.now) }
@@ -165,6 +169,10 @@ impl AuthenticatedUser for ExternalServer {
         } else {
             None
         }
+    }
+
+    fn acts_for(&self) -> Option<&str> {
+        None
     }
 }
 

@@ -301,12 +301,24 @@ impl<A: HasMechanism> SaslAcceptor for WithExtraChallenges<A> {
 impl<A: HasMechanism> AuthenticatedUser for WithExtraChallenges<A> {
     ghost named = { λ server. extended_user (phase_of server.phase) (A.named server.acceptor) };
 
+    ghost acting = { λ server. extended_user (phase_of server.phase) (A.acting server.acceptor) };
+
     ghost named_by_state = { λ server other same i. extended_user (same i).phase
         (A.named_by_state server.acceptor other.acceptor (λ j. (same j).inner) i) };
+
+    ghost acting_by_state = { λ server other same i. extended_user (same i).phase
+        (A.acting_by_state server.acceptor other.acceptor (λ j. (same j).inner) i) };
 
     fn authenticated_user(&self) -> Option<&str> {
         match self.phase {
             ChallengePhase::Idle => self.acceptor.authenticated_user(),
+            _ => None,
+        }
+    }
+
+    fn acts_for(&self) -> Option<&str> {
+        match self.phase {
+            ChallengePhase::Idle => self.acceptor.acts_for(),
             _ => None,
         }
     }

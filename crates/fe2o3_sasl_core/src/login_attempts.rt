@@ -9,7 +9,7 @@ ghost use Rattle.fe2o3_scram.specs.ClientFirst.{ClientFirst as FirstValues, HasE
 ghost use Rattle.fe2o3_scram.specs.declared.hmac.ScramVersion.{ScramVersion as VersionOf};
 ghost use Rattle.fe2o3_sasl_core.specs.Costs.{CostsAtMost};
 ghost use Rattle.fe2o3_sasl_core.specs.SaslAcceptor.{HasReason, reason_in, sent_frame};
-ghost use Rattle.fe2o3_sasl_core.specs.LoginAttempts.{ClaimAllocates, ClaimIn, ClaimOf, IsAttempt, Recorded, attempt_of, headers_of, recorded_allocates, recorded_hmacs, recorded_machine, recorded_of, recorded_reasons, rejection_in};
+ghost use Rattle.fe2o3_sasl_core.specs.LoginAttempts.{ClaimAllocates, ClaimIn, ClaimOf, IsAttempt, NamesUser, Recorded, attempt_of, headers_of, recorded_allocates, recorded_hmacs, recorded_machine, recorded_of, recorded_reasons, rejection_in};
 
 pub mod laws;
 
@@ -72,11 +72,13 @@ impl Clone for LoginAttempt {
 /// Returns the user name that an initial response of this mechanism claims. Nobody is authenticated by it.
 ///
 /// - For SCRAM-SHA-1, SCRAM-SHA-256 and SCRAM-SHA-512 it is the unescaped name of the client-first message, whose GS2
-///   header is `n,,` or `y,,` (RFC 5802, section 7).
+///   header is `n,,` or `y,,` (RFC 5802, section 7), also if it names an identity to act for.
 /// - For SCRAM-SHA-1-PLUS, SCRAM-SHA-256-PLUS and SCRAM-SHA-512-PLUS it is the unescaped name of the client-first
 ///   message, whose GS2 header is `p=tls-unique,,`, `p=tls-server-end-point,,` or `p=tls-exporter,,` (RFC 5802, sections
-///   6 and 7). The message is read strictly, like by every server that binds channels ([`ServerRules::strict`]).
+///   6 and 7), also if it names an identity to act for.
 /// - For PLAIN it is the name that `plain_user` returns (RFC 4616, section 2).
+/// - A message that binds a channel or names an identity is read strictly, like by every server that accepts one
+///   ([`ServerRules::strict`]).
 /// - For every other mechanism, and for a message that cannot be parsed, it is `None`.
 ///
 /// The only error is `OutOfMemory`.
@@ -90,7 +92,7 @@ pub fn claimed_user(
     ensures memory { IfErr result (λ _. ClaimAllocates mechanism.now message.now) }
 {
     if let Some(plus) = binds_channel(mechanism) {
-        return scram_user(alloc, message, headers_of(plus));
+        return named_user(alloc, message, plus);
     }
     if mechanism != PLAIN {
         return Ok(None);
@@ -114,16 +116,32 @@ fn binds_channel(mechanism: &str) -> Option<bool>
     }
 }
 
+/// Returns the user name of a client-first message of SCRAM, with `-PLUS` or without it, or `None` if it cannot be parsed.
+/// It is read like by a server that accepts no identity, and if that fails, like by one that does, which tests extensions
+/// like a strict one.
+fn named_user(alloc: Global, message: &[u8], plus: bool) -> Result<Option<String>, OutOfMemory>
+    ensures ok { IfOk result (λ user. MatchOption (option_map string_bytes user)
+        ((name : List ℕ) → ¬ NamesUser plus message.now name) (NamesUser plus message.now)) }
+    ensures memory { IfErr result (λ _. ((accept : Bool) × HasEscapes (headers_of plus accept) message.now)
+        ⊎ ((name : List ℕ) × NamesUser plus message.now name)) }
+{
+    match scram_user(alloc, message, headers_of(plus, false))? {
+        Some(user) => Ok(Some(user)),
+        None => scram_user(alloc, message, headers_of(plus, true)),
+    }
+}
+
 /// Returns which GS2 headers belong to SCRAM: with `-PLUS` those of any kind of channel binding, and without it `n,,`
-/// and `y,,` (RFC 5802, section 6).
-fn headers_of(plus: bool) -> ServerRules
-    ensures { result ≡ headers_of plus }
+/// and `y,,` (RFC 5802, section 6), with an identity if it is accepted.
+fn headers_of(plus: bool, accept_authzid: bool) -> ServerRules
+    ensures { result ≡ headers_of plus accept_authzid }
 {
     if !plus {
         return ServerRules {
             accept_cbind_flag_y: true,
             strict: false,
             channels: None,
+            accept_authzid,
         };
     }
     let no_data = ChannelData {
@@ -138,6 +156,7 @@ fn headers_of(plus: bool) -> ServerRules
             tls_server_end_point: Some(no_data),
             tls_exporter: Some(no_data),
         }),
+        accept_authzid,
     }
 }
 
@@ -374,11 +393,20 @@ impl<A: HasMechanism> SaslAcceptor for WithLastAttempt<A> {
 impl<A: HasMechanism> AuthenticatedUser for WithLastAttempt<A> {
     ghost named = { λ server. A.named server.acceptor };
 
+    ghost acting = { λ server. A.acting server.acceptor };
+
     ghost named_by_state = { λ server other same.
         A.named_by_state server.acceptor other.acceptor (λ i. (same i).inner) };
 
+    ghost acting_by_state = { λ server other same.
+        A.acting_by_state server.acceptor other.acceptor (λ i. (same i).inner) };
+
     fn authenticated_user(&self) -> Option<&str> {
         self.acceptor.authenticated_user()
+    }
+
+    fn acts_for(&self) -> Option<&str> {
+        self.acceptor.acts_for()
     }
 }
 

@@ -2,8 +2,8 @@
 
 ghost use Rattle.std.specs.Prelude.{◌≡◌, option_map};
 ghost use Rattle.std.proofs.Common.{ap};
-ghost use Rattle.fe2o3_sasl_core.specs.PasswordServer.{PasswordState, challenge_with, password_allocates, password_hmacs, password_machine, password_names, password_open, password_reasons, password_state, password_user};
-ghost use Rattle.fe2o3_scram.specs.Credentials.{serving};
+ghost use Rattle.fe2o3_sasl_core.specs.PasswordServer.{PasswordState, challenge_with, password_acting, password_allocates, password_hmacs, password_machine, password_names, password_open, password_reasons, password_state, password_user};
+ghost use Rattle.fe2o3_scram.specs.Credentials.{serving, with_rights};
 ghost use Rattle.fe2o3_scram.specs.MockSettings.{mocking};
 ghost use Rattle.fe2o3_sasl_core.specs.SaslAcceptor.{AnonymousAcceptor, ScramAcceptor};
 
@@ -80,19 +80,19 @@ impl SaslAcceptor for PasswordServer {
       inner = record {
         first = record {
           first = record {
-            first = ScramAcceptor (mocking (same.0.0.0.0.3 i) (serving (same.0.0.0.0.1 i) (same.0.0.0.0.0 i))) (same.0.0.0.0.2 i);
+            first = ScramAcceptor (with_rights (same.0.0.0.0.4 i) (mocking (same.0.0.0.0.3 i) (serving (same.0.0.0.0.1 i) (same.0.0.0.0.0 i)))) (same.0.0.0.0.2 i);
             second = record {
-              first = ScramAcceptor (mocking (same.0.0.0.1.0.3 i) (serving (same.0.0.0.1.0.1 i) (same.0.0.0.1.0.0 i))) (same.0.0.0.1.0.2 i);
-              second = ScramAcceptor (mocking (same.0.0.0.1.1.3 i) (serving (same.0.0.0.1.1.1 i) (same.0.0.0.1.1.0 i))) (same.0.0.0.1.1.2 i);
+              first = ScramAcceptor (with_rights (same.0.0.0.1.0.4 i) (mocking (same.0.0.0.1.0.3 i) (serving (same.0.0.0.1.0.1 i) (same.0.0.0.1.0.0 i)))) (same.0.0.0.1.0.2 i);
+              second = ScramAcceptor (with_rights (same.0.0.0.1.1.4 i) (mocking (same.0.0.0.1.1.3 i) (serving (same.0.0.0.1.1.1 i) (same.0.0.0.1.1.0 i)))) (same.0.0.0.1.1.2 i);
               selected = same.0.0.0.1.2 i;
             };
             selected = same.0.0.0.2 i;
           };
           second = record {
-            first = ScramAcceptor (mocking (same.0.0.1.0.3 i) (serving (same.0.0.1.0.1 i) (same.0.0.1.0.0 i))) (same.0.0.1.0.2 i);
+            first = ScramAcceptor (with_rights (same.0.0.1.0.4 i) (mocking (same.0.0.1.0.3 i) (serving (same.0.0.1.0.1 i) (same.0.0.1.0.0 i)))) (same.0.0.1.0.2 i);
             second = record {
-              first = ScramAcceptor (mocking (same.0.0.1.1.0.3 i) (serving (same.0.0.1.1.0.1 i) (same.0.0.1.1.0.0 i))) (same.0.0.1.1.0.2 i);
-              second = ScramAcceptor (mocking (same.0.0.1.1.1.3 i) (serving (same.0.0.1.1.1.1 i) (same.0.0.1.1.1.0 i))) (same.0.0.1.1.1.2 i);
+              first = ScramAcceptor (with_rights (same.0.0.1.1.0.4 i) (mocking (same.0.0.1.1.0.3 i) (serving (same.0.0.1.1.0.1 i) (same.0.0.1.1.0.0 i)))) (same.0.0.1.1.0.2 i);
+              second = ScramAcceptor (with_rights (same.0.0.1.1.1.4 i) (mocking (same.0.0.1.1.1.3 i) (serving (same.0.0.1.1.1.1 i) (same.0.0.1.1.1.0 i)))) (same.0.0.1.1.1.2 i);
               selected = same.0.0.1.1.2 i;
             };
             selected = same.0.0.1.2 i;
@@ -158,10 +158,18 @@ impl SaslAcceptor for PasswordServer {
 impl AuthenticatedUser for PasswordServer {
     ghost named = { λ server. password_user (password_state server) };
 
+    ghost acting = { λ server. password_acting (password_state server) };
+
     ghost named_by_state = { λ server other same. ap password_user same };
+
+    ghost acting_by_state = { λ server other same. ap password_acting same };
 
     fn authenticated_user(&self) -> Option<&str> {
         self.acceptors.authenticated_user()
+    }
+
+    fn acts_for(&self) -> Option<&str> {
+        self.acceptors.acts_for()
     }
 }
 

@@ -2,7 +2,7 @@
 
 ghost use Rattle.std.specs.Prelude.{◌≡◌, ◌≤◌, ◌+◌, ◌^◌, ◌↔◌, ℕ, List, [], ◌∷◌, None, Some, IsTrue, IfOk, IfErr, MatchOption, OnErr, OnOk, codes, option_map, string_bytes};
 ghost use Rattle.std.specs.Str.{IsAscii};
-ghost use Rattle.std.proofs.Common.{ap};
+ghost use Rattle.std.proofs.Common.{ap, refl};
 ghost use Rattle.fe2o3_sasl_wire.specs.AmqpTypes.{init_frame, response_frame};
 ghost use Rattle.fe2o3_scram.specs.Credentials.{CheckingCosts, record_at};
 ghost use Rattle.fe2o3_scram.specs.Passwords.{password_of};
@@ -430,10 +430,18 @@ impl<C: ScramCredentialProvider> SaslAcceptor for PlainServer<C> {
 impl<C: ScramCredentialProvider> AuthenticatedUser for PlainServer<C> {
     ghost named = { λ plain. (plain_state C.meaning plain).user };
 
+    ghost acting = { λ _. None };
+
     ghost named_by_state = { λ acceptor other same. ap (λ (server : PlainState). server.user) same };
+
+    ghost acting_by_state = { λ acceptor other same. refl };
 
     fn authenticated_user(&self) -> Option<&str> {
         self.user.as_deref()
+    }
+
+    fn acts_for(&self) -> Option<&str> {
+        None
     }
 }
 

@@ -206,11 +206,20 @@ impl<A: HasMechanism> SaslAcceptor for RestrictMechanisms<A> {
 impl<A: HasMechanism> AuthenticatedUser for RestrictMechanisms<A> {
     ghost named = { λ offering. A.named offering.acceptor };
 
+    ghost acting = { λ offering. A.acting offering.acceptor };
+
     ghost named_by_state = { λ offering other same.
         A.named_by_state offering.acceptor other.acceptor (λ i. (same i).inner) };
 
+    ghost acting_by_state = { λ offering other same.
+        A.acting_by_state offering.acceptor other.acceptor (λ i. (same i).inner) };
+
     fn authenticated_user(&self) -> Option<&str> {
         self.acceptor.authenticated_user()
+    }
+
+    fn acts_for(&self) -> Option<&str> {
+        self.acceptor.acts_for()
     }
 }
 

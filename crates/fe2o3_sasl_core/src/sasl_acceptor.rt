@@ -8,11 +8,11 @@ ghost use Rattle.fe2o3_sasl_wire.specs.declared.amqp_types.SaslCode.TheVariants.
 ghost use Rattle.fe2o3_scram.specs.declared.scram_messages.error.ServerScramErrorKind.TheVariants.{OutOfMemory as ScramOutOfMemory};
 ghost use Rattle.fe2o3_sasl_core.specs.declared.rejection.Rejection.TheVariants.{Scram, UnknownUser};
 ghost use Rattle.std.proofs.Common.{ap};
-ghost use Rattle.fe2o3_scram.specs.Credentials.{serving};
+ghost use Rattle.fe2o3_scram.specs.Credentials.{serving, with_rights};
 ghost use Rattle.fe2o3_scram.specs.MockSettings.{mocking};
-ghost use Rattle.fe2o3_scram.specs.ScramServer.{provider_in, served_by, state_in, logged_in};
+ghost use Rattle.fe2o3_scram.specs.ScramServer.{provider_in, served_by, state_in, logged_in_for, logged_in};
 ghost use Rattle.fe2o3_sasl_core.specs.Costs.{acceptor_hmacs, CostsAtMost};
-ghost use Rattle.fe2o3_sasl_core.specs.SaslAcceptor.{Acceptor, ScramAcceptor, PlainAcceptor, AnonymousAcceptor, acceptor_names, acceptor_machine, acceptor_allocates, acceptor_user, offered, NamesPlain, PlainRejected, ZeroPart, ends_with, server_frame, plain_acceptor, HasReason, acceptor_reasons, reason_in, sent_frame};
+ghost use Rattle.fe2o3_sasl_core.specs.SaslAcceptor.{Acceptor, ScramAcceptor, PlainAcceptor, AnonymousAcceptor, acceptor_names, acceptor_machine, acceptor_acting, acceptor_allocates, acceptor_user, offered, NamesPlain, PlainRejected, ZeroPart, ends_with, server_frame, plain_acceptor, HasReason, acceptor_reasons, reason_in, sent_frame};
 
 use crate::OutOfMemory;
 use crate::mechanism_names::{ANONYMOUS, PLAIN, symbol_of};
@@ -158,18 +158,30 @@ pub trait SaslAcceptorExt: SaslAcceptor {
 
 impl<T: SaslAcceptor> SaslAcceptorExt for T {}
 
-/// An acceptor that names the user who has logged in.
+/// An acceptor that names the user who has logged in, and the identity that the user acts for.
 pub trait AuthenticatedUser: SaslAcceptor {
     ghost named: { Self → Option (List ℕ) };
+
+    ghost acting: { Self → Option (List ℕ) };
 
     /// Returns the name of the user of the last Ok, and `None` before it, from the next challenge on, and if the
     /// mechanism names no user. An error leaves it unchanged: read it at the Ok.
     fn authenticated_user(&self) -> Option<&str>
         ensures { option_map (λ user. user.now) result ≡ named self.now };
 
+    /// Returns the identity that the user of `authenticated_user` acts for, if the client named one (RFC 4422, section 2).
+    /// `None` beside a user is a client that acts for itself. Read it where you read the user. A connection belongs to
+    /// this identity, and to the user if there is none.
+    fn acts_for(&self) -> Option<&str>
+        ensures { option_map (λ name. name.now) result ≡ acting self.now };
+
     /// The user depends only on the state.
     ghost named_by_state: { (acceptor other : Self) → Self.state other ≡ Self.state acceptor
         → named other ≡ named acceptor };
+
+    /// The identity depends only on the state.
+    ghost acting_by_state: { (acceptor other : Self) → Self.state other ≡ Self.state acceptor
+        → acting other ≡ acting acceptor };
 }
 
 /// Returns a list of one ASCII name.
@@ -365,10 +377,18 @@ impl SaslAcceptor for SaslPlainMechanism {
 impl AuthenticatedUser for SaslPlainMechanism {
     ghost named = { λ mechanism. acceptor_user (plain_acceptor mechanism) };
 
+    ghost acting = { λ _. None };
+
     ghost named_by_state = { λ acceptor other same. ap acceptor_user same };
+
+    ghost acting_by_state = { λ acceptor other same. refl };
 
     fn authenticated_user(&self) -> Option<&str> {
         SaslPlainMechanism::authenticated_user(self)
+    }
+
+    fn acts_for(&self) -> Option<&str> {
+        None
     }
 }
 
@@ -455,9 +475,17 @@ impl SaslAcceptor for SaslAnonymousMechanism {
 impl AuthenticatedUser for SaslAnonymousMechanism {
     ghost named = { λ _. None };
 
+    ghost acting = { λ _. None };
+
     ghost named_by_state = { λ acceptor other same. refl };
 
+    ghost acting_by_state = { λ acceptor other same. refl };
+
     fn authenticated_user(&self) -> Option<&str> {
+        None
+    }
+
+    fn acts_for(&self) -> Option<&str> {
         None
     }
 }
@@ -479,7 +507,7 @@ impl<C: ScramCredentialProvider> SaslAcceptor for ScramAuthenticator<C> {
 
     ghost clone_keeps = { λ acceptor copy same.
         let kept = C.clone_keeps (provider_in acceptor) (provider_in copy) same.0 in
-        λ i. ScramAcceptor (mocking (same.3 i) (serving (same.1 i) (kept i))) (same.2 i) };
+        λ i. ScramAcceptor (with_rights (same.4 i) (mocking (same.3 i) (serving (same.1 i) (kept i)))) (same.2 i) };
 
     fn mechanisms(&self, alloc: Global) -> Result<Array<Symbol>, OutOfMemory> {
         one_name(alloc, self.mechanism())
@@ -572,10 +600,18 @@ impl<C: ScramCredentialProvider> SaslAcceptor for ScramAuthenticator<C> {
 impl<C: ScramCredentialProvider> AuthenticatedUser for ScramAuthenticator<C> {
     ghost named = { λ authenticator. logged_in (state_in authenticator) };
 
+    ghost acting = { λ authenticator. logged_in_for (state_in authenticator) };
+
     ghost named_by_state = { λ acceptor other same. ap acceptor_user same };
+
+    ghost acting_by_state = { λ acceptor other same. ap acceptor_acting same };
 
     fn authenticated_user(&self) -> Option<&str> {
         ScramAuthenticator::authenticated_user(self)
+    }
+
+    fn acts_for(&self) -> Option<&str> {
+        ScramAuthenticator::acts_for(self)
     }
 }
 

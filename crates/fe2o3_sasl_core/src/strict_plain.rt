@@ -1,7 +1,7 @@
 //! The strict acceptor of PLAIN for one user (RFC 4616, section 2).
 
-ghost use Rattle.std.specs.Prelude.{◌≡◌, ◌≢◌, ◌↔◌, IsTrue, ◌∷◌, [], IfOk, IsOk, MatchOption, ℕ, List, Some, codes, option_map, string_bytes};
-ghost use Rattle.std.proofs.Common.{ap};
+ghost use Rattle.std.specs.Prelude.{◌≡◌, ◌≢◌, ◌↔◌, IsTrue, ◌∷◌, [], IfOk, IsOk, MatchOption, ℕ, List, Some, codes, option_map, string_bytes, None};
+ghost use Rattle.std.proofs.Common.{ap, refl};
 ghost use Rattle.fe2o3_sasl_wire.specs.AmqpTypes.{init_frame, response_frame};
 ghost use Rattle.fe2o3_sasl_core.specs.PlainServer.{IsTaken, PlainParts, SpellsPlain, parts_of};
 ghost use Rattle.fe2o3_sasl_core.specs.PlainWords.{IsMessageOf, OneRejected, StrictPlain, strict_plain_machine, strict_plain_of, strict_plain_reasons, strict_plain_user};
@@ -144,7 +144,11 @@ impl SaslAcceptor for StrictPlainMechanism {
 impl AuthenticatedUser for StrictPlainMechanism {
     ghost named = { λ mechanism. strict_plain_user (strict_plain_of mechanism) };
 
+    ghost acting = { λ _. None };
+
     ghost named_by_state = { λ acceptor other same. ap strict_plain_user same };
+
+    ghost acting_by_state = { λ acceptor other same. refl };
 
     fn authenticated_user(&self) -> Option<&str> {
         if self.inner.accepted {
@@ -152,6 +156,10 @@ impl AuthenticatedUser for StrictPlainMechanism {
         } else {
             None
         }
+    }
+
+    fn acts_for(&self) -> Option<&str> {
+        None
     }
 }
 

@@ -3,8 +3,8 @@
 
 ghost use Rattle.std.specs.Prelude.{◌≡◌, IfOk, option_map};
 ghost use Rattle.std.proofs.Common.{ap};
-ghost use Rattle.fe2o3_sasl_core.specs.PasswordServer.{AllScramStates, all_scrams_allocates, all_scrams_hmacs, all_scrams_machine, all_scrams_names, all_scrams_open, all_scrams_reasons, all_scrams_state, all_scrams_user, challenge_with, scrams_state};
-ghost use Rattle.fe2o3_scram.specs.Credentials.{serving};
+ghost use Rattle.fe2o3_sasl_core.specs.PasswordServer.{AllScramStates, all_scrams_acting, all_scrams_allocates, all_scrams_hmacs, all_scrams_machine, all_scrams_names, all_scrams_open, all_scrams_reasons, all_scrams_state, all_scrams_user, challenge_with, scrams_state};
+ghost use Rattle.fe2o3_scram.specs.Credentials.{serving, with_rights};
 ghost use Rattle.fe2o3_scram.specs.MockSettings.{mocking};
 ghost use Rattle.fe2o3_sasl_core.specs.SaslAcceptor.{ScramAcceptor};
 
@@ -86,19 +86,19 @@ impl SaslAcceptor for AllScrams {
 
     ghost clone_keeps = { λ scrams copy same i. record {
       first = record {
-        first = ScramAcceptor (mocking (same.0.0.3 i) (serving (same.0.0.1 i) (same.0.0.0 i))) (same.0.0.2 i);
+        first = ScramAcceptor (with_rights (same.0.0.4 i) (mocking (same.0.0.3 i) (serving (same.0.0.1 i) (same.0.0.0 i)))) (same.0.0.2 i);
         second = record {
-          first = ScramAcceptor (mocking (same.0.1.0.3 i) (serving (same.0.1.0.1 i) (same.0.1.0.0 i))) (same.0.1.0.2 i);
-          second = ScramAcceptor (mocking (same.0.1.1.3 i) (serving (same.0.1.1.1 i) (same.0.1.1.0 i))) (same.0.1.1.2 i);
+          first = ScramAcceptor (with_rights (same.0.1.0.4 i) (mocking (same.0.1.0.3 i) (serving (same.0.1.0.1 i) (same.0.1.0.0 i)))) (same.0.1.0.2 i);
+          second = ScramAcceptor (with_rights (same.0.1.1.4 i) (mocking (same.0.1.1.3 i) (serving (same.0.1.1.1 i) (same.0.1.1.0 i)))) (same.0.1.1.2 i);
           selected = same.0.1.2 i;
         };
         selected = same.0.2 i;
       };
       second = record {
-        first = ScramAcceptor (mocking (same.1.0.3 i) (serving (same.1.0.1 i) (same.1.0.0 i))) (same.1.0.2 i);
+        first = ScramAcceptor (with_rights (same.1.0.4 i) (mocking (same.1.0.3 i) (serving (same.1.0.1 i) (same.1.0.0 i)))) (same.1.0.2 i);
         second = record {
-          first = ScramAcceptor (mocking (same.1.1.0.3 i) (serving (same.1.1.0.1 i) (same.1.1.0.0 i))) (same.1.1.0.2 i);
-          second = ScramAcceptor (mocking (same.1.1.1.3 i) (serving (same.1.1.1.1 i) (same.1.1.1.0 i))) (same.1.1.1.2 i);
+          first = ScramAcceptor (with_rights (same.1.1.0.4 i) (mocking (same.1.1.0.3 i) (serving (same.1.1.0.1 i) (same.1.1.0.0 i)))) (same.1.1.0.2 i);
+          second = ScramAcceptor (with_rights (same.1.1.1.4 i) (mocking (same.1.1.1.3 i) (serving (same.1.1.1.1 i) (same.1.1.1.0 i)))) (same.1.1.1.2 i);
           selected = same.1.1.2 i;
         };
         selected = same.1.2 i;
@@ -150,10 +150,18 @@ impl SaslAcceptor for AllScrams {
 impl AuthenticatedUser for AllScrams {
     ghost named = { λ scrams. all_scrams_user (all_scrams_state scrams) };
 
+    ghost acting = { λ scrams. all_scrams_acting (all_scrams_state scrams) };
+
     ghost named_by_state = { λ scrams other same. ap all_scrams_user same };
+
+    ghost acting_by_state = { λ scrams other same. ap all_scrams_acting same };
 
     fn authenticated_user(&self) -> Option<&str> {
         self.joined.authenticated_user()
+    }
+
+    fn acts_for(&self) -> Option<&str> {
+        self.joined.acts_for()
     }
 }
 

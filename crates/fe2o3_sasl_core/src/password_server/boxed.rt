@@ -107,10 +107,18 @@ impl<A: HasMechanism> SaslAcceptor for Boxed<A> {
 impl<A: HasMechanism> AuthenticatedUser for Boxed<A> {
     ghost named = { λ boxed. A.named boxed.inner.value };
 
+    ghost acting = { λ boxed. A.acting boxed.inner.value };
+
     ghost named_by_state = { λ boxed other same. A.named_by_state boxed.inner.value other.inner.value same };
+
+    ghost acting_by_state = { λ boxed other same. A.acting_by_state boxed.inner.value other.inner.value same };
 
     fn authenticated_user(&self) -> Option<&str> {
         A::authenticated_user(&*self.inner)
+    }
+
+    fn acts_for(&self) -> Option<&str> {
+        A::acts_for(&*self.inner)
     }
 }
 

@@ -1,6 +1,6 @@
 //! The builder of `PasswordServer`: its options, and the errors of `build`.
 
-ghost use Rattle.std.specs.Prelude.{◌≡◌, [], true, false, Some, None};
+ghost use Rattle.std.specs.Prelude.{◌≡◌, [], true, false, Some, None, option_map};
 ghost use Rattle.fe2o3_scram.specs.ChannelBinding.{is_required};
 ghost use Rattle.fe2o3_sasl_core.specs.PasswordServer.{settings_of};
 ghost use Rattle.fe2o3_scram.specs.ClientFirst.{default_rules};
@@ -17,8 +17,9 @@ use fe2o3_scram::credentials::MultiRecordStore;
 use fe2o3_scram::hmac::ScramVersion;
 use fe2o3_scram::provider::StoredPassword;
 use fe2o3_scram::scram_server::SaltTooLong;
-use fe2o3_scram::{ChannelBindings, OpenChallenge, ServerRules};
+use fe2o3_scram::{ActingRights, ChannelBindings, OpenChallenge, ServerRules};
 use std::alloc::AllocError;
+use std::sync::Arc;
 use thiserror::Error;
 
 /// Why a server is not built.
@@ -70,8 +71,11 @@ enum RestoredState<'a> {
         stored: &'a StoredPassword<'a>,
     },
 
-    /// The end of the login of this user.
-    Authenticated(&'a str),
+    /// The end of the login of this user, who acts for this identity, or for itself.
+    Authenticated {
+        user: &'a str,
+        acts_for: Option<&'a str>,
+    },
 }
 
 /// The exchange that a server continues, with the hash of its mechanism, and whether that has `-PLUS`.
@@ -111,6 +115,7 @@ pub struct PasswordServerBuilder<'a> {
     mock: Option<Mock<'a>>,
     hashes: ScramHashes,
     rules: ServerRules,
+    rights: Option<&'a Arc<ActingRights>>,
     plain: bool,
     plain_version: ScramVersion,
     plain_iterations: Option<u32>,
@@ -128,6 +133,7 @@ impl<'a> PasswordServerBuilder<'a> {
           mock = None;
           hashes = record { sha_512 = true; sha_256 = true; sha_1 = false };
           rules = default_rules;
+          rights = [];
           plain = false;
           plain_version = Sha256;
           plain_count = None;
@@ -146,6 +152,7 @@ impl<'a> PasswordServerBuilder<'a> {
                 sha_1: false,
             },
             rules: ServerRules::new(),
+            rights: None,
             plain: false,
             plain_version: ScramVersion::Sha256,
             plain_iterations: None,
@@ -234,6 +241,32 @@ impl<'a> PasswordServerBuilder<'a> {
         builder
     }
 
+    /// Returns this builder, whose SCRAM lets a client name an identity to act for if `accept` is true
+    /// (`ScramAuthenticator::accept_authzid`). By itself the option lets each user name only itself.
+    pub fn accept_authzid(self, accept: bool) -> Self
+        ensures { settings_of result ≡ record (settings_of self.entry) {
+          rules = record ((settings_of self.entry).rules) { accept_authzid = accept };
+        } }
+    {
+        let mut builder = self;
+        builder.rules = ServerRules {
+            accept_authzid: accept,
+            ..self.rules
+        };
+        builder
+    }
+
+    /// Returns this builder, by whose rights users may act for other identities than their own, in every mechanism of SCRAM
+    /// (`ScramAuthenticator::with_acting_rights`). The servers share them. A client names an identity only with
+    /// `accept_authzid`.
+    pub fn acting_rights(self, rights: &'a Arc<ActingRights>) -> Self
+        ensures { settings_of result ≡ record (settings_of self.entry) { rights = rights.now.value } }
+    {
+        let mut builder = self;
+        builder.rights = Some(rights);
+        builder
+    }
+
     /// Returns this builder, which offers PLAIN only if the connection is under TLS: PLAIN sends the
     /// password itself (RFC 4616, section 5).
     pub fn plain_under_tls(self, is_tls: bool) -> Self
@@ -313,19 +346,32 @@ impl<'a> PasswordServerBuilder<'a> {
         builder
     }
 
-    /// Returns this builder, whose server has authenticated this user by SCRAM with this hash
-    /// (`ScramAuthenticator::restore_authenticated`). The caller vouches for the name. It replaces an open challenge of
-    /// this builder. Whether the login had `-PLUS` plays no part any more.
-    pub fn authenticated(self, version: ScramVersion, username: &'a str) -> Self
+    /// Returns this builder, whose server has authenticated this user by SCRAM with this hash, for this identity
+    /// (`ScramAuthenticator::restore_authenticated`). The caller vouches for both names: pass what `authenticated_user` and
+    /// `acts_for` returned. It replaces an open challenge of this builder. Whether the login had `-PLUS` plays no part any
+    /// more.
+    pub fn authenticated(
+        self,
+        version: ScramVersion,
+        username: &'a str,
+        acts_for: Option<&'a str>,
+    ) -> Self
         ensures { settings_of result ≡ record (settings_of self.entry) {
-          restored = Some (record { version = version; plus = false; state = ServerFinalSent username.now });
+          restored = Some (record {
+            version = version;
+            plus = false;
+            state = ServerFinalSent username.now (option_map (λ name. name.now) acts_for.entry);
+          });
         } }
     {
         let mut builder = self;
         builder.restored = Some(Restored {
             version,
             plus: false,
-            state: RestoredState::Authenticated(username),
+            state: RestoredState::Authenticated {
+                user: username,
+                acts_for,
+            },
         });
         builder
     }

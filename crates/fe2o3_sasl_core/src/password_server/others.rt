@@ -4,7 +4,7 @@ ghost use Rattle.std.specs.Prelude.{◌≡◌, None};
 ghost use Rattle.std.proofs.Common.{ap};
 ghost use Rattle.fe2o3_sasl_core.specs.ExternalServer.{external_of};
 ghost use Rattle.fe2o3_sasl_core.specs.PlainServer.{plain_state};
-ghost use Rattle.fe2o3_sasl_core.specs.PasswordServer.{OtherStates, others_allocates, others_hmacs, others_machine, others_names, others_reasons, others_state, others_user};
+ghost use Rattle.fe2o3_sasl_core.specs.PasswordServer.{OtherStates, others_acting, others_allocates, others_hmacs, others_machine, others_names, others_reasons, others_state, others_user};
 ghost use Rattle.fe2o3_sasl_core.specs.SaslAcceptor.{AnonymousAcceptor};
 
 use crate::OutOfMemory;
@@ -122,10 +122,18 @@ impl SaslAcceptor for Others {
 impl AuthenticatedUser for Others {
     ghost named = { λ others. others_user (others_state others) };
 
+    ghost acting = { λ others. others_acting (others_state others) };
+
     ghost named_by_state = { λ others other same. ap others_user same };
+
+    ghost acting_by_state = { λ others other same. ap others_acting same };
 
     fn authenticated_user(&self) -> Option<&str> {
         self.joined.authenticated_user()
+    }
+
+    fn acts_for(&self) -> Option<&str> {
+        self.joined.acts_for()
     }
 }
 

@@ -3,8 +3,8 @@
 ghost use Rattle.std.specs.Prelude.{◌≡◌, option_map};
 ghost use Rattle.std.proofs.Common.{ap};
 ghost use Rattle.fe2o3_sasl_core.specs.AnyMechanismSides.{both_states};
-ghost use Rattle.fe2o3_sasl_core.specs.PasswordServer.{ScramStates, challenge_with, first_asked, scram_state, scrams_allocates, scrams_hmacs, scrams_machine, scrams_names, scrams_open, scrams_reasons, scrams_state, scrams_user, second_asked, weaker_open};
-ghost use Rattle.fe2o3_scram.specs.Credentials.{serving};
+ghost use Rattle.fe2o3_sasl_core.specs.PasswordServer.{ScramStates, challenge_with, first_asked, scram_state, scrams_acting, scrams_allocates, scrams_hmacs, scrams_machine, scrams_names, scrams_open, scrams_reasons, scrams_state, scrams_user, second_asked, weaker_open};
+ghost use Rattle.fe2o3_scram.specs.Credentials.{serving, with_rights};
 ghost use Rattle.fe2o3_scram.specs.MockSettings.{mocking};
 ghost use Rattle.fe2o3_sasl_core.specs.SaslAcceptor.{ScramAcceptor};
 
@@ -116,10 +116,10 @@ impl SaslAcceptor for Scrams {
     ghost hmacs = { scrams_hmacs };
 
     ghost clone_keeps = { λ scrams copy same i. record {
-      first = ScramAcceptor (mocking (same.0.3 i) (serving (same.0.1 i) (same.0.0 i))) (same.0.2 i);
+      first = ScramAcceptor (with_rights (same.0.4 i) (mocking (same.0.3 i) (serving (same.0.1 i) (same.0.0 i)))) (same.0.2 i);
       second = record {
-        first = ScramAcceptor (mocking (same.1.0.3 i) (serving (same.1.0.1 i) (same.1.0.0 i))) (same.1.0.2 i);
-        second = ScramAcceptor (mocking (same.1.1.3 i) (serving (same.1.1.1 i) (same.1.1.0 i))) (same.1.1.2 i);
+        first = ScramAcceptor (with_rights (same.1.0.4 i) (mocking (same.1.0.3 i) (serving (same.1.0.1 i) (same.1.0.0 i)))) (same.1.0.2 i);
+        second = ScramAcceptor (with_rights (same.1.1.4 i) (mocking (same.1.1.3 i) (serving (same.1.1.1 i) (same.1.1.0 i)))) (same.1.1.2 i);
         selected = same.1.2 i;
       };
       selected = same.2 i;
@@ -169,10 +169,18 @@ impl SaslAcceptor for Scrams {
 impl AuthenticatedUser for Scrams {
     ghost named = { λ scrams. scrams_user (scrams_state scrams) };
 
+    ghost acting = { λ scrams. scrams_acting (scrams_state scrams) };
+
     ghost named_by_state = { λ scrams other same. ap scrams_user same };
+
+    ghost acting_by_state = { λ scrams other same. ap scrams_acting same };
 
     fn authenticated_user(&self) -> Option<&str> {
         self.joined.authenticated_user()
+    }
+
+    fn acts_for(&self) -> Option<&str> {
+        self.joined.acts_for()
     }
 }
 

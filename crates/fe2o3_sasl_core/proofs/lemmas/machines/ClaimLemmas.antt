@@ -1,6 +1,6 @@
 -- An initial response claims one user name, or none: `one_claim`, `some_claim`. What a server of SCRAM reads is claimed:
 -- `claims_what_servers_read`.
-use Rattle.std.proofs.Common.{Bool, true, false, ◌≡◌, ◌≢◌, ◌⊎◌, ◌≤◌, ℕ, arith, Option, Some, None, List, [], length, codes, refl, sym, ap, subst, ◌∙◌, inl, inr, Result, Ok, Err}
+use Rattle.std.proofs.Common.{Bool, true, false, ◌≡◌, ◌≢◌, ◌⊎◌, ◌≤◌, ℕ, arith, Option, Some, None, List, [], length, codes, refl, sym, ap, subst, ◌∙◌, ◌++◌, inl, inr, Result, Ok, Err}
 use Rattle.std.proofs.lemmas.Bool.{cases_lt}
 use Rattle.std.specs.Prelude.{◌||◌, T, is_some}
 use Rattle.fe2o3_scram.specs.declared.hmac.ScramVersion.{ScramVersion}
@@ -13,30 +13,47 @@ use Rattle.fe2o3_scram.specs.declared.channel_binding.ChannelBindings.{ChannelBi
 use Rattle.fe2o3_scram.specs.declared.channel_binding.ChannelKind.TheVariants.{TlsUnique, TlsServerEndPoint, TlsExporter}
 use Rattle.fe2o3_scram.specs.ChannelBinding.{TakesFlag, TakesHeader, is_strict, mechanism_of, no_data, AcceptsFlag}
 use Rattle.fe2o3_scram.specs.ClientFirst.{ClientFirst, NamesClientFirst, ReadsClientFirst}
+use Rattle.fe2o3_scram.specs.Escape.{escaped}
+use Rattle.fe2o3_scram.specs.Texts.{Part}
 use Rattle.fe2o3_scram.proofs.lemmas.messages.ClientFirstLemmas.{after_nonce}
-use Rattle.fe2o3_scram.proofs.lemmas.messages.OneValueLemmas.{one_client_first_value}
+use Rattle.fe2o3_scram.proofs.lemmas.messages.HeaderLemmas.{one_header}
+use Rattle.fe2o3_scram.proofs.lemmas.messages.OneValueLemmas.{names_client_first}
 use Rattle.fe2o3_scram.proofs.lemmas.messages.SomeReadingLemmas.{some_client_first}
 use Rattle.fe2o3_scram.proofs.lemmas.texts.CutLemmas.{cut_or, uncut}
+use Rattle.fe2o3_scram.proofs.lemmas.texts.EscapingLemmas.{one_escaped}
+use Rattle.fe2o3_scram.proofs.lemmas.texts.PartsLemmas.{one_behind}
 use Rattle.fe2o3_scram.proofs.lemmas.texts.DecisionLemmas.{Decided, Found, both_or, not_or, same_or, utf8_or}
 use Rattle.fe2o3_sasl_core.specs.LoginAttemptLaws.{ClaimsWhatServersRead, OneClaim, SomeClaim}
-use Rattle.fe2o3_sasl_core.specs.LoginAttempts.{ClaimOf, ClaimsUser, headers_of}
+use Rattle.fe2o3_sasl_core.specs.LoginAttempts.{ClaimOf, ClaimsUser, NamesUser, headers_of}
 use Rattle.fe2o3_sasl_core.specs.PlainServer.{IsTaken, PlainParts, SpellsPlain}
 use Rattle.fe2o3_sasl_core.proofs.lemmas.machines.LoginAttemptLemmas.{not_plain, one_plus, other_claims_none, plain_claims_none, refused, scram_claims_none}
 use Rattle.fe2o3_sasl_core.proofs.lemmas.machines.PlainMessageLemmas.{cut_once, cut_thrice, cut_twice, not_cut, not_taken, not_utf8, one_message}
 
 -- ---- at most one
 
+-- two readers of one message read one user
+one_user : (rules own : ServerRules) (text : List ℕ) (first other : ClientFirst) → NamesClientFirst rules text first
+    → NamesClientFirst own text other → first.user ≡ other.user
+one_user rules own text first other names too =
+    let bare = (one_header first.header other.header text first.bare other.bare names.bare too.bare).1 in
+    one_escaped first.user other.user (one_behind other.bare 0 (codes "n=") (escaped first.user) (escaped other.user)
+    (subst (λ (behind : List ℕ). Part behind 0 (codes "n=" ++ escaped first.user)) bare names.user) too.user)
+
+one_named : (plus : Bool) (text name other : List ℕ) → NamesUser plus text name → NamesUser plus text other
+    → name ≡ other
+one_named plus text name other (accept, first, reads, same) (accept', first', reads', same') =
+    same ∙ (one_user (headers_of plus accept) (headers_of plus accept') text first first'
+    (names_client_first (headers_of plus accept) text first reads)
+    (names_client_first (headers_of plus accept') text first' reads') ∙ sym same')
+
 one_name : (mechanism text name other : List ℕ) → ClaimsUser mechanism text name → ClaimsUser mechanism text other
     → name ≡ other
-one_name mechanism text name other (inl (version, plus, first, is, reads, same))
-    (inl (version', plus', first', is', reads', same')) =
+one_name mechanism text name other (inl (version, plus, is, names)) (inl (version', plus', is', too)) =
     let one = one_plus version version' plus plus' (sym is ∙ is') in
-    let both = subst (λ (p : Bool). ReadsClientFirst (headers_of p) text (Ok first)) one reads in
-    same ∙ (ap (λ (f : ClientFirst). f.user) (one_client_first_value (headers_of plus') text first first' both reads')
-    ∙ sym same')
-one_name mechanism text name other (inl (version, plus, first, is, reads, same)) (inr (plain, more)) =
+    one_named plus' text name other (subst (λ (p : Bool). NamesUser p text name) one names) too
+one_name mechanism text name other (inl (version, plus, is, names)) (inr (plain, more)) =
     absurd (not_plain version plus (sym is ∙ plain))
-one_name mechanism text name other (inr (plain, more)) (inl (version, plus, first, is, reads, same)) =
+one_name mechanism text name other (inr (plain, more)) (inl (version, plus, is, names)) =
     absurd (not_plain version plus (sym is ∙ plain))
 one_name mechanism text name other (inr (plain, (parts, spells, taken, same)))
     (inr (plain', (parts', spells', taken', same'))) =
@@ -142,12 +159,19 @@ taken_message_or text = elim (message_or text) [
 ]
 
 some_scram : (mechanism text : List ℕ) (version : ScramVersion) (plus : Bool) → mechanism_of version plus ≡ mechanism
-    → (answer : Result ClientFirst ServerScramErrorKind) → ReadsClientFirst (headers_of plus) text answer
+    → (answer : Result ClientFirst ServerScramErrorKind) → ReadsClientFirst (headers_of plus false) text answer
+    → (other : Result ClientFirst ServerScramErrorKind) → ReadsClientFirst (headers_of plus true) text other
     → (user : Option (List ℕ)) × ClaimOf mechanism text user
-some_scram mechanism text version plus is (Ok first) reads =
-    (Some first.user, inl (version, plus, first, sym is, reads, refl))
-some_scram mechanism text version plus is (Err why) reads =
-    (None, scram_claims_none mechanism text version plus is (λ first. refused (headers_of plus) text why first reads))
+some_scram mechanism text version plus is (Ok first) reads other too =
+    (Some first.user, inl (version, plus, sym is, (false, first, reads, refl)))
+some_scram mechanism text version plus is (Err why) reads (Ok first) too =
+    (Some first.user, inl (version, plus, sym is, (true, first, too, refl)))
+some_scram mechanism text version plus is (Err why) reads (Err also) too =
+    (None, scram_claims_none mechanism text version plus is none)
+  where
+    none : (name : List ℕ) → ¬ NamesUser plus text name
+    none name (false, first, named, same) = refused (headers_of plus false) text why first reads named
+    none name (true, first, named, same) = refused (headers_of plus true) text also first too named
 
 some_plain : (mechanism text : List ℕ) → ((version : ScramVersion) (plus : Bool) → mechanism_of version plus ≢ mechanism)
     → mechanism ≡ codes "PLAIN" → Found (λ (parts : PlainParts). SpellsPlain parts text × IsTaken parts)
@@ -164,7 +188,9 @@ some_other mechanism text other (inr not) = (None, other_claims_none mechanism t
 
 some_of : (mechanism text : List ℕ) → Found (IsName mechanism) → (user : Option (List ℕ)) × ClaimOf mechanism text user
 some_of mechanism text (inl ((version, plus), is)) =
-    let read = some_client_first (headers_of plus) text in some_scram mechanism text version plus is read.0 read.1
+    let read = some_client_first (headers_of plus false) text in
+    let other = some_client_first (headers_of plus true) text in
+    some_scram mechanism text version plus is read.0 read.1 other.0 other.1
 some_of mechanism text (inr other) =
     some_other mechanism text (λ version plus. other (version, plus)) (same_or mechanism (codes "PLAIN"))
 
@@ -174,35 +200,38 @@ some_claim mechanism text = some_of mechanism text (name_or mechanism)
 -- ---- what a server reads
 
 -- a flag that a server accepts is one of its mechanism
-flag_of_mechanism : (channels : Option ChannelBindings) (accept_y : Bool) (flag : ChannelBindingFlag)
-    → TakesFlag channels accept_y flag → AcceptsFlag (headers_of (is_some channels)) flag
-flag_of_mechanism None accept_y NotSupported takes = tt
-flag_of_mechanism None accept_y ClientSupports takes = tt
-flag_of_mechanism None accept_y (Required kind) takes = takes
-flag_of_mechanism (Some channels) accept_y NotSupported takes = takes
-flag_of_mechanism (Some channels) accept_y ClientSupports takes = takes
-flag_of_mechanism (Some channels) accept_y (Required TlsUnique) takes = (no_data, refl)
-flag_of_mechanism (Some channels) accept_y (Required TlsServerEndPoint) takes = (no_data, refl)
-flag_of_mechanism (Some channels) accept_y (Required TlsExporter) takes = (no_data, refl)
+flag_of_mechanism : (channels : Option ChannelBindings) (accept_y accept : Bool) (flag : ChannelBindingFlag)
+    → TakesFlag channels accept_y flag → AcceptsFlag (headers_of (is_some channels) accept) flag
+flag_of_mechanism None accept_y accept NotSupported takes = tt
+flag_of_mechanism None accept_y accept ClientSupports takes = tt
+flag_of_mechanism None accept_y accept (Required kind) takes = takes
+flag_of_mechanism (Some channels) accept_y accept NotSupported takes = takes
+flag_of_mechanism (Some channels) accept_y accept ClientSupports takes = takes
+flag_of_mechanism (Some channels) accept_y accept (Required TlsUnique) takes = (no_data, refl)
+flag_of_mechanism (Some channels) accept_y accept (Required TlsServerEndPoint) takes = (no_data, refl)
+flag_of_mechanism (Some channels) accept_y accept (Required TlsExporter) takes = (no_data, refl)
 
 -- a claim is read strictly only where each server is strict
-strict_like_servers : (channels : Option ChannelBindings) (strict : Bool)
-    → T (is_strict (headers_of (is_some channels))) → T (is_some channels || strict)
-strict_like_servers None strict is = absurd is
-strict_like_servers (Some channels) strict is = tt
+strict_like_servers : (channels : Option ChannelBindings) (accept strict : Bool)
+    → T (is_strict (headers_of (is_some channels) accept)) → T (is_some channels || (accept || strict))
+strict_like_servers None false strict is = absurd is
+strict_like_servers None true strict is = tt
+strict_like_servers (Some channels) accept strict is = tt
 
 -- what claims are read by is not set to be strict
-not_strict : (plus : Bool) → ¬ T (headers_of plus).strict
-not_strict true strict = strict
-not_strict false strict = strict
+not_strict : (plus accept : Bool) → ¬ T (headers_of plus accept).strict
+not_strict true accept strict = strict
+not_strict false accept strict = strict
 
 read_by_server : (rules : ServerRules) (text : List ℕ) (first : ClientFirst) → ReadsClientFirst rules text (Ok first)
-    → ReadsClientFirst (headers_of (is_some rules.channels)) text (Ok first)
+    → ReadsClientFirst (headers_of (is_some rules.channels) rules.accept_authzid) text (Ok first)
 unfolding ReadsClientFirst
 read_by_server rules text first reads =
     let names = reads.1 in
-    let flag = flag_of_mechanism rules.channels rules.accept_cbind_flag_y first.header.flag names.header.0 in
-    let takes : TakesHeader (headers_of (is_some rules.channels)) first.header = (flag, names.header.1) in (
+    let accept = rules.accept_authzid in
+    let own = headers_of (is_some rules.channels) accept in
+    let flag = flag_of_mechanism rules.channels rules.accept_cbind_flag_y accept first.header.flag names.header.0 in
+    let takes : TakesHeader own first.header = (flag, names.header.1) in (
       (
         reads.0.0,
         (
@@ -212,18 +241,18 @@ read_by_server rules text first reads =
             (
               λ none. none first.nonce (first.header, first.bare, takes, names.bare, names.nonce),
               (
-                λ wrong. not_strict (is_some rules.channels) wrong.0,
+                λ wrong. not_strict (is_some rules.channels) accept wrong.0,
                 (
-                  λ wrong. not_strict (is_some rules.channels) wrong.0,
+                  λ wrong. not_strict (is_some rules.channels) accept wrong.0,
                   (
                     λ wrong. reads.0.1.1.1.1.1.1.0 (
-                      strict_like_servers rules.channels rules.strict wrong.0,
+                      strict_like_servers rules.channels accept rules.strict wrong.0,
                       (
                         first.header,
                         first.bare,
                         names.header,
                         names.bare,
-                        after_nonce (headers_of (is_some rules.channels)) first.header text first.bare names.bare wrong.1,
+                        after_nonce own first.header text first.bare names.bare wrong.1,
                       ),
                     ),
                     tt,
@@ -239,4 +268,9 @@ read_by_server rules text first reads =
 
 pub claims_what_servers_read : ClaimsWhatServersRead
 claims_what_servers_read version rules text first reads =
-    inl (version, is_some rules.channels, first, refl, read_by_server rules text first reads, refl)
+    inl (
+      version,
+      is_some rules.channels,
+      refl,
+      (rules.accept_authzid, first, read_by_server rules text first reads, refl),
+    )

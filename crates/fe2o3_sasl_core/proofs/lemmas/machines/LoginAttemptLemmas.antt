@@ -1,7 +1,7 @@
 -- What an init claims (RFC 5802, section 7; RFC 4616, section 2): the code's answers are claims of the messages.
 use Rattle.std.proofs.Common.{Bool, true, false, not, bytes_eq, nat_lt, arith, refl, sym, ap, subst, inl, inr, ◌∙◌, ◌≡◌, ◌≢◌, ◌⊎◌, ℕ, List, length}
 use Rattle.std.proofs.lemmas.Slice.Eq.{bytes_eq-Decides}
-use Rattle.std.specs.Prelude.{Ok, Err, codes}
+use Rattle.std.specs.Prelude.{Ok, Err, Option, Some, None, MatchOption, codes}
 use Rattle.fe2o3_scram.specs.declared.hmac.ScramVersion.{ScramVersion}
 use Rattle.fe2o3_scram.specs.declared.hmac.ScramVersion.TheVariants as versions
 use Rattle.fe2o3_scram.specs.declared.scram_messages.error.ServerScramErrorKind.{ServerScramErrorKind}
@@ -9,7 +9,7 @@ use Rattle.fe2o3_scram.specs.declared.scram_messages.server_rules.ServerRules.{S
 use Rattle.fe2o3_scram.specs.ChannelBinding.{mechanism_of}
 use Rattle.fe2o3_scram.specs.ClientFirst.{ClientFirst, HasEscapes, ReadsClientFirst}
 use Rattle.fe2o3_scram.proofs.lemmas.messages.ClientFirstLemmas.{one_client_first}
-use Rattle.fe2o3_sasl_core.specs.LoginAttempts.{ClaimAllocates, ClaimsUser, headers_of}
+use Rattle.fe2o3_sasl_core.specs.LoginAttempts.{ClaimAllocates, ClaimOf, ClaimsUser, NamesUser, headers_of}
 use Rattle.fe2o3_sasl_core.specs.PlainServer.{IsTaken, PlainParts, SpellsPlain}
 
 -- a client-first message that is rejected has no values
@@ -48,19 +48,54 @@ one_plus version other plus too same = sym (plus_read version plus) ∙ (ap plus
 
 -- ---- an initial response of SCRAM
 
-pub scram_claims : (mechanism text name : List ℕ) (version : ScramVersion) (plus : Bool) (first : ClientFirst)
-    → mechanism_of version plus ≡ mechanism → ReadsClientFirst (headers_of plus) text (Ok first) → name ≡ first.user
-    → ClaimsUser mechanism text name
-scram_claims mechanism text name version plus first is reads same = inl (version, plus, first, sym is, reads, same)
+-- what either reader of a client-first message reads: one that accepts no identity, and one that does
+abbrev pub ReadBy : Bool → Bool → List ℕ → Option (List ℕ) → Type 0
+ReadBy plus accept text user = MatchOption user
+    ((first : ClientFirst) → ¬ ReadsClientFirst (headers_of plus accept) text (Ok first))
+    (λ name. (first : ClientFirst) × ReadsClientFirst (headers_of plus accept) text (Ok first) × (name ≡ first.user))
+
+-- the first reader reads a name
+pub read_first : (plus : Bool) (text name : List ℕ) → ReadBy plus false text (Some name) → NamesUser plus text name
+read_first plus text name (first, reads, same) = (false, first, reads, same)
+
+-- it reads none, so that the answer is that of the second
+pub read_second : (plus : Bool) (text : List ℕ) (user : Option (List ℕ)) → ReadBy plus false text None
+    → ReadBy plus true text user
+    → MatchOption user ((name : List ℕ) → ¬ NamesUser plus text name) (NamesUser plus text)
+read_second plus text (Some name) none (first, reads, same) = (true, first, reads, same)
+read_second plus text None none neither = no_name
+  where
+    no_name : (name : List ℕ) → ¬ NamesUser plus text name
+    no_name name (false, first, reads, same) = none first reads
+    no_name name (true, first, reads, same) = neither first reads
+
+-- where a reader requests memory
+pub read_allocates : (plus accept : Bool) (text : List ℕ)
+    → HasEscapes (headers_of plus accept) text
+    ⊎ ((first : ClientFirst) × ReadsClientFirst (headers_of plus accept) text (Ok first))
+    → ((accept : Bool) × HasEscapes (headers_of plus accept) text) ⊎ ((name : List ℕ) × NamesUser plus text name)
+read_allocates plus accept text (inl escapes) = inl (accept, escapes)
+read_allocates plus accept text (inr (first, reads)) = inr (first.user, (accept, first, reads, refl))
+
+pub scram_claims : (mechanism text name : List ℕ) (version : ScramVersion) (plus : Bool)
+    → mechanism_of version plus ≡ mechanism → NamesUser plus text name → ClaimsUser mechanism text name
+scram_claims mechanism text name version plus is names = inl (version, plus, sym is, names)
 
 pub scram_claims_none : (mechanism text : List ℕ) (version : ScramVersion) (plus : Bool)
-    → mechanism_of version plus ≡ mechanism
-    → ((first : ClientFirst) → ¬ ReadsClientFirst (headers_of plus) text (Ok first)) → (name : List ℕ)
+    → mechanism_of version plus ≡ mechanism → ((name : List ℕ) → ¬ NamesUser plus text name) → (name : List ℕ)
     → ¬ ClaimsUser mechanism text name
-scram_claims_none mechanism text version plus is none name (inl (other, too, first, same, reads, user)) =
-    none first (subst (λ (p : Bool). ReadsClientFirst (headers_of p) text (Ok first))
-    (sym (one_plus version other plus too (is ∙ same))) reads)
+scram_claims_none mechanism text version plus is none name (inl (other, too, same, names)) =
+    none name (subst (λ (p : Bool). NamesUser p text name) (sym (one_plus version other plus too (is ∙ same))) names)
 scram_claims_none mechanism text version plus is none name (inr (plain, rest)) = not_plain version plus (is ∙ plain)
+
+-- what the message names is what the initial response claims
+pub scram_claim_of : (mechanism text : List ℕ) (version : ScramVersion) (plus : Bool)
+    → mechanism_of version plus ≡ mechanism → (user : Option (List ℕ))
+    → MatchOption user ((name : List ℕ) → ¬ NamesUser plus text name) (NamesUser plus text)
+    → ClaimOf mechanism text user
+scram_claim_of mechanism text version plus is (Some name) names =
+    scram_claims mechanism text name version plus is names
+scram_claim_of mechanism text version plus is None none = scram_claims_none mechanism text version plus is none
 
 -- ---- one of PLAIN
 
@@ -71,7 +106,7 @@ plain_claims mechanism text name parts is spells taken same = inr (is, (parts, s
 pub plain_claims_none : (mechanism text : List ℕ) → ((version : ScramVersion) (plus : Bool) → mechanism_of version plus ≢ mechanism)
     → ((parts : PlainParts) → SpellsPlain parts text → ¬ IsTaken parts) → (name : List ℕ)
     → ¬ ClaimsUser mechanism text name
-plain_claims_none mechanism text other none name (inl (version, plus, first, same, reads, user)) =
+plain_claims_none mechanism text other none name (inl (version, plus, same, names)) =
     other version plus (sym same)
 plain_claims_none mechanism text other none name (inr (plain, (parts, spells, taken, user))) =
     none parts spells taken
@@ -80,7 +115,7 @@ plain_claims_none mechanism text other none name (inr (plain, (parts, spells, ta
 
 pub other_claims_none : (mechanism text : List ℕ) → ((version : ScramVersion) (plus : Bool) → mechanism_of version plus ≢ mechanism)
     → mechanism ≢ codes "PLAIN" → (name : List ℕ) → ¬ ClaimsUser mechanism text name
-other_claims_none mechanism text other none name (inl (version, plus, first, same, reads, user)) =
+other_claims_none mechanism text other none name (inl (version, plus, same, names)) =
     other version plus (sym same)
 other_claims_none mechanism text other none name (inr (plain, rest)) = none plain
 
@@ -88,11 +123,10 @@ other_claims_none mechanism text other none name (inr (plain, rest)) = none plai
 
 pub scram_allocates : (mechanism text : List ℕ) (version : ScramVersion) (plus : Bool)
     → mechanism_of version plus ≡ mechanism
-    → HasEscapes (headers_of plus) text ⊎ ((first : ClientFirst) × ReadsClientFirst (headers_of plus) text (Ok first))
+    → ((accept : Bool) × HasEscapes (headers_of plus accept) text) ⊎ ((name : List ℕ) × NamesUser plus text name)
     → ClaimAllocates mechanism text
 scram_allocates mechanism text version plus is (inl escapes) = inl (version, plus, sym is, escapes)
-scram_allocates mechanism text version plus is (inr (first, reads)) =
-    inr (first.user, inl (version, plus, first, sym is, reads, refl))
+scram_allocates mechanism text version plus is (inr (name, names)) = inr (name, inl (version, plus, sym is, names))
 
 equal_where : (same : Bool) → false ≡ not same → same ≡ true
 equal_where true is = refl

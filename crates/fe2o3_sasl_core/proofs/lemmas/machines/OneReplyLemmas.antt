@@ -9,6 +9,7 @@ use Rattle.fe2o3_scram.specs.declared.scram_messages.error.ScramErrorKind.{Scram
 use Rattle.fe2o3_scram.specs.declared.scram_messages.error.ScramErrorKind.TheVariants.{ServerSignatureMismatch}
 use Rattle.fe2o3_scram.specs.declared.scram_messages.error.ServerScramErrorKind.{ServerScramErrorKind}
 use Rattle.fe2o3_scram.specs.declared.scram_messages.server_rules.ServerRules.{ServerRules}
+use Rattle.fe2o3_scram.specs.ActingRights.{Rights}
 use Rattle.fe2o3_scram.specs.ClientFinal.{Server, ClientFinal, ReadsClientFinal, Answer, answer_of}
 use Rattle.fe2o3_scram.specs.ClientFirst.{ClientFirst, ReadsClientFirst}
 use Rattle.fe2o3_scram.specs.Credentials.{Record, Provider}
@@ -77,38 +78,38 @@ challenge_made state provider nonce text (Err fault) next is = (Err fault, is.0,
 -- the turn to a client-final message that was read against the record of the open challenge
 abbrev final_turn : ServerChallenge → Record → Server → Result ClientFinal ServerScramErrorKind → ServerTurn
 final_turn challenge stored server (Ok final) =
-    (Ok (Some (server_final_of server final)), server_states.ServerFinalSent challenge.user)
+    (Ok (Some (server_final_of server final)), server_states.ServerFinalSent challenge.user challenge.header.acts_for)
 final_turn challenge stored server (Err fault) = (Err fault, server_states.ServerFirstSent challenge stored)
 
-conclusion_made : (challenge : ServerChallenge) (stored : Record) (version : ScramVersion) (rules : ServerRules) (text : List ℕ)
+conclusion_made : (challenge : ServerChallenge) (stored : Record) (version : ScramVersion) (rules : ServerRules) (rights : Rights) (text : List ℕ)
     (answer : Result (Option (List ℕ)) ServerScramErrorKind) (next : ServerState)
-    → ConcludesFrom (server_states.ServerFirstSent challenge stored) version rules text answer next
-    → let server = server_against version rules challenge stored in
+    → ConcludesFrom (server_states.ServerFirstSent challenge stored) version rules rights text answer next
+    → let server = server_against version rules rights challenge stored in
     MadeOf (ReadsClientFinal server text) (final_turn challenge stored server) (answer, next)
-conclusion_made challenge stored version rules text (Ok None) next is = absurd is
-conclusion_made challenge stored version rules text (Ok (Some message)) next is =
+conclusion_made challenge stored version rules rights text (Ok None) next is = absurd is
+conclusion_made challenge stored version rules rights text (Ok (Some message)) next is =
     let said = is.0.2 in
     let after = is.1 in
     (Ok is.0.0, is.0.1, λ i. (Ok (Some (said i)), after i))
-conclusion_made challenge stored version rules text (Err fault) next is =
+conclusion_made challenge stored version rules rights text (Err fault) next is =
     let after = is.1 in (Err fault, is.0, λ i. (Err fault, after i))
 
-pub one_conclusion : (state : ServerState) (version : ScramVersion) (rules : ServerRules) (text : List ℕ)
+pub one_conclusion : (state : ServerState) (version : ScramVersion) (rules : ServerRules) (rights : Rights) (text : List ℕ)
     (answer other : Result (Option (List ℕ)) ServerScramErrorKind) (next last : ServerState)
-    → ConcludesFrom state version rules text answer next → ConcludesFrom state version rules text other last
+    → ConcludesFrom state version rules rights text answer next → ConcludesFrom state version rules rights text other last
     → ◌≡◌ {A = ServerTurn} (answer, next) (other, last)
-one_conclusion (server_states.ServerFirstSent challenge stored) version rules text answer other next last is too =
-    let server = server_against version rules challenge stored in
+one_conclusion (server_states.ServerFirstSent challenge stored) version rules rights text answer other next last is too =
+    let server = server_against version rules rights challenge stored in
     one_made (ReadsClientFinal server text) (final_turn challenge stored server) (answer, next) (other, last)
-    (one_client_final server text) (conclusion_made challenge stored version rules text answer next is)
-    (conclusion_made challenge stored version rules text other last too)
-one_conclusion server_states.Initial version rules text (Ok message) other next last is too = absurd is
-one_conclusion server_states.Initial version rules text (Err fault) (Ok message) next last is too = absurd too
-one_conclusion server_states.Initial version rules text (Err fault) (Err kind) next last is too =
+    (one_client_final server text) (conclusion_made challenge stored version rules rights text answer next is)
+    (conclusion_made challenge stored version rules rights text other last too)
+one_conclusion server_states.Initial version rules rights text (Ok message) other next last is too = absurd is
+one_conclusion server_states.Initial version rules rights text (Err fault) (Ok message) next last is too = absurd too
+one_conclusion server_states.Initial version rules rights text (Err fault) (Err kind) next last is too =
     λ i. (Err ((is.0 ∙ sym too.0) i), (is.1 ∙ sym too.1) i)
-one_conclusion (server_states.ServerFinalSent user) version rules text (Ok message) other next last is too = absurd is
-one_conclusion (server_states.ServerFinalSent user) version rules text (Err fault) (Ok message) next last is too = absurd too
-one_conclusion (server_states.ServerFinalSent user) version rules text (Err fault) (Err kind) next last is too =
+one_conclusion (server_states.ServerFinalSent user acts_for) version rules rights text (Ok message) other next last is too = absurd is
+one_conclusion (server_states.ServerFinalSent user acts_for) version rules rights text (Err fault) (Ok message) next last is too = absurd too
+one_conclusion (server_states.ServerFinalSent user acts_for) version rules rights text (Err fault) (Err kind) next last is too =
     λ i. (Err ((is.0 ∙ sym too.0) i), (is.1 ∙ sym too.1) i)
 
 -- ---- an acceptor
@@ -149,7 +150,7 @@ one_acceptor_reply (ScramAcceptor provider state) nonce (frames.Response text) r
     let turn : ServerTurn = (is.0, is.1) in
     let again : ServerTurn = (too.0, too.1) in
     turn_taken provider (λ message. frames.Outcome outcomes.Ok (Some message)) turn again reply other next last
-    (one_conclusion state provider.version provider.rules text is.0 too.0 is.1 too.1 is.2 too.2) is.3 is.4 too.3 too.4
+    (one_conclusion state provider.version provider.rules provider.rights text is.0 too.0 is.1 too.1 is.2 too.2) is.3 is.4 too.3 too.4
 one_acceptor_reply (PlainAcceptor user password accepted) nonce (frames.Init mechanism (Some text) hostname) reply other
     next last (inl is) (inl too) = (is.1 ∙ sym too.1, is.2 ∙ sym too.2)
 one_acceptor_reply (PlainAcceptor user password accepted) nonce (frames.Init mechanism (Some text) hostname) reply other

@@ -11,6 +11,7 @@ use Rattle.fe2o3_scram.specs.declared.scram_messages.error.ScramErrorKind.{Scram
 use Rattle.fe2o3_scram.specs.declared.client_secret.IterationLimits.{IterationLimits}
 use Rattle.fe2o3_scram.specs.declared.hmac.ScramVersion.{ScramVersion}
 use Rattle.fe2o3_scram.specs.declared.scram_messages.server_rules.ServerRules.{ServerRules}
+use Rattle.fe2o3_scram.specs.ActingRights.{Rights}
 use Rattle.fe2o3_scram.specs.ClientFinal.{Server}
 use Rattle.fe2o3_scram.specs.ClientFirst.{ClientFirst, ReadsClientFirst}
 use Rattle.fe2o3_scram.specs.ChannelBinding.{server_mechanism}
@@ -45,13 +46,13 @@ some_final server text (Err AuthenticationFailed) = (1, omega (arith), refl)
 some_final server text (Err NoMemory) = (0, omega (arith), (omega (arith), omega (arith), λ fault reads. refl))
 some_final server text (Err fault) = (0, omega (arith), refl)
 
-some_takes : (state : ServerState) (version : ScramVersion) (rules : ServerRules) (text : List ℕ)
+some_takes : (state : ServerState) (version : ScramVersion) (rules : ServerRules) (rights : Rights) (text : List ℕ)
     (answer : Result (Option (List ℕ)) ServerScramErrorKind)
-    → (n : ℕ) × (n ≤ 2) × FinalCostsFrom state version rules text answer 0 n
-some_takes (server_states.ServerFirstSent challenge stored) version rules text answer =
-    some_final (server_against version rules challenge stored) text answer
-some_takes server_states.Initial version rules text answer = (0, omega (arith), refl)
-some_takes (server_states.ServerFinalSent user) version rules text answer = (0, omega (arith), refl)
+    → (n : ℕ) × (n ≤ 2) × FinalCostsFrom state version rules rights text answer 0 n
+some_takes (server_states.ServerFirstSent challenge stored) version rules rights text answer =
+    some_final (server_against version rules rights challenge stored) text answer
+some_takes server_states.Initial version rules rights text answer = (0, omega (arith), refl)
+some_takes (server_states.ServerFinalSent user acts_for) version rules rights text answer = (0, omega (arith), refl)
 
 -- an init takes those of a look-up at most
 init_costs : (provider : Provider) (state : ServerState) (mechanism text : List ℕ) (hostname : Option (List ℕ))
@@ -78,8 +79,8 @@ server_costs : (provider : Provider) (state : ServerState) (spelled : Result Sas
     → AcceptorCostsOf acceptor_hmacs (ScramAcceptor provider state) spelled before after
     → (before ≤ after) × (after ≤ before + server_most provider spelled)
 server_costs provider state (Ok (frames.Response text)) before after costs =
-    let answer = some_conclusion state provider.version provider.rules text in
-    let takes = some_takes state provider.version provider.rules text answer.0 in
+    let answer = some_conclusion state provider.version provider.rules provider.rights text in
+    let takes = some_takes state provider.version provider.rules provider.rights text answer.0 in
     let most = costs.1 takes.0 (answer.0, answer.1, answer.2, takes.2) in
     let two = takes.1 in
     (costs.0, omega (arith, most, two))

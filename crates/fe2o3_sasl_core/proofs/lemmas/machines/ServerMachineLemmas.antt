@@ -141,7 +141,8 @@ challenge_step provider held event frame c (Some body) says state moved next sho
 -- an Ok that is sent, or too large
 ok_step : (provider : Provider) (held : Option Challenging) (event : Given) (frame : SaslFrame) (p : Accepted)
     (body : Option (List ℕ)) (says : ServerSays) (state moved next : ServerState) → Shown held state
-    → FitsAsResponse provider (λ c. held ≡ Some c) frame p → moved ≡ ServerFinalSent p.challenge.client.user
+    → FitsAsResponse provider (λ c. held ≡ Some c) frame p
+    → moved ≡ ServerFinalSent p.challenge.client.user p.challenge.client.header.acts_for
     → SendsCanonical (Failed faults.TooLarge) (λ b. Concluded outcomes.Ok b) body state moved says next
     → ServerAnswers provider (λ c. held ≡ Some c) event (Ok frame) says
     → Stepped provider held event (Ok frame) says state next
@@ -199,7 +200,7 @@ init_step provider held event mechanism text hostname says state moved next repl
 response_step : (provider : Provider) (c : Challenging) (event : Given) (text : List ℕ) (says : ServerSays)
     (moved next : ServerState) (reply : SaslFrame) (answer : Result (Option (List ℕ)) ServerScramErrorKind)
     → ConcludesFrom (ServerFirstSent (challenge_of c.client c.nonce c.stored) c.stored) provider.version provider.rules
-    text answer moved
+    provider.rights text answer moved
     → reply ≡ server_frame (λ message. frames.Outcome outcomes.Ok (Some message)) answer
     → SendsCanonical (Failed faults.TooLarge) (server_says reply) (canonical reply)
     (ServerFirstSent (challenge_of c.client c.nonce c.stored) c.stored) moved says next
@@ -235,7 +236,7 @@ response_step provider c event text says moved next reply (Err fault) from r h =
 -- without an open challenge
 closed_step : (provider : Provider) (event : Given) (text : List ℕ) (says : ServerSays) (state moved next : ServerState)
     (reply : SaslFrame) (answer : Result (Option (List ℕ)) ServerScramErrorKind)
-    → Shown None state → ConcludesFrom state provider.version provider.rules text answer moved
+    → Shown None state → ConcludesFrom state provider.version provider.rules provider.rights text answer moved
     → reply ≡ server_frame (λ message. frames.Outcome outcomes.Ok (Some message)) answer
     → SendsCanonical (Failed faults.TooLarge) (server_says reply) (canonical reply) state moved says next
     → Stepped provider None event (Ok (frames.Response text)) says state next
@@ -245,9 +246,9 @@ closed_step provider event text says Initial moved next reply (Ok message) shown
 closed_step provider event text says Initial moved next reply (Err fault) shown from r h =
     auth_response provider None event text says Initial moved next reply shown
     (λ p fits. none-some p.challenge fits.0) r from.1 h
-closed_step provider event text says (ServerFinalSent user) moved next reply (Ok message) shown from r h = absurd from
-closed_step provider event text says (ServerFinalSent user) moved next reply (Err fault) shown from r h =
-    auth_response provider None event text says (ServerFinalSent user) moved next reply shown
+closed_step provider event text says (ServerFinalSent user acts_for) moved next reply (Ok message) shown from r h = absurd from
+closed_step provider event text says (ServerFinalSent user acts_for) moved next reply (Err fault) shown from r h =
+    auth_response provider None event text says (ServerFinalSent user acts_for) moved next reply shown
     (λ p fits. none-some p.challenge fits.0) r from.1 h
 
 -- ---- one step
@@ -264,7 +265,7 @@ machine provider state nonce (frames.Init mechanism None hostname) reply next =
     (reply ≡ ends_with outcomes.Auth) × (next ≡ state)
 machine provider state nonce (frames.Response text) reply next =
     (answer : Result (Option (List ℕ)) ServerScramErrorKind)
-    × ConcludesFrom state provider.version provider.rules text answer next
+    × ConcludesFrom state provider.version provider.rules provider.rights text answer next
     × (reply ≡ server_frame (λ message. frames.Outcome outcomes.Ok (Some message)) answer)
 machine provider state nonce frame reply next = ⊥
 
@@ -292,7 +293,7 @@ gives_response provider None event text says state moved next reply shown m h =
 gives_response provider (Some c) event text says state moved next reply shown m h =
     subst (λ (s : ServerState). Stepped provider (Some c) event (Ok (frames.Response text)) says s next) (sym shown)
     (response_step provider c event text says moved next reply m.0
-    (subst (λ (s : ServerState). ConcludesFrom s provider.version provider.rules text m.0 moved) shown m.1) m.2
+    (subst (λ (s : ServerState). ConcludesFrom s provider.version provider.rules provider.rights text m.0 moved) shown m.1) m.2
     (subst (λ (s : ServerState). SendsCanonical (Failed faults.TooLarge) (server_says reply)
     (canonical reply) s moved says next) shown h))
 

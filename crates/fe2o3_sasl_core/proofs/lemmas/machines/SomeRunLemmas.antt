@@ -10,6 +10,7 @@ use Rattle.fe2o3_sasl_wire.specs.declared.amqp_types.SaslCode.TheVariants as out
 use Rattle.fe2o3_sasl_wire.specs.declared.sasl_frames.error.Error.{Error}
 use Rattle.fe2o3_sasl_wire.specs.declared.sasl_frames.error.Error.TheVariants as faults
 use Rattle.fe2o3_sasl_wire.proofs.lemmas.frames.LawLemmas.{bodies_have_one_answer}
+use Rattle.fe2o3_scram.specs.ActingRights.{Rights}
 use Rattle.fe2o3_scram.specs.ChannelBinding.{server_mechanism}
 use Rattle.fe2o3_scram.specs.ClientFinal.{ClientFinal, ReadsClientFinal, answer_of}
 use Rattle.fe2o3_scram.specs.ClientFirst.{ClientFirst, ReadsClientFirst}
@@ -85,25 +86,26 @@ some_challenge state provider nonce text = let read = some_client_first provider
     go (Err fault) reads = (Err fault, state, (reads, refl))
 
 -- an answer to a client-final message
-pub some_conclusion : (state : ServerState) (version : ScramVersion) (rules : ServerRules) (text : List ℕ)
+pub some_conclusion : (state : ServerState) (version : ScramVersion) (rules : ServerRules) (rights : Rights)
+    (text : List ℕ)
     → (answer : Result (Option (List ℕ)) ServerScramErrorKind) × (after : ServerState)
-    × ConcludesFrom state version rules text answer after
-some_conclusion Initial version rules text = (Err IllegalAuthenticatorState, Initial, (refl, refl))
-some_conclusion (ServerFinalSent user) version rules text =
-    (Err IllegalAuthenticatorState, ServerFinalSent user, (refl, refl))
-some_conclusion (ServerFirstSent challenge stored) version rules text = read answer.0 answer.1
+    × ConcludesFrom state version rules rights text answer after
+some_conclusion Initial version rules rights text = (Err IllegalAuthenticatorState, Initial, (refl, refl))
+some_conclusion (ServerFinalSent user acts_for) version rules rights text =
+    (Err IllegalAuthenticatorState, ServerFinalSent user acts_for, (refl, refl))
+some_conclusion (ServerFirstSent challenge stored) version rules rights text = read answer.0 answer.1
   where
     answer : (read : Result ClientFinal ServerScramErrorKind)
-        × ReadsClientFinal (server_against version rules challenge stored) text read
-    answer = some_client_final (server_against version rules challenge stored) text
+        × ReadsClientFinal (server_against version rules rights challenge stored) text read
+    answer = some_client_final (server_against version rules rights challenge stored) text
 
     read : (read : Result ClientFinal ServerScramErrorKind)
-        → ReadsClientFinal (server_against version rules challenge stored) text read
+        → ReadsClientFinal (server_against version rules rights challenge stored) text read
         → (answer : Result (Option (List ℕ)) ServerScramErrorKind) × (after : ServerState)
-        × ConcludesFrom (ServerFirstSent challenge stored) version rules text answer after
+        × ConcludesFrom (ServerFirstSent challenge stored) version rules rights text answer after
     read (Ok final) reads = (
-      Ok (Some (server_final_of (server_against version rules challenge stored) final)),
-      ServerFinalSent challenge.user,
+      Ok (Some (server_final_of (server_against version rules rights challenge stored) final)),
+      ServerFinalSent challenge.user challenge.header.acts_for,
       ((final, reads, refl), refl),
     )
     read (Err fault) reads = (Err fault, ServerFirstSent challenge stored, (reads, refl))
@@ -166,7 +168,7 @@ some_given provider state event (Ok (frames.Init mechanism response hostname)) r
     let reply = some_sent provider state answer.1 answer.0 (canonical answer.0) in
     (reply.0, reply.1, inr (answer.0, ScramAcceptor provider answer.1, answer.2, reply.2), reply.3)
 some_given provider state event (Ok (frames.Response text)) readable =
-    let answer = some_conclusion state provider.version provider.rules text in
+    let answer = some_conclusion state provider.version provider.rules provider.rights text in
     let frame = server_frame (λ message. frames.Outcome outcomes.Ok (Some message)) answer.0 in
     let reply = some_sent provider state answer.1 frame (canonical frame) in (
       reply.0,

@@ -7,6 +7,7 @@ use Rattle.fe2o3_sasl_wire.specs.SaslFrames.{SaslFrame}
 use Rattle.fe2o3_scram.specs.declared.scram_messages.server_rules.ServerRules.{ServerRules}
 use Rattle.fe2o3_scram.specs.declared.hmac.ScramVersion.{ScramVersion}
 use Rattle.fe2o3_scram.specs.declared.hmac.ScramVersion.TheVariants.{Sha1, Sha256, Sha512}
+use Rattle.fe2o3_scram.specs.ActingRights.{Rights}
 use Rattle.fe2o3_scram.specs.ClientFinal.{ReadsClientFinal, recovered_key}
 use Rattle.fe2o3_scram.specs.Credentials.{Record, Provider, Store}
 use Rattle.fe2o3_scram.specs.Hmac.{digest, mechanism_name}
@@ -22,14 +23,16 @@ use Rattle.fe2o3_sasl_core.specs.ServerHistory.{Accepted, Challenging, FitsAsIni
 use Rattle.fe2o3_sasl_core.specs.UnknownUsers.{GivesAlike, GivesReplies, SaltTextsDiffer, UnknownCostsAsMock, UnknownIsMock, UnknownIsMockInBoth, MockRecordIsMet, mock_server, with_mock, without_user}
 
 -- both servers are one: each name has one record at both
-one_server : (rules : ServerRules) (mock : MockSettings) (store : Store) (name : List ℕ) (state : ServerState)
-    → mock_server rules mock (without_user store name) state
-    ≡ mock_server rules mock (with_mock store mock name) state
-one_server rules mock store name state = λ i. ScramAcceptor (record {
+one_server : (rules : ServerRules) (rights : Rights) (mock : MockSettings) (store : Store) (name : List ℕ)
+    (state : ServerState)
+    → mock_server rules rights mock (without_user store name) state
+    ≡ mock_server rules rights mock (with_mock store mock name) state
+one_server rules rights mock store name state = λ i. ScramAcceptor (record {
   version = store.version;
   records = λ user. mock_alike mock store.records name user i;
   look_up_cost = 3;
   rules = rules;
+  rights = rights;
 }) state
 
 -- one state gives one list of replies
@@ -40,21 +43,21 @@ one_gives {S} machine state other same events replies = (
 )
 
 pub unknown_is_mock : UnknownIsMock
-unknown_is_mock rules mock store name state =
-    one_gives acceptor_machine (mock_server rules mock (without_user store name) state)
-    (mock_server rules mock (with_mock store mock name) state) (one_server rules mock store name state)
+unknown_is_mock rules rights mock store name state =
+    one_gives acceptor_machine (mock_server rules rights mock (without_user store name) state)
+    (mock_server rules rights mock (with_mock store mock name) state) (one_server rules rights mock store name state)
 
 pub unknown_costs_as_mock : UnknownCostsAsMock
-unknown_costs_as_mock rules mock store name state frame n =
-    let same = one_server rules mock store name state in (
+unknown_costs_as_mock rules rights mock store name state frame n =
+    let same = one_server rules rights mock store name state in (
       subst (λ (at : Acceptor). acceptor_hmacs at frame n) same,
       subst (λ (at : Acceptor). acceptor_hmacs at frame n) (sym same),
     )
 
 pub unknown_is_mock_in_both : UnknownIsMockInBoth
-unknown_is_mock_in_both rules other_rules mock other_mock store other name state other_state asked =
-    let first = one_server rules mock store name state in
-    let second = one_server other_rules other_mock other name other_state in
+unknown_is_mock_in_both rules other_rules rights other_rights mock other_mock store other name state other_state asked =
+    let first = one_server rules rights mock store name state in
+    let second = one_server other_rules other_rights other_mock other name other_state in
     one_gives (any_mechanism_machine acceptor_names acceptor_names acceptor_machine acceptor_machine) _ _
     (λ i. record { first = first i; second = second i; selected = asked })
 
@@ -85,7 +88,7 @@ meets_stored : (provider : Provider) (IsOpen : Challenging → Type 0) (frame : 
     × (digest provider.version (recovered_key (server_at provider accepted.challenge) accepted.final)
     ≡ accepted.challenge.stored.stored_key)
 unfolding ReadsClientFinal
-meets_stored provider IsOpen (frames.Response text) accepted (opened, reads) = (opened, reads.2)
+meets_stored provider IsOpen (frames.Response text) accepted (opened, reads) = (opened, reads.2.0)
 meets_stored provider IsOpen (frames.Init mechanism response hostname) accepted fits = absurd fits
 meets_stored provider IsOpen (frames.Mechanisms list) accepted fits = absurd fits
 meets_stored provider IsOpen (frames.Challenge text) accepted fits = absurd fits

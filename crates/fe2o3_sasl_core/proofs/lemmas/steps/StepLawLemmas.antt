@@ -81,19 +81,22 @@ init_is_no_ok provider state nonce mechanism (Some text) hostname reply moved ne
 response_logs_in : (provider : Provider) (state after : ServerState) (event : Given) (text : List ℕ)
     (answer : Result (Option (List ℕ)) ServerScramErrorKind) (reply : SaslFrame) (moved next : Acceptor)
     (body : List ℕ) → SpellsBody event.body (Ok (frames.Response text))
-    → ConcludesFrom state provider.version provider.rules text answer after
+    → ConcludesFrom state provider.version provider.rules provider.rights text answer after
     → reply ≡ server_frame (λ message. frames.Outcome outcomes.Ok (Some message)) answer
     → moved ≡ ScramAcceptor provider after → SendsOk reply (ScramAcceptor provider state) moved body next
-    → (user : List ℕ) × BodyLogsIn provider.version provider.rules state event.body user
-    × (next ≡ ScramAcceptor provider (ServerFinalSent user))
+    → (user : List ℕ) × (acts_for : Option (List ℕ))
+    × BodyLogsIn provider.version provider.rules provider.rights state event.body user acts_for
+    × (next ≡ ScramAcceptor provider (ServerFinalSent user acts_for))
 response_logs_in provider state after event text (Ok (Some message)) reply moved next body spells from is to said =
     let sent = subst (λ (f : SaslFrame). SendsOk f (ScramAcceptor provider state) moved body next) is said in
-    let logs = accepted_texts_log_in state after provider.version provider.rules text (Some message) from in (
+    let logs = accepted_texts_log_in state after provider.version provider.rules provider.rights text (Some message) from
+    in (
       logs.0,
-      (text, spells, logs.1),
+      logs.1,
+      (text, spells, logs.2),
       sent_moves (canonical (frames.Outcome outcomes.Ok (Some message))) outcomes.Ok body
           (ScramAcceptor provider state) moved next sent
-          ∙ (to ∙ ap (λ (s : ServerState). ScramAcceptor provider s) logs.2),
+          ∙ (to ∙ ap (λ (s : ServerState). ScramAcceptor provider s) logs.3),
     )
 response_logs_in provider state after event text (Ok None) reply moved next body spells from is to said =
     absurd (auth_is_no_ok reply (ScramAcceptor provider state) moved next body is said)

@@ -70,7 +70,7 @@ accepts_open provider events replies n accepted is =
 -- a response as the server accepts it
 pub is_accepted : (provider : Provider) (events : List Given) (replies : List ServerSays) (n : ℕ) (accepted : Accepted)
     → AcceptsAt provider events replies n accepted → let challenge = accepted.challenge in
-    ServerHas provider.version provider.rules challenge.client challenge.nonce challenge.stored accepted.final
+    ServerHas provider.version provider.rules provider.rights challenge.client challenge.nonce challenge.stored accepted.final
 is_accepted provider events replies n accepted is =
     let fits = fits_open provider (Open provider events replies n) is.1 accepted is.4 in
     let at = fits.0.2 in

@@ -89,7 +89,7 @@ one_pair R i j is only = record {
 module _ (sides : Sides) (password salt : List ℕ) (count : ℕ) (run : UnalteredRun sides) (histories : Histories sides)
     (login : IsLogin sides.login) (holds : HoldsLogin sides password salt count) (fits : Suffices sides) where
   abbrev exchange : Exchange
-  exchange = exchange_of sides.login sides.provider.rules password salt count run.offer.nonce run.init.nonce
+  exchange = exchange_of sides.login sides.provider.rules sides.provider.rights password salt count run.offer.nonce run.init.nonce
 
   abbrev final_sent : List ℕ
   final_sent = final_message sides.provider (accepted_in exchange)

@@ -12,6 +12,7 @@ use Rattle.fe2o3_sasl_wire.specs.SaslFrames.{canonical, SaslFrame}
 use Rattle.fe2o3_sasl_wire.specs.SaslFrames as frames
 use Rattle.fe2o3_scram.specs.declared.hmac.ScramVersion.{ScramVersion}
 use Rattle.fe2o3_scram.specs.declared.scram_messages.server_rules.ServerRules.{ServerRules}
+use Rattle.fe2o3_scram.specs.ActingRights.{Rights, may_act}
 use Rattle.fe2o3_scram.specs.Texts.{base64_text}
 use Rattle.fe2o3_scram.specs.declared.channel_binding.ChannelBindings.{ChannelBindings}
 use Rattle.fe2o3_scram.specs.declared.scram_messages.client_channel.ClientChannel.{ClientChannel}
@@ -41,12 +42,13 @@ use Rattle.fe2o3_sasl_core.proofs.lemmas.unaltered.UnalteredReplyLemmas.{none_ma
 -- ---- the exchange of a login
 
 -- a login with the password, the salt and the count of a record, and with the nonces of both sides
-abbrev pub exchange_of : Login → ServerRules → List ℕ → List ℕ → ℕ → List ℕ → List ℕ → Exchange
-exchange_of login rules password salt count mine theirs =
+abbrev pub exchange_of : Login → ServerRules → Rights → List ℕ → List ℕ → ℕ → List ℕ → List ℕ → Exchange
+exchange_of login rules rights password salt count mine theirs =
     record {
       version = login.version;
       header = login_header login;
       rules = rules;
+      rights = rights;
       user = login.user;
       secret = login.secret;
       limits = login.limits;
@@ -85,9 +87,10 @@ one_mechanism sides password salt count holds =
 
 pub sound_exchange : (sides : Sides) (password salt : List ℕ) (count : ℕ) (mine theirs : List ℕ) → IsLogin sides.login
     → HoldsLogin sides password salt count → ArePrintable sides mine theirs → IsSound
-    (exchange_of sides.login sides.provider.rules password salt count mine theirs)
+    (exchange_of sides.login sides.provider.rules sides.provider.rights password salt count mine theirs)
 sound_exchange sides password salt count mine theirs is holds printable = record {
   header = holds.header;
+  right = holds.identity;
   channel = let expected = expected_flag sides.provider.rules.channels (flag_of sides.login.channel) in
       λ i. header_text (record { flag = expected i; acts_for = sides.login.acts_for }) ++ sym holds.channel i;
   bytes = is.channel;
@@ -145,7 +148,7 @@ module _ (sides : Sides) (password salt : List ℕ) (count : ℕ) (offer init : 
     (login : IsLogin sides.login) (holds : HoldsLogin sides password salt count) (fits : Suffices sides)
     (printable : ArePrintable sides offer.nonce init.nonce) where
   abbrev pub exchange : Exchange
-  exchange = exchange_of sides.login sides.provider.rules password salt count offer.nonce init.nonce
+  exchange = exchange_of sides.login sides.provider.rules sides.provider.rights password salt count offer.nonce init.nonce
 
   abbrev pub final_sent : List ℕ
   final_sent = final_message sides.provider (accepted_in exchange)
@@ -275,6 +278,10 @@ module _ (sides : Sides) (password salt : List ℕ) (count : ℕ) (offer init : 
       same_frame : (frame other : SaslFrame) → ◌≡◌ {A = Result SaslFrame Error} (Ok frame) (Ok other) → frame ≡ other
       same_frame frame other e = cc
 
+  -- whether the user may act for the identity of the header
+  abbrev is_allowed : Bool
+  is_allowed = may_act exchange.rights exchange.user exchange.header.acts_for
+
   -- the header that the server expects
   abbrev expected : ClientHeader
   expected = expected_header exchange.rules.channels (header_of exchange.header)
@@ -286,7 +293,7 @@ module _ (sides : Sides) (password salt : List ℕ) (count : ℕ) (offer init : 
     is_open has,
     subst (λ (version : ScramVersion). ReadsClientFinal
         (server_of version expected (is_strict exchange.rules) (bare_in exchange) (first_in exchange)
-        (nonce_in exchange) (record_in exchange)) (answer_in exchange).message (Ok (final_in exchange))) (sym holds.version) meets.client_final,
+        (nonce_in exchange) (record_in exchange) is_allowed) (answer_in exchange).message (Ok (final_in exchange))) (sym holds.version) meets.client_final,
   )
 
   pub accepts : (response : Given) (body : List ℕ) → HasChallenged → HasResponse response
@@ -335,7 +342,7 @@ module _ (sides : Sides) (password salt : List ℕ) (count : ℕ) (offer init : 
   verifier_read : ReadsServerFinal (is_strict_login sides.login) (answer_in exchange).signature final_sent (Ok tt)
   verifier_read = subst (λ (version : ScramVersion). ReadsServerFinal (is_strict_login sides.login) (answer_in exchange).signature
       (server_final_of (server_of version expected (is_strict exchange.rules) (bare_in exchange) (first_in exchange)
-      (nonce_in exchange) (record_in exchange)) (final_in exchange)) (Ok tt)) (sym holds.version) meets.server_final
+      (nonce_in exchange) (record_in exchange) is_allowed) (final_in exchange)) (Ok tt)) (sym holds.version) meets.server_final
 
   pub reports : (challenge outcome : Given) → HasStarted → HasAnswered challenge → HasOutcome outcome
       → slice_get sides.client_replies 2 ≡ Some (Reported outcomes.Ok (Some final_sent))

@@ -1,5 +1,5 @@
 use Rattle.std.proofs.Common.{◌≡◌, ◌∙◌, ap, map}
-use Rattle.fe2o3_scram.specs.Credentials.{serving}
+use Rattle.fe2o3_scram.specs.Credentials.{serving, with_rights}
 use Rattle.fe2o3_scram.specs.MockSettings.{mocking}
 use Rattle.fe2o3_scram.specs.ScramServer.{served_by}
 use Rattle.fe2o3_sasl_core.specs.Runs.{given, server_answer}
@@ -16,9 +16,10 @@ returns-clause-history g c =
     c.in_ok-provider.ensures.cases in
     let made : served_by m.meaning c.with_rules-authenticator.result
     ≡ serving c.args.rules (m.meaning c.args.credentials.now) =
-    λ i. mocking ((c.with_rules-authenticator.ensures.mock ∙ c.new.ensures.mock) i)
+    λ i. with_rights ((c.with_rules-authenticator.ensures.rights ∙ c.new.ensures.rights) i)
+    (mocking ((c.with_rules-authenticator.ensures.mock ∙ c.new.ensures.mock) i)
     (serving (c.with_rules-authenticator.ensures.rules i)
-    ((ap m.meaning (c.with_rules-authenticator.ensures.provider ∙ c.new.ensures.provider) ∙ kept) i)) in
+    ((ap m.meaning (c.with_rules-authenticator.ensures.provider ∙ c.new.ensures.provider) ∙ kept) i))) in
     let begun = c.with_rules-authenticator.ensures.state ∙ c.new.ensures.state in
     if_ok_map _ _ c.run_acceptor.result (λ replies run. server_run_is_history
     (serving c.args.rules (m.meaning c.args.credentials.now)) _ _

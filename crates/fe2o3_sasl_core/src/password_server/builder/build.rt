@@ -8,7 +8,7 @@ ghost use Rattle.fe2o3_sasl_core.specs.AnyMechanism.{both_names};
 ghost use Rattle.fe2o3_sasl_core.specs.AnyMechanismSides.{both_states};
 ghost use Rattle.fe2o3_sasl_core.specs.RestrictMechanisms.{offering_names, offering_of};
 ghost use Rattle.fe2o3_scram.specs.Mixed.{is_version};
-ghost use Rattle.fe2o3_scram.specs.ScramServer.{Initial, served_by};
+ghost use Rattle.fe2o3_scram.specs.ScramServer.{Initial, mock_in, provider_in, rights_in, rules_in, served_by, state_in};
 ghost use Rattle.fe2o3_sasl_core.specs.SaslAcceptor.{ScramAcceptor};
 ghost use Rattle.fe2o3_sasl_core.specs.declared.password_server.builder.BuildError.TheVariants.{NoMechanism as BuildNoMechanism, SaltTooLong as BuildSaltTooLong};
 
@@ -38,7 +38,9 @@ impl RestoredState<'_> {
             RestoredState::Challenge { challenge, stored } => {
                 scram.restore_challenge(alloc, challenge, stored)
             }
-            RestoredState::Authenticated(user) => scram.restore_authenticated(alloc, user),
+            RestoredState::Authenticated { user, acts_for } => {
+                scram.restore_authenticated(alloc, user, acts_for)
+            }
         }
     }
 }
@@ -249,13 +251,28 @@ impl PasswordServerBuilder<'_> {
         ensures err { IfErr result (λ error. (error ≡ BuildNoMechanism → ⊥)
             × (error ≡ BuildSaltTooLong → HasLongSalts (settings_of self.now))) }
     {
-        let scram = ScramAuthenticator::new(self.store(version)?);
-        let scram = scram.with_rules(self.scram_rules(plus));
+        let scram = self.without_mock(plus, version)?;
         match &self.mock {
             Some(mock) => {
                 let secret = mock.secret.to_vec(alloc)?;
                 Ok(scram.mock_unknown_users(secret, mock.salt_len, mock.iterations)?)
             }
+            None => Ok(scram),
+        }
+    }
+
+    /// Returns the server of SCRAM by this hash, without an open challenge and without mock authentication.
+    fn without_mock(&self, plus: bool, version: ScramVersion) -> Result<Scram, OutOfMemory>
+        ensures provider { IfOk result (λ scram. provider_in scram ≡ provider_for version (settings_of self.now).records) }
+        ensures rules { IfOk result (λ scram. rules_in scram ≡ scram_rules plus (settings_of self.now).rules) }
+        ensures rights { IfOk result (λ scram. rights_in scram ≡ (settings_of self.now).rights) }
+        ensures mock { IfOk result (λ scram. mock_in scram ≡ None) }
+        ensures state { IfOk result (λ scram. state_in scram ≡ Initial) }
+    {
+        let scram = ScramAuthenticator::new(self.store(version)?);
+        let scram = scram.with_rules(self.scram_rules(plus));
+        match self.rights {
+            Some(rights) => Ok(scram.with_acting_rights(rights.clone()?)),
             None => Ok(scram),
         }
     }

@@ -2,7 +2,7 @@ use Rattle.std.proofs.Common.{◌≡◌, rules, subst, Ok, Err, ℕ, List, Optio
 use Rattle.std.specs.Prelude.{option_map, string_bytes, Vec}
 use Rattle.std.specs.declared.alloc.Global.{Global}
 use Rattle.fe2o3_sasl_wire.specs.declared.amqp_types.SaslCode.TheVariants.{Auth}
-use Rattle.fe2o3_scram.specs.Credentials.{serving}
+use Rattle.fe2o3_scram.specs.Credentials.{serving, with_rights}
 use Rattle.fe2o3_scram.specs.MockSettings.{mocking}
 use Rattle.fe2o3_scram.specs.ScramServer.{FirstCosts, served_by, state_in}
 use Rattle.fe2o3_scram.specs.ServerFirst.{ReachesChallenge}
@@ -20,7 +20,8 @@ returns-in-Ok-clause-ok g c =
     (state_in c.args.self.now) (state_in made.new.self) c.args.nonce.now c.args.init.mechanism
     c.in-Some.client_first.0.items (option_map string_bytes c.args.init.hostname)
     (Ok (option_map (λ message. message.items) c.in-Ok.answer)) (sent_frame c.challenge.result)
-    (λ i. mocking (made.ensures.mock i) (serving (made.ensures.rules i) (m.meaning (made.ensures.provider i))))
+    (λ i. with_rights (made.ensures.rights i)
+    (mocking (made.ensures.mock i) (serving (made.ensures.rules i) (m.meaning (made.ensures.provider i)))))
     (search rules) answers c.challenge.ensures.frame)
 
 pub returns-clause-ok : goal.returns-clause-ok
@@ -32,7 +33,8 @@ returns-clause-ok g c =
     (served_by m.meaning c.args.self.now) (served_by m.meaning made.new.self) (state_in c.args.self.now)
     (state_in made.new.self) c.args.nonce.now c.args.init.mechanism c.in-Some.client_first.0.items
     (option_map string_bytes c.args.init.hostname) c.in-Err.kind c.refusal.result
-    (λ i. mocking (made.ensures.mock i) (serving (made.ensures.rules i) (m.meaning (made.ensures.provider i))))
+    (λ i. with_rights (made.ensures.rights i)
+    (mocking (made.ensures.mock i) (serving (made.ensures.rules i) (m.meaning (made.ensures.provider i)))))
     (search rules) answers c.refusal.ensures.auth)
 
 pub returns-clause-memory : goal.returns-clause-memory

@@ -1,7 +1,7 @@
 use Rattle.std.proofs.Common.{◌≡◌, Ok, Err, ℕ}
 use Rattle.std.specs.Prelude.{⊤, option_map, Vec}
 use Rattle.std.specs.declared.alloc.Global.{Global}
-use Rattle.fe2o3_scram.specs.Credentials.{serving}
+use Rattle.fe2o3_scram.specs.Credentials.{serving, with_rights}
 use Rattle.fe2o3_scram.specs.MockSettings.{mocking}
 use Rattle.fe2o3_scram.specs.ScramServer.{rules_in, served_by, state_in, ReachesBase64In}
 use Rattle.fe2o3_sasl_wire.specs.declared.amqp_types.SaslCode.TheVariants.{Auth}
@@ -18,9 +18,10 @@ returns-in-Ok-clause-ok g c =
     (served_by m.meaning c.compute_server_final_message_metered.new.self) (state_in c.args.self.now)
     (state_in c.compute_server_final_message_metered.new.self) nonce _
     (Ok (option_map (λ message. message.items) c.in-Ok.answer)) (sent_frame c.conclusion.result)
-    (λ i. mocking (c.compute_server_final_message_metered.ensures.mock i)
+    (λ i. with_rights (c.compute_server_final_message_metered.ensures.rights i)
+    (mocking (c.compute_server_final_message_metered.ensures.mock i)
     (serving (c.compute_server_final_message_metered.ensures.rules i)
-    (m.meaning (c.compute_server_final_message_metered.ensures.provider i)))) answers c.conclusion.ensures.frame
+    (m.meaning (c.compute_server_final_message_metered.ensures.provider i))))) answers c.conclusion.ensures.frame
 
 pub returns-clause-ok : goal.returns-clause-ok
 returns-clause-ok g c =
@@ -30,9 +31,10 @@ returns-clause-ok g c =
     (served_by m.meaning c.args.self.now) (served_by m.meaning c.compute_server_final_message_metered.new.self)
     (state_in c.args.self.now) (state_in c.compute_server_final_message_metered.new.self) _ c.in-Err.kind
     c.refusal.result
-    (λ i. mocking (c.compute_server_final_message_metered.ensures.mock i)
+    (λ i. with_rights (c.compute_server_final_message_metered.ensures.rights i)
+    (mocking (c.compute_server_final_message_metered.ensures.mock i)
     (serving (c.compute_server_final_message_metered.ensures.rules i)
-    (m.meaning (c.compute_server_final_message_metered.ensures.provider i)))) answers c.refusal.ensures.auth
+    (m.meaning (c.compute_server_final_message_metered.ensures.provider i))))) answers c.refusal.ensures.auth
 
 pub returns-clause-memory : goal.returns-clause-memory
 returns-clause-memory g c =
