@@ -40,6 +40,7 @@ const RULES: ServerRules = ServerRules {
     accept_cbind_flag_y: true,
     strict: false,
     channels: None,
+    accept_authzid: false,
 };
 
 /// Returns the one user of a server.
@@ -149,6 +150,7 @@ fn ends(alloc: Global, first: &ServerFirstMessage<'_>, kept: &StoredPassword<'_>
         first.client_first_message_bare.as_bytes(),
         &first.message,
         kept,
+        true,
         &mut Meter::new(),
     );
     match last {

@@ -19,6 +19,8 @@ mod exchanges;
 #[cfg(test)]
 mod fault_texts;
 #[cfg(test)]
+mod identities;
+#[cfg(test)]
 mod lines_broker;
 #[cfg(test)]
 mod logins;
