@@ -103,6 +103,18 @@ fn claimed_users(rt: HostRuntime) {
     claims_user(&rt, "ANONYMOUS", "us,er", None);
 }
 
+/// A message that names an identity is one of a client that is strict: a misplaced attribute has no place in it.
+#[test]
+fn claimed_users_with_an_identity(rt: HostRuntime) {
+    let plus = "SCRAM-SHA-256-PLUS";
+    claims_user(&rt, SCRAM, "n,a=id,n=us=2Cer,r=abc", Some(USER));
+    claims_user(&rt, SCRAM, "y,a=i=3Dd,n=us=2Cer,r=abc", Some(USER));
+    claims_user(&rt, plus, "p=tls-exporter,a=id,n=us=2Cer,r=abc", Some(USER));
+    claims_user(&rt, SCRAM, "n,a=id,n=us=2Cer,r=abc,i=1", None);
+    claims_user(&rt, SCRAM, "n,a=i=d,n=us=2Cer,r=abc", None);
+    claims_user(&rt, SCRAM, "n,a=,n=us=2Cer,r=abc", None);
+}
+
 #[test]
 fn claimed_users_with_plus(rt: HostRuntime) {
     let plus = "SCRAM-SHA-256-PLUS";
@@ -128,7 +140,6 @@ fn claimed_users_with_plus(rt: HostRuntime) {
     claims_user(&rt, plus, "p=tls-exporter,,n=us=2,r=abc", None);
     claims_user(&rt, plus, "p=tls-exporter,,n=us=2Cer,r=abc,i=1", None);
     claims_user(&rt, plus, "p=tls-other,,n=us=2Cer,r=abc", None);
-    claims_user(&rt, plus, "p=tls-exporter,a=id,n=us=2Cer,r=abc", None);
     claims_user(&rt, plus, "n,,n=us=2Cer,r=abc", None);
     claims_user(&rt, plus, "y,,n=us=2Cer,r=abc", None);
     claims_user(&rt, SCRAM, "p=tls-exporter,,n=us=2Cer,r=abc", None);
