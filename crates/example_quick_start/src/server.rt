@@ -1,8 +1,8 @@
 //! A server over frame bodies, which does not tell which users it knows.
 
-ghost use Rattle.std.specs.Prelude.{◌≡◌, ℕ, List, Some, IfOk};
+ghost use Rattle.std.specs.Prelude.{◌≡◌, ℕ, List, Option, Some, IfOk};
 ghost use Rattle.fe2o3_sasl_wire.specs.declared.amqp_types.SaslCode.TheVariants.{Ok as OkCode};
-ghost use Rattle.fe2o3_scram.specs.ScramServer.{logged_in, provider_in, rules_in, state_in};
+ghost use Rattle.fe2o3_scram.specs.ScramServer.{logged_in, provider_in, rights_in, rules_in, state_in};
 ghost use Rattle.fe2o3_sasl_core.specs.StepLaws.{BodyLogsIn};
 
 use anyhow::Result;
@@ -37,8 +37,9 @@ pub fn answer(
     server: &mut Server,
     event: &Event,
 ) -> Result<(Vec<u8>, Option<SaslCode>)>
-    ensures { IfOk result (λ answer. answer.1 ≡ Some OkCode → (user : List ℕ)
-        × BodyLogsIn (provider_in server.old).version (rules_in server.old) (state_in server.old) event.now.body.items user
+    ensures { IfOk result (λ answer. answer.1 ≡ Some OkCode → (user : List ℕ) × (acts_for : Option (List ℕ))
+        × BodyLogsIn (provider_in server.old).version (rules_in server.old) (rights_in server.old)
+        (state_in server.old) event.now.body.items user acts_for
         × (logged_in (state_in server.new) ≡ Some user)) }
 {
     match acceptor_step(alloc, server, event)? {

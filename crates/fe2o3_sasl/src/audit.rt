@@ -168,7 +168,7 @@ pub struct Finding {
 /// Audits two lists of bodies, of the client of this user and the server of these credentials. Returns a finding for
 /// each verifier that the client took and the server gave. A finding for each proof that the client showed and the
 /// server accepted follows. Both are ordered by the client's position and then by the server's. The client has no
-/// channel to bind, and accepts every iteration count from 1 on.
+/// channel to bind, names no identity, and accepts every iteration count from 1 on.
 ///
 /// The only error is `OutOfMemory`, and nothing is done then.
 pub fn audit<C: ScramCredentialProvider>(
@@ -259,8 +259,9 @@ pub fn audit_with_rules<C: ScramCredentialProvider>(
 }
 
 /// Audits two lists of bodies like `audit`, of a client with these options and a server with these rules
-/// (`ScramAuthenticator::with_rules`). With `signature_by_challenge` the finding of a signature that came in a challenge
-/// is at the Ok without data that follows. The empty response to that challenge shows no proof.
+/// (`ScramAuthenticator::with_rules`). The server has no acting rights: if the rules accept identities, each user may act
+/// only for itself. With `signature_by_challenge` the finding of a signature that came in a challenge is at the Ok without
+/// data that follows. The empty response to that challenge shows no proof.
 pub fn audit_with_options<C: ScramCredentialProvider>(
     alloc: Global,
     user: &str,

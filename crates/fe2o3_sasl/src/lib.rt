@@ -93,6 +93,7 @@ pub use fe2o3_sasl_core::sasl_profile::SingleMessage;
 pub use fe2o3_sasl_core::sasl_profile::UrlError;
 pub use fe2o3_sasl_core::strict_plain;
 pub use fe2o3_sasl_core::strict_plain::StrictPlainMechanism;
+pub use fe2o3_scram::ActingRights;
 pub use fe2o3_scram::cached_keys;
 pub use fe2o3_scram::cached_keys::CachedKeys;
 pub use fe2o3_scram::channel_binding;

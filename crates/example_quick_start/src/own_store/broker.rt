@@ -1,8 +1,8 @@
 //! The broker's side of a login, and a client's.
 
-ghost use Rattle.std.specs.Prelude.{◌≡◌, ℕ, List, Some, IfOk};
+ghost use Rattle.std.specs.Prelude.{◌≡◌, ℕ, List, Option, Some, IfOk};
 ghost use Rattle.fe2o3_scram.specs.Logins.{TextLogsIn};
-ghost use Rattle.fe2o3_scram.specs.ScramServer.{logged_in, provider_in, rules_in, state_in};
+ghost use Rattle.fe2o3_scram.specs.ScramServer.{logged_in, provider_in, rights_in, rules_in, state_in};
 
 use super::accounts::{Account, Accounts};
 use crate::login::fresh;
@@ -129,8 +129,9 @@ fn challenge(
 /// The server's last message, to a client whose proof meets the stored key of the user whom the server
 /// then names.
 fn conclude(alloc: Global, server: &mut Server, client_final: &[u8]) -> Result<Vec<u8>>
-    ensures { IfOk result (λ _. (user : List ℕ)
-        × TextLogsIn (provider_in server.old).value.version (rules_in server.old) (state_in server.old) client_final.now user
+    ensures { IfOk result (λ _. (user : List ℕ) × (acts_for : Option (List ℕ))
+        × TextLogsIn (provider_in server.old).value.version (rules_in server.old) (rights_in server.old)
+        (state_in server.old) client_final.now user acts_for
         × (logged_in (state_in server.new) ≡ Some user)) }
 {
     let signature = server.compute_server_final_message(alloc, client_final)?;

@@ -28,8 +28,8 @@ AcceptorsAskForNone = ((provider : Provider) (state : ServerState) (text : List 
     (ScramAcceptor provider state) (frames.Init (server_mechanism provider.version provider.rules) None hostname))
     × ((provider : Provider) (text : List ℕ)
     → ¬ acceptor_allocates (ScramAcceptor provider server_states.Initial) (frames.Response text))
-    × ((provider : Provider) (user text : List ℕ)
-    → ¬ acceptor_allocates (ScramAcceptor provider (server_states.ServerFinalSent user)) (frames.Response text))
+    × ((provider : Provider) (user text : List ℕ) (acts_for : Option (List ℕ)) → ¬ acceptor_allocates
+    (ScramAcceptor provider (server_states.ServerFinalSent user acts_for)) (frames.Response text))
     × ((user password : List ℕ) (accepted : Bool) (frame : SaslFrame)
     → ¬ acceptor_allocates (PlainAcceptor user password accepted) frame)
     × ((frame : SaslFrame) → ¬ acceptor_allocates AnonymousAcceptor frame)

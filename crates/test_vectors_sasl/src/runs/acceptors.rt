@@ -71,6 +71,7 @@ pub fn rules_of(accept_cbind_flag_y: bool) -> ServerRules {
         accept_cbind_flag_y,
         strict: false,
         channels: None,
+        accept_authzid: false,
     }
 }
 
@@ -120,6 +121,7 @@ fn rules_of_channel(channel: ChannelBinding) -> ServerRules {
         accept_cbind_flag_y: false,
         strict: false,
         channels: Some(channels_of(channel)),
+        accept_authzid: false,
     }
 }
 

@@ -19,4 +19,4 @@ returns-in-Outcome c is_ok =
     let step = subst (λ (says : ServerSays). AcceptorSteps acceptor_machine (ScramAcceptor provider state)
     (given c.args.event.now) says after) says c.in_ok-body.ensures in
     let logs = oks_log_in provider state (given c.args.event.now) c.in-Outcome.body.items after step in
-    (logs.0, logs.1, ap acceptor_user logs.2)
+    (logs.0, logs.1, logs.2, ap acceptor_user logs.3)

@@ -56,8 +56,9 @@ run = record {
 holds : HoldsLogin (sides_with unaltered) (codes "pencil") salt 4096
 holds = record {
   version = refl;
-  header = (tt, refl);
+  header = (tt, tt);
   channel = refl;
+  identity = refl;
   stored = refl;
   bytes = IsBytes-replicate 32 3 (omega arith);
   opens = (refl, password_printable);

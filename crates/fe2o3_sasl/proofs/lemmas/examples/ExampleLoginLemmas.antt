@@ -161,7 +161,7 @@ module _ (added : Added) (is : PassesUnseen added) where
     open_one,
     reads_final added.response is.response proof (server_at provider accepted.challenge) refl refl refl
         (IsBytes-proof text nonce) (length-proof text nonce)
-        (proof_meets text nonce (server_message accepted) is.message),
+        (proof_meets text nonce (server_message accepted) is.message, refl),
   )
 
   ok_said : Concluded outcomes.Ok (body_of (sends_ok answer)) ≡ says_ok provider accepted

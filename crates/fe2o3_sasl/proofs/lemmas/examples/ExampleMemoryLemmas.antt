@@ -56,7 +56,7 @@ acceptors_ask_for_none = (
   λ provider state text hostname asks. (other_name provider.version (is_some provider.rules.channels)).0 (sym asks.0),
   λ provider state hostname asks. asks,
   λ provider text asks. asks,
-  λ provider user text asks. asks,
+  λ provider user text acts_for asks. asks,
   λ user password accepted frame asks. asks,
   λ frame asks. asks,
 )

@@ -10,7 +10,7 @@ use Rattle.base64.specs.GeneralPurpose.{IsBytes}
 use Rattle.fe2o3_scram.specs.ClientFirst.{default_rules}
 use Rattle.fe2o3_scram.specs.declared.hmac.ScramVersion.TheVariants.{Sha256}
 use Rattle.fe2o3_scram.specs.Texts.{base64_text, IsCount, Parts, Part, joined, HasBase64}
-use Rattle.fe2o3_scram.specs.ClientFinal.{HasProof, Meets, ReadsClientFinal, Server, without_proof}
+use Rattle.fe2o3_scram.specs.ClientFinal.{HasProof, IsAccepted, ReadsClientFinal, Server, without_proof}
 use Rattle.fe2o3_scram.specs.ChannelBinding.{cbind_input, ClientHeader, own_header, plain_header}
 use Rattle.fe2o3_scram.specs.declared.scram_messages.channel_binding_flag.ChannelBindingFlag.TheVariants.{NotSupported}
 use Rattle.fe2o3_scram.specs.ClientFirst.{ReadsClientFirst}
@@ -98,7 +98,7 @@ reads_names user more sent plain too =
     let parts = parts_joined (codes "n=" ++ user) ((codes "r=" ++ client_nonce) ∷ more) all in
     named default_rules (own_header NotSupported) (codes "n,," ++ joined (names user ++ more)) (joined (names user ++ more))
     (IsUtf8-append (codes "n,,") (joined (names user ++ more)) (IsUtf8-literal (codes "n,,") refl)
-    (utf8_joined (names user ++ more) all)) (tt, refl) refl user user client_nonce
+    (utf8_joined (names user ++ more) all)) (tt, tt) refl user user client_nonce
     (names user ++ more, parts, refl) sent (names user ++ more, parts, refl)
     (λ wrong. wrong.0, (λ wrong. wrong.0, (λ wrong. wrong.0, tt)))
 
@@ -299,10 +299,10 @@ module _ (more : List (List ℕ)) (too : AllByRecursion Plain more) (proof : Lis
   pub reads_final : (server : Server) → plain_header ≡ server.header → server.strict ≡ false → server.nonce ≡ both
       → IsBytes proof
       → length proof ≡ digest_len server.version
-      → Meets server (record { without = joined (binds both ++ more); proof = proof })
+      → IsAccepted server (record { without = joined (binds both ++ more); proof = proof })
       → ReadsClientFinal server (final_text more proof) (Ok
       (record { without = joined (binds both ++ more); proof = proof }))
-  reads_final server header lax same bytes sized meets =
+  reads_final server header lax same bytes sized accepted =
       let text = final_text more proof in
       let binding : Part text 0 (codes "c=" ++ codes "biws") = (parts, final_parts, refl) in
       let nonce : Part text 1 (codes "r=" ++ both) = (parts, final_parts, refl) in
@@ -316,6 +316,6 @@ module _ (more : List (List ℕ)) (too : AllByRecursion Plain more) (proof : Lis
         nonce = subst (λ (some : List ℕ). Part text 1 (codes "r=" ++ some)) (sym same) nonce;
         proof = has_final bytes;
         sized = sized;
-        meets = meets;
+        accepted = accepted;
       })
       (λ wrong. subst T lax wrong.0)

@@ -32,7 +32,7 @@ some_acceptor_reply (ScramAcceptor provider state) nonce (frames.Init mechanism 
     let start = some_start provider state nonce mechanism response hostname in
     (start.0, ScramAcceptor provider start.1, start.2)
 some_acceptor_reply (ScramAcceptor provider state) nonce (frames.Response text) sent =
-    let answer = some_conclusion state provider.version provider.rules text in (
+    let answer = some_conclusion state provider.version provider.rules provider.rights text in (
       server_frame (λ message. frames.Outcome outcomes.Ok (Some message)) answer.0,
       ScramAcceptor provider answer.1,
       (answer.0, answer.1, answer.2, refl, refl),

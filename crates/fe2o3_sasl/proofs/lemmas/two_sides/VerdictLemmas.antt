@@ -173,7 +173,7 @@ shown_proofs_are_judged sides k n answer accepted histories held kept shows =
       met = met_shown sides k n answer accepted held kept shows;
       sized = sized_at sides.login answer held;
       one = shows.one;
-      meets = names.meets;
+      meets = names.accepted.0;
     })
 
 -- ---- and no other

@@ -44,7 +44,10 @@ pub(crate) fn ok_receipt<C: ScramCredentialProvider>(
     ensures { IfOk result (λ receipt. OkFor (serving rules (C.meaning credentials.now)) place
         (opened_challenge opened.now) body.now (server_receipt receipt)) }
 {
-    let header = ClientHeader::new(rules.expected_channel(opened.client_first.header), None);
+    let header = ClientHeader::new(
+        rules.expected_channel(opened.client_first.header),
+        opened.client_first.acts_for.as_deref(),
+    );
     let client_final = response_again(
         alloc,
         &header,
