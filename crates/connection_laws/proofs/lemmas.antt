@@ -27,4 +27,5 @@ pub mod CompletingCallLemmas
 pub mod FinishedCallLemmas
 pub mod LoginFrameLemmas
 pub mod LoginAnswerLemmas
+pub mod ActingLemmas
 pub mod JoinedExistLemmas

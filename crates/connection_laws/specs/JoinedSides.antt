@@ -6,7 +6,7 @@ use Rattle.fe2o3_scram.specs.Credentials.{Provider}
 use Rattle.fe2o3_sasl.specs.examples.Examples.{login as user_login, provider as user_provider, salt as user_salt, client_bytes, server_bytes}
 use Rattle.fe2o3_sasl_core.specs.Events.{Login, IsLogin}
 use Rattle.fe2o3_sasl_core.specs.Profiles.{Profile}
-use Rattle.fe2o3_sasl_core.specs.SaslAcceptor.{Acceptor, acceptor_user}
+use Rattle.fe2o3_sasl_core.specs.SaslAcceptor.{Acceptor, acceptor_acting, acceptor_user}
 use Rattle.fe2o3_sasl_core.specs.TwoSides.{sides_of}
 use Rattle.fe2o3_sasl_core.specs.UnalteredRuns.{HoldsLogin}
 use Rattle.fe2o3_sasl_negotiation.specs.declared.progress.Progress.TheVariants.{Authenticated}
@@ -23,6 +23,7 @@ AreEnough bytes units calls =
 
 -- a client and a server that are joined, with these limits and these calls. Both meet the premises of
 -- `UnalteredSidesLogIn` on limits and nonces, and have logged in. The server names the client's user
+-- and the identity that it acts for
 pub record JoinedSides (login : Login) (provider : Provider) (client_limit server_limit : ℕ)
     (client_calls server_calls : List Call) : Type 0 where
   pub client : Side Profile
@@ -36,6 +37,7 @@ pub record JoinedSides (login : Login) (provider : Provider) (client_limit serve
   pub client_progress : client.progress ≡ Authenticated
   pub server_progress : server.progress ≡ Authenticated
   pub user : acceptor_user server.state ≡ Some login.user
+  pub identity : acceptor_acting server.state ≡ login.acts_for
 
 -- for each login, provider, limits and calls that meet the premises of `UnalteredSidesLogIn` on them, two sides are
 -- joined, in the pieces in which these calls take the bytes. The client's calls are enough for a header of 8 bytes, a list

@@ -11,7 +11,7 @@ use Rattle.fe2o3_sasl_core.specs.ClientHistory.{Answering, OpenAnswer}
 use Rattle.fe2o3_sasl_core.specs.Events.{Given, Login, IsLogin, ServerSays, ClientSays, login_header}
 use Rattle.fe2o3_sasl_core.specs.Profiles.{Profile, scram_profile}
 use Rattle.fe2o3_sasl_core.specs.Runs.{Runs, AcceptorSteps, ProfileSteps}
-use Rattle.fe2o3_sasl_core.specs.SaslAcceptor.{Acceptor, ScramAcceptor, acceptor_machine, acceptor_names, acceptor_user}
+use Rattle.fe2o3_sasl_core.specs.SaslAcceptor.{Acceptor, ScramAcceptor, acceptor_acting, acceptor_machine, acceptor_names, acceptor_user}
 use Rattle.fe2o3_sasl_core.specs.ServerHistory.{Accepted, AcceptsAt}
 use Rattle.fe2o3_sasl_core.specs.TwoSides.{Sides, sides_of, client_message, server_message}
 use Rattle.fe2o3_sasl_core.specs.UnalteredRuns.{HoldsLogin, NoncesArePrintable, UnalteredRun, LogsIn}
@@ -74,8 +74,9 @@ pub record OneLogin (sides : Sides) (salt : List ℕ) (count : ℕ) : Type 0 whe
   pub accepts : AcceptsAt sides.provider sides.server_events sides.server_replies 1 accepted
   pub one_message : client_message sides.login answer ≡ server_message accepted
 
--- both have logged in, and the server names the client's user. Each side went from its first state to its last in a run
--- over the frames of the bytes that the other side sent after its header, and the two runs are one login
+-- both have logged in, and the server names the client's user and the identity that it acts for. Each side went from its
+-- first state to its last in a run over the frames of the bytes that the other side sent after its header, and the two runs
+-- are one login
 pub record BothLogIn {login : Login} {provider : Provider} {client : Side Profile} {server : Side Acceptor}
     (joined : Joined login provider client server) (salt : List ℕ) (count : ℕ) : Type 0 where
   pub client_events : List Given
@@ -85,6 +86,7 @@ pub record BothLogIn {login : Login} {provider : Provider} {client : Side Profil
   pub client_progress : client.progress ≡ Authenticated
   pub server_progress : server.progress ≡ Authenticated
   pub user : acceptor_user server.state ≡ Some login.user
+  pub identity : acceptor_acting server.state ≡ login.acts_for
   pub client_received : joined.server_sent ≡ sasl_header ++ frames_of client_events
   pub server_received : joined.client_sent ≡ frames_of server_events
   pub client_run : Runs (ProfileSteps login.hostname) (scram_profile login) client_events client_replies client.state

@@ -84,21 +84,30 @@ client_fits (Failed (Refused code)) expected = outcome_due expected
 client_fits (Failed (ProfileRefused profile_faults.OutOfMemory)) expected = false
 client_fits (Failed why) expected = client_awaits expected
 
--- only a side that has logged in has a user
-abbrev pub NamesAfterLogin : Snapshot → Type 0
-NamesAfterLogin kept = kept.progress ≢ Authenticated → shown kept.user ≡ None
+-- these values have no user, and no identity that a user acts for
+abbrev pub NamesNone : Snapshot → Type 0
+NamesNone kept = (shown kept.user ≡ None) × (shown kept.acts_for ≡ None)
 
--- a server can have these values; the next definition is that of a client, which has no user
+-- only a side that has logged in has a user or an identity
+abbrev pub NamesAfterLogin : Snapshot → Type 0
+NamesAfterLogin kept = kept.progress ≢ Authenticated → NamesNone kept
+
+-- a server can have these values; the next definition is that of a client, which has no user and no identity
 abbrev pub IsServerKept : Snapshot → Type 0
 IsServerKept kept = IsKept kept × IsTrue (server_fits kept.progress kept.expected) × EndsEmpty kept × NamesAfterLogin kept
 
 abbrev pub IsClientKept : Snapshot → Type 0
-IsClientKept kept = IsKept kept × IsTrue (client_fits kept.progress kept.expected) × EndsEmpty kept × (shown kept.user ≡ None)
+IsClientKept kept = IsKept kept × IsTrue (client_fits kept.progress kept.expected) × EndsEmpty kept × NamesNone kept
 
--- a server of these values can have an acceptor that names this user: if it has logged in, the two users are one. A
--- mechanism without an authenticated user has none (RFC 4505, section 2)
-abbrev pub NamesKeptUser : Snapshot → Option (List ℕ) → Type 0
-NamesKeptUser kept named = kept.progress ≡ Authenticated → named ≡ shown kept.user
+-- this user and this identity are those of the values (RFC 4422, section 2). A mechanism without an authenticated user
+-- has none (RFC 4505, section 2)
+abbrev pub HasSavedNames : Snapshot → Option (List ℕ) → Option (List ℕ) → Type 0
+HasSavedNames kept named acting = (named ≡ shown kept.user) × (acting ≡ shown kept.acts_for)
+
+-- a server of these values can have an acceptor that names this user and this identity: if it has logged in, they are
+-- those of the values
+abbrev pub NamesKeptUser : Snapshot → Option (List ℕ) → Option (List ℕ) → Type 0
+NamesKeptUser kept named acting = kept.progress ≡ Authenticated → HasSavedNames kept named acting
 
 -- the side with these values, whose machine is in this state
 abbrev pub side_of : {S : Type 0} → Snapshot → S → Side S

@@ -287,6 +287,7 @@ impl ClientNegotiation {
             extended_headers: self.extended_headers,
             held: &self.held,
             user: None,
+            acts_for: None,
         }
     }
 

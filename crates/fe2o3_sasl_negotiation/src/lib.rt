@@ -109,6 +109,7 @@ pub use fe2o3_sasl_wire::amqp_types;
 pub use fe2o3_sasl_wire::protocol_header;
 pub use fe2o3_sasl_wire::sasl_frames;
 pub use fe2o3_sasl_wire::view_frame;
+pub use fe2o3_scram::ActingRights;
 pub use fe2o3_scram::AddRecordError;
 pub use fe2o3_scram::CachedKeys;
 pub use fe2o3_scram::ChannelBinding;

@@ -75,6 +75,7 @@ impl<E: Endpoint<R>, R: Role> ConnectionSide<E, R> {
             extended_headers: self.extended_headers,
             held: &self.held,
             user: None,
+            acts_for: None,
         };
         let body = match kept.peek_frame(alloc, bytes) {
             Ok(Some(body)) => body,

@@ -11,7 +11,7 @@ use fe2o3_sasl_core::{AuthenticatedUser, SaslProfile};
 use std::alloc::Global;
 
 /// Saves a server's side, after any call, and restores it with an acceptor in the state of that side's. The result is
-/// the same side, and its acceptor names the same user.
+/// the same side, and its acceptor names the same user and the same identity.
 ///
 /// The only error is `OutOfMemory`.
 pub fn restored_server<A: AuthenticatedUser + Drop>(
@@ -23,6 +23,7 @@ pub fn restored_server<A: AuthenticatedUser + Drop>(
     ensures side { IfOk result (λ restored. server_side A.state restored ≡ server_side A.state side.now) }
     ensures extended { IfOk result (λ restored. extended_in restored ≡ extended_in side.now) }
     ensures user { IfOk result (λ restored. A.named (acceptor_in restored) ≡ A.named (acceptor_in side.now)) }
+    ensures identity { IfOk result (λ restored. A.acting (acceptor_in restored) ≡ A.acting (acceptor_in side.now)) }
     ensures memory { IfErr result (λ error. error ≡ RestoreError.OutOfMemory) }
 {
     ServerNegotiation::restore(alloc, acceptor, &side.snapshot())

@@ -7,9 +7,8 @@ ghost use Rattle.fe2o3_sasl_core.specs.Events.{Failed};
 ghost use Rattle.fe2o3_sasl_negotiation.specs.Connections.{SpellsTurn};
 ghost use Rattle.fe2o3_sasl_negotiation.specs.Memory.{ServerAsks};
 ghost use Rattle.fe2o3_sasl_negotiation.specs.ServerNegotiation.{offer_body as offer_of, ServerOpens, ServerOutputs, ServerReplies, ServerReplyCosts, ServerSideAnswers, ServerCosts};
-ghost use Rattle.fe2o3_sasl_negotiation.specs.Snapshot.{IsServerKept, NamesKeptUser, server_fits, side_of};
+ghost use Rattle.fe2o3_sasl_negotiation.specs.Snapshot.{HasSavedNames, IsServerKept, NamesKeptUser, server_fits, side_of};
 ghost use Rattle.fe2o3_sasl_negotiation.specs.private.Units.{Appends};
-ghost use Rattle.fe2o3_sasl_wire.specs.FrameView.{shown};
 ghost use Rattle.fe2o3_sasl_wire.specs.declared.sasl_frames.error.Error.TheVariants.{OutOfMemory as WireOutOfMemory};
 ghost use Rattle.fe2o3_sasl_negotiation.specs.declared.progress.Expected.TheVariants.{Header};
 ghost use Rattle.fe2o3_sasl_negotiation.specs.declared.progress.Progress.TheVariants.{InProgress, Authenticated};
@@ -17,7 +16,7 @@ ghost use Rattle.fe2o3_sasl_negotiation.specs.declared.progress.Progress.TheVari
 use crate::framing::{MAX_FRAME, Step, is_sasl, refuse_header, screen, send};
 use crate::progress::{CloseReason, Expected, FrameKind, Progress};
 use crate::side::{ConnectionSide, Endpoint, Role};
-use crate::snapshot::{RestoreError, Snapshot, is_user};
+use crate::snapshot::{RestoreError, Snapshot, is_name};
 use bytes::BytesMut;
 use fe2o3_sasl_core::{
     AuthenticatedUser, OutOfMemory, SaslAcceptor, SaslAcceptorExt, ServerReply, acceptor_frame_step,
@@ -252,12 +251,26 @@ impl<A: AuthenticatedUser> ServerNegotiation<A> {
         }
     }
 
+    /// Returns the identity that the user of `authenticated_user` acts for, if the client named one (RFC 4422, section
+    /// 2). The connection belongs to this identity, and to the user if there is none. It is `None` before the login.
+    pub fn acts_for(&self) -> Option<&str>
+        ensures logged_in { (server_side A.state self.now).progress ≡ Authenticated
+            → option_map (λ name. name.now) result ≡ A.acting (acceptor_in self.now) }
+        ensures before { (server_side A.state self.now).progress ≢ Authenticated → result ≡ None }
+    {
+        if matches!(self.progress, Progress::Authenticated) {
+            self.endpoint.acts_for()
+        } else {
+            None
+        }
+    }
+
     /// Saves what the side has beside its acceptor, for `restore`. It holds no password, key or record. The user is
-    /// that of `authenticated_user`.
+    /// that of `authenticated_user`, and the identity is that of `acts_for`.
     pub fn snapshot(&self) -> Snapshot<'_>
         ensures side { side_of result (A.state (acceptor_in self.now)) ≡ server_side A.state self.now }
         ensures kept { IsServerKept result }
-        ensures user { NamesKeptUser result (A.named (acceptor_in self.now)) }
+        ensures user { NamesKeptUser result (A.named (acceptor_in self.now)) (A.acting (acceptor_in self.now)) }
         ensures extended { result.extended_headers ≡ extended_in self.now }
     {
         Snapshot {
@@ -267,31 +280,35 @@ impl<A: AuthenticatedUser> ServerNegotiation<A> {
             extended_headers: self.extended_headers,
             held: &self.held,
             user: self.authenticated_user(),
+            acts_for: self.acts_for(),
         }
     }
 
     /// Restores the server's side that `snapshot` saved, with an acceptor in the state of that side's. After a login,
-    /// that is an acceptor that names the saved user, such as `restore_authenticated` returns.
+    /// that is an acceptor that names the saved user and the saved identity, such as `restore_authenticated` returns.
     ///
     /// Errors, in this order: `InvalidSnapshot` if no server can have such values, `OtherUser` if a server that has
-    /// logged in has another user than the acceptor, and `OutOfMemory`.
+    /// logged in has another user or another identity than the acceptor, and `OutOfMemory`.
     pub fn restore(alloc: Global, acceptor: A, kept: &Snapshot<'_>) -> Result<Self, RestoreError>
     where
         A: Drop,
-        ensures ok { IfOk result (λ side. IsServerKept kept.now × NamesKeptUser kept.now (A.named acceptor)
+        ensures ok { IfOk result (λ side. IsServerKept kept.now
+            × NamesKeptUser kept.now (A.named acceptor) (A.acting acceptor)
             × (server_side A.state side ≡ side_of kept.now (A.state acceptor)) × (acceptor_in side ≡ acceptor)
             × (extended_in side ≡ kept.now.extended_headers)) }
         ensures refused { IfErr result (λ error. error ≡ RestoreError.InvalidSnapshot → ¬ IsServerKept kept.now) }
         ensures other_user { IfErr result (λ error. error ≡ RestoreError.OtherUser
-            → IsServerKept kept.now × (kept.now.progress ≡ Authenticated) × (A.named acceptor ≢ shown kept.now.user)) }
+            → IsServerKept kept.now × (kept.now.progress ≡ Authenticated)
+            × ¬ HasSavedNames kept.now (A.named acceptor) (A.acting acceptor)) }
         ensures memory { IfErr result (λ error. error ≡ RestoreError.OutOfMemory
-            → IsServerKept kept.now × NamesKeptUser kept.now (A.named acceptor)) }
+            → IsServerKept kept.now × NamesKeptUser kept.now (A.named acceptor) (A.acting acceptor)) }
     {
         if !kept.is_server() {
             return Err(RestoreError::InvalidSnapshot);
         }
         if matches!(kept.progress, Progress::Authenticated)
-            && !is_user(acceptor.authenticated_user(), kept.user)
+            && !(is_name(acceptor.authenticated_user(), kept.user)
+                && is_name(acceptor.acts_for(), kept.acts_for))
         {
             return Err(RestoreError::OtherUser);
         }

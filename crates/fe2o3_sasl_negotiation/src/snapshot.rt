@@ -4,7 +4,7 @@ ghost use Rattle.std.specs.Prelude.{◌≡◌, ◌≢◌, ◌↔◌, ℕ, List, 
 ghost use Rattle.fe2o3_sasl_wire.specs.FrameView.{shown};
 ghost use Rattle.fe2o3_sasl_negotiation.specs.Framing.{IsPart, body_read};
 ghost use Rattle.fe2o3_sasl_negotiation.specs.Negotiations.{Completes};
-ghost use Rattle.fe2o3_sasl_negotiation.specs.Snapshot.{IsKept, IsServerKept, IsClientKept, EndsEmpty, NamesAfterLogin, server_awaits, server_due, server_fits, client_awaits, client_due, outcome_due, client_fits, side_kept};
+ghost use Rattle.fe2o3_sasl_negotiation.specs.Snapshot.{IsKept, IsServerKept, IsClientKept, EndsEmpty, NamesAfterLogin, NamesNone, server_awaits, server_due, server_fits, client_awaits, client_due, outcome_due, client_fits, side_kept};
 ghost use Rattle.fe2o3_sasl_negotiation.specs.declared.progress.Expected.TheVariants.{Header};
 ghost use Rattle.fe2o3_sasl_negotiation.specs.declared.progress.Progress.TheVariants.{Authenticated, InProgress};
 ghost use Rattle.fe2o3_sasl_negotiation.specs.declared.progress.FrameKind.{FrameKind as TurnKind};
@@ -40,6 +40,10 @@ pub struct Snapshot<'a> {
     /// The user of a server that has logged in. `None` before that, for a mechanism that names no user, and for a
     /// client.
     pub user: Option<&'a str>,
+
+    /// The identity that this user acts for (RFC 4422, section 2). `None` if the client named none, before the login, and
+    /// for a client.
+    pub acts_for: Option<&'a str>,
 }
 
 /// Why a side is not restored.
@@ -47,11 +51,12 @@ pub struct Snapshot<'a> {
 pub enum RestoreError {
     /// No side has these values: the limit is above 512; the expected unit is complete, or has a size that is not
     /// allowed; a side that has ended holds bytes; the expected unit does not fit the progress or the side; or a side
-    /// that has not logged in has a user, or a client has one.
+    /// that has not logged in, or a client, has a user or an identity.
     #[error("The snapshot is invalid")]
     InvalidSnapshot,
 
-    /// The server has logged in another user than the acceptor names, or one of the two has no user.
+    /// The acceptor names another user or another identity than the server has logged in, or only one of the two names
+    /// one.
     #[error("The user of the acceptor is not that of the snapshot")]
     OtherUser,
 
@@ -118,11 +123,18 @@ impl Snapshot<'_> {
         matches!(self.progress, Progress::InProgress) || self.held.is_empty()
     }
 
-    /// Returns whether the side, if it has a user, has logged in.
+    /// Returns whether the side has no user and no identity.
+    fn names_none(&self) -> bool
+        ensures { IsTrue result ↔ NamesNone self.now }
+    {
+        self.user.is_none() && self.acts_for.is_none()
+    }
+
+    /// Returns whether the side, if it has a user or an identity, has logged in.
     fn names_after_login(&self) -> bool
         ensures { IsTrue result ↔ NamesAfterLogin self.now }
     {
-        matches!(self.progress, Progress::Authenticated) || self.user.is_none()
+        matches!(self.progress, Progress::Authenticated) || self.names_none()
     }
 
     /// Returns whether a server can have these values.
@@ -142,12 +154,12 @@ impl Snapshot<'_> {
         self.is_kept()
             && is_client_at(self.progress, self.expected)
             && self.ends_empty()
-            && self.user.is_none()
+            && self.names_none()
     }
 }
 
-/// Returns whether an acceptor names the user of a saved side, or both have none.
-pub(crate) fn is_user(named: Option<&str>, kept: Option<&str>) -> bool
+/// Returns whether an acceptor has the name that a saved side has, of a user or of an identity, or both have none.
+pub(crate) fn is_name(named: Option<&str>, kept: Option<&str>) -> bool
     ensures { IsTrue result ↔ shown named.entry ≡ shown kept.entry }
 {
     match (named, kept) {

@@ -100,8 +100,8 @@ fn external<R: Abort + AllocGlobal>(rt: &R, user: &str) -> ExternalServer {
 
 #[test]
 fn scram_logins_are_restored(rt: HostRuntime) {
-    let restored = scram(&rt).restore_authenticated(rt.alloc(), USER);
-    let other = scram(&rt).restore_authenticated(rt.alloc(), "other");
+    let restored = scram(&rt).restore_authenticated(rt.alloc(), USER, None);
+    let other = scram(&rt).restore_authenticated(rt.alloc(), "other", None);
     let servers = (
         scram(&rt),
         restored.expect(&rt, "memory"),
@@ -112,7 +112,7 @@ fn scram_logins_are_restored(rt: HostRuntime) {
 
 #[test]
 fn logins_with_mock_authentication_are_restored(rt: HostRuntime) {
-    let restored = mocking(&rt).restore_authenticated(rt.alloc(), USER);
+    let restored = mocking(&rt).restore_authenticated(rt.alloc(), USER, None);
     let servers = (mocking(&rt), restored.expect(&rt, "memory"), mocking(&rt));
     is_restored(&rt, servers, &SCRAM_LOGIN, Some(USER));
 }
@@ -163,8 +163,8 @@ fn cut_down<R: Abort + AllocGlobal, A: HasMechanism + Drop>(
 
 #[test]
 fn logins_of_one_mechanism_of_several_are_restored(rt: HostRuntime) {
-    let first = scram(&rt).restore_authenticated(rt.alloc(), USER);
-    let second = scram(&rt).restore_authenticated(rt.alloc(), USER);
+    let first = scram(&rt).restore_authenticated(rt.alloc(), USER, None);
+    let second = scram(&rt).restore_authenticated(rt.alloc(), USER, None);
     let (first, second) = (first.expect(&rt, "memory"), second.expect(&rt, "memory"));
     let selected = Some(Selected::First);
     let servers = (

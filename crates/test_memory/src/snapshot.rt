@@ -56,6 +56,7 @@ fn kept(expected: Expected, limit: usize, held: &[u8]) -> Snapshot<'_> {
         extended_headers: false,
         held,
         user: None,
+        acts_for: None,
     }
 }
 

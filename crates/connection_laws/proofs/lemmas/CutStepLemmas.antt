@@ -70,7 +70,7 @@ module _ {S : Type 0} (machine : Machine S) (function : IsFunction machine) wher
         sends.1 ∙ ((λ i. carried state (λ _. moved_is i) (canonical (reply_is i))) ∙ sym sent.1),
       )
 
-  server_gives : (spelled : Result SaslFrame Error) (state : S) (event : Given) (says other : ServerSays) (next end : S)
+  pub server_gives : (spelled : Result SaslFrame Error) (state : S) (event : Given) (says other : ServerSays) (next end : S)
       → says ≢ Failed faults.OutOfMemory → other ≢ Failed faults.OutOfMemory
       → AcceptorGives machine state event spelled says next → AcceptorGives machine state event spelled other end
       → (says ≡ other) × (next ≡ end)

@@ -229,6 +229,7 @@ module _ (p : Premises) (client_limit server_limit : ℕ) (client_wide : 512 ≤
         client_progress = refl;
         server_progress = refl;
         user = refl;
+        identity = refl;
       }
 
 pub joined_sides_exist : JoinedSidesExist
@@ -294,6 +295,7 @@ user_holds = let holds = premises_can_be_met.3 in record {
   within = holds.within;
   header = holds.header;
   channel = holds.channel;
+  identity = holds.identity;
   name = holds.name;
 }
 

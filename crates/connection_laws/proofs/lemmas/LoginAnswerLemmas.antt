@@ -17,6 +17,7 @@ use Rattle.fe2o3_scram.specs.Credentials.{Provider}
 use Rattle.fe2o3_scram.specs.Exchanges.{Exchange, IsSound, nonce_in, bare_in, named_in, first_in, answer_in, final_in, record_in}
 use Rattle.fe2o3_scram.specs.ChannelBinding.{is_bound, is_strict, server_mechanism, header_of, expected_header, ClientHeader}
 use Rattle.fe2o3_scram.specs.ScramClient.{ClientSide, ClientInitial, ClientFinalSent, Complete, started, with_state}
+use Rattle.fe2o3_scram.specs.ActingRights.{may_act}
 use Rattle.fe2o3_scram.specs.ScramServer.{Initial, ServerFirstSent, ServerFinalSent}
 use Rattle.fe2o3_scram.specs.ServerFinal.{ReadsServerFinal, server_final_of}
 use Rattle.fe2o3_scram.specs.ServerFirst.{ServerChallenge, challenge_of}
@@ -158,6 +159,10 @@ module _ (p : Premises) where
   abbrev header : ClientHeader
   header = expected_header provider.rules.channels (header_of (login_header login))
 
+  -- whether the user may act for the identity of the header
+  abbrev is_allowed : Bool
+  is_allowed = may_act provider.rights login.user login.acts_for
+
   -- ---- the client, answer by answer
 
   -- the turn after its response
@@ -243,7 +248,8 @@ module _ (p : Premises) where
   verifier_read : ReadsServerFinal (is_strict_login login) (answer_in exchange).signature final_sent (Ok tt)
   verifier_read = subst (λ (version : ScramVersion). ReadsServerFinal (is_strict_login login) (answer_in exchange).signature
       (server_final_of (server_of version header (is_strict exchange.rules) (bare_in exchange) (first_in exchange)
-      (nonce_in exchange) (record_in exchange)) (final_in exchange)) (Ok tt)) (sym p.holds.version) (frame.meets p).server_final
+      (nonce_in exchange) (record_in exchange) is_allowed) (final_in exchange)) (Ok tt)) (sym p.holds.version)
+      (frame.meets p).server_final
 
   reports : (nonce : List ℕ) → ProfileReplies login.hostname (ScramProfile answered_side) nonce outcome
       (Reported outcomes.Ok (Some final_sent)) (ScramProfile complete_side)
@@ -277,7 +283,7 @@ module _ (p : Premises) where
   challenged_acceptor = ScramAcceptor provider (ServerFirstSent challenge (record_in exchange))
 
   abbrev pub last_acceptor : Acceptor
-  last_acceptor = ScramAcceptor provider (ServerFinalSent login.user)
+  last_acceptor = ScramAcceptor provider (ServerFinalSent login.user login.acts_for)
 
   abbrev pub ServerAnswersBy : Expected → Acceptor → List ℕ → List ℕ → SideOutput → Acceptor → Type 0
   ServerAnswersBy expected acceptor nonce unit answer next =
@@ -300,7 +306,7 @@ module _ (p : Premises) where
         refl,
       )
 
-  challenges : AcceptorGives acceptor_machine first_acceptor (record { body = init_body; nonce = theirs }) (Ok init)
+  pub challenges : AcceptorGives acceptor_machine first_acceptor (record { body = init_body; nonce = theirs }) (Ok init)
       (Challenged challenge_body) challenged_acceptor
   challenges = inr (
     frames.Challenge (first_in exchange),
@@ -335,12 +341,12 @@ module _ (p : Premises) where
       (inl ((frame.challenge_sent p).2, refl))
 
   response_read : ReadsClientFinal (server_of provider.version header (is_strict exchange.rules) (bare_in exchange)
-      (first_in exchange) (nonce_in exchange) (record_in exchange)) message (Ok (final_in exchange))
+      (first_in exchange) (nonce_in exchange) (record_in exchange) is_allowed) message (Ok (final_in exchange))
   response_read = subst (λ (version : ScramVersion). ReadsClientFinal
       (server_of version header (is_strict exchange.rules) (bare_in exchange) (first_in exchange) (nonce_in exchange)
-      (record_in exchange)) message (Ok (final_in exchange))) (sym p.holds.version) (frame.meets p).client_final
+      (record_in exchange) is_allowed) message (Ok (final_in exchange))) (sym p.holds.version) (frame.meets p).client_final
 
-  accepts : (nonce : List ℕ) → AcceptorGives acceptor_machine challenged_acceptor
+  pub accepts : (nonce : List ℕ) → AcceptorGives acceptor_machine challenged_acceptor
       (record { body = response_body; nonce = nonce }) (Ok (frames.Response message))
       (Concluded outcomes.Ok outcome_body) last_acceptor
   accepts nonce = inr (
@@ -348,7 +354,7 @@ module _ (p : Premises) where
     last_acceptor,
     (
       Ok (Some final_sent),
-      ServerFinalSent login.user,
+      ServerFinalSent login.user login.acts_for,
       ((final_in exchange, response_read, refl), refl),
       refl,
       refl,

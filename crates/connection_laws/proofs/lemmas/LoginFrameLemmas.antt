@@ -71,7 +71,7 @@ module _ (p : Premises) where
   theirs = p.theirs
 
   abbrev pub exchange : Exchange
-  exchange = step.exchange_of login provider.rules p.password p.salt p.count mine theirs
+  exchange = step.exchange_of login provider.rules provider.rights p.password p.salt p.count mine theirs
 
   pub sound : IsSound exchange
   sound = step.sound_exchange (sides_of login [] [] provider [] []) p.password p.salt p.count mine theirs p.is p.holds

@@ -34,6 +34,7 @@ negotiations_agree login provider password salt count client server joined is ho
       within = holds.within;
       header = holds.header;
       channel = holds.channel;
+      identity = holds.identity;
       name = holds.name;
     })
     (exchanged.fits login provider mechanism joined.client_limit joined.server_limit client server

@@ -26,7 +26,7 @@ module _ (login : Login) (client_events : List Given) (client_replies : List Cli
   sides = sides_of login client_events client_replies provider server_events server_replies
 
   abbrev exchange : Exchange
-  exchange = step.exchange_of login provider.rules password salt count run.offer.nonce run.init.nonce
+  exchange = step.exchange_of login provider.rules provider.rights password salt count run.offer.nonce run.init.nonce
 
   client_event : (k : ℕ) → slice_get client_events k ≡ slice_get (run.offer ∷ run.challenge ∷ run.outcome ∷ []) k
   client_event k = ap (λ (events : List Given). slice_get events k) run.client_events

@@ -12,7 +12,7 @@ use Rattle.fe2o3_sasl_core.specs.Events.{Given, ServerSays, Challenged, Conclude
 use Rattle.fe2o3_sasl_core.specs.Positions.{test_at}
 use Rattle.fe2o3_sasl_core.specs.Profiles.{Profile, scram_profile, accepts_signature_by_challenge}
 use Rattle.fe2o3_sasl_core.specs.Runs.{AcceptorSteps, ProfileSteps, Runs}
-use Rattle.fe2o3_sasl_core.specs.SaslAcceptor.{Acceptor, ScramAcceptor, acceptor_machine, acceptor_user}
+use Rattle.fe2o3_sasl_core.specs.SaslAcceptor.{Acceptor, ScramAcceptor, acceptor_acting, acceptor_machine, acceptor_user}
 use Rattle.fe2o3_sasl_core.specs.ServerHistory.{final_message, is_challenge, is_ok}
 use Rattle.fe2o3_sasl_core.specs.TwoSides.{Histories}
 use Rattle.fe2o3_sasl_core.specs.UnalteredRuns.{Suffices, Arrives, UnalteredRun, client_body, server_body}
@@ -30,6 +30,7 @@ use Rattle.fe2o3_sasl_negotiation.specs.Laws.{Negotiates}
 use Rattle.fe2o3_sasl_negotiation.specs.Negotiations.{Side, SideOutput}
 use Rattle.fe2o3_sasl_negotiation.proofs.lemmas.UnitLemmas.{behind_answer}
 use Rattle.connection_laws.specs.Unaltered.{BothLogIn}
+use Rattle.connection_laws.proofs.lemmas.ActingLemmas.{acts_for}
 use Rattle.connection_laws.proofs.lemmas.ExactSideLemmas.{Exact}
 use Rattle.connection_laws.proofs.lemmas.OneLoginLemmas.{one_login}
 use Rattle.connection_laws.proofs.lemmas.SmallReplyLemmas.{nonce_is_printable, report_is_small}
@@ -207,6 +208,7 @@ module _ (c : Case) (u : UpToOk c) where
         client_progress = client_in;
         server_progress = server_in;
         user = ap (λ (s : Side Acceptor). acceptor_user s.state) u.server_rests ∙ names;
+        identity = ap (λ (s : Side Acceptor). acceptor_acting s.state) u.server_rests ∙ acts_for c u;
         client_received = u.server_all ∙ ap (λ (l : List ℕ).
             sasl_header ++ (framed u.offer ++ (framed u.challenge ++ (framed u.outcome ++ l)))) rests.0;
         server_received = u.client_all ∙ ap (λ (l : List ℕ). framed u.init ++ (framed u.response ++ l)) rests.1;

@@ -161,6 +161,7 @@ module _ (c : Case) where
     within = c.holds.within;
     header = c.holds.header;
     channel = c.holds.channel;
+    identity = c.holds.identity;
     name = c.holds.name;
   }
 
@@ -276,7 +277,7 @@ module _ (c : Case) where
 
 -- the client's and the server's exchange with these nonces
 abbrev pub exchange_by : Case → List ℕ → List ℕ → Exchange
-exchange_by c mine theirs = step.exchange_of c.login c.provider.rules c.password c.salt c.count mine theirs
+exchange_by c mine theirs = step.exchange_of c.login c.provider.rules c.provider.rights c.password c.salt c.count mine theirs
 
 -- an unaltered connection up to the server's Ok, which the client has taken
 pub record UpToOk (c : Case) : Type 0 where

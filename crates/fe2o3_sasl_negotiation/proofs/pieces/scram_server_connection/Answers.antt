@@ -1,6 +1,6 @@
 use Rattle.std.proofs.Common.{ap, ◌∙◌, map, subst, false}
 use Rattle.fe2o3_scram.specs.ClientFirst.{default_rules}
-use Rattle.fe2o3_scram.specs.Credentials.{serving}
+use Rattle.fe2o3_scram.specs.Credentials.{serving, with_rights}
 use Rattle.fe2o3_scram.specs.MockSettings.{mocking}
 use Rattle.fe2o3_scram.specs.ScramServer.{Initial, served_by, state_in}
 use Rattle.fe2o3_sasl_core.specs.SaslAcceptor.{Acceptor, ScramAcceptor, acceptor_machine, acceptor_names}
@@ -21,8 +21,8 @@ returns-clause-connection g c =
     subst (λ (acceptor : Acceptor). ServerConnection acceptor_names acceptor_machine 512 acceptor
     (map piece_of c.args.pieces.now) (first_bytes (map piece_of c.args.pieces.now) served.pieces served.bytes)
     served.sent.items (server_side (λ server. ScramAcceptor (served_by m.meaning server) (state_in server)) served.side))
-    (λ i. ScramAcceptor (mocking (c.new.ensures.mock i) (serving (c.new.ensures.rules i) (made i)))
-    (c.new.ensures.state i)) (holds are_bytes))
+    (λ i. ScramAcceptor (with_rights (c.new.ensures.rights i) (mocking (c.new.ensures.mock i)
+    (serving (c.new.ensures.rules i) (made i)))) (c.new.ensures.state i)) (holds are_bytes))
     c.server_connection.ensures.connection
 
 pub returns-clause-headline : goal.returns-clause-headline
