@@ -840,6 +840,8 @@ struct fe2o3_scram_server {
     uint32_t nonce_len;
     /* The number of bytes of `first` in use. */
     uint32_t first_len;
+    /* The number of bytes of `acts_for` in use, or 0 if the client acts for itself. */
+    uint32_t acts_for_len;
     /* The user name, without escapes. While a challenge is open the client only claims it; afterwards it is
      * authenticated. */
     uint8_t user[256];
@@ -849,6 +851,9 @@ struct fe2o3_scram_server {
     uint8_t nonce[512];
     /* The server-first message. */
     uint8_t first[1024];
+    /* The identity that the client acts for, without escapes (RFC 5802, section 5.1). While a challenge is open the client
+     * only names it; afterwards the user may act for it. */
+    uint8_t acts_for[256];
 };
 
 /* What identifies the channel of a server (RFC 5802, section 6). All zeros is a server that binds no channel. */
@@ -888,7 +893,20 @@ struct fe2o3_scram_rules {
     uint32_t strict;
     /* The server's channel, if it is of the mechanism with `-PLUS`. */
     struct fe2o3_server_channels channels;
+    /* Whether a client may name an identity to act for (RFC 5802, section 5.1). 0 is no, any other value yes. The identity
+     * is of one or more characters and without NUL (FE2O3_SERVER_CANNOT_PARSE_GS2_HEADER), and such a server tests the
+     * extensions like a strict one. By itself the option lets each user name only itself. */
+    uint32_t accept_authzid;
+    /* The identities that the claimed user may act for besides itself (RFC 4422, section 2), without escapes, with a zero
+     * byte after each. It is read with the client-final message: look up the identities of the user
+     * (`fe2o3_scram_server_claimed_user_with_rules`), or only whether it may act for the one that the client names
+     * (`fe2o3_scram_server_claimed_identity`). A user who may not act for the identity gets
+     * FE2O3_SERVER_AUTHENTICATION_FAILED, like one with a wrong password. */
+    const uint8_t *identities;
+    size_t identities_len;
 };
+/* Its value without options. */
+#define FE2O3_SCRAM_RULES_INIT { 0, 0, 0, 0, (const uint8_t *)"", 0 }
 
 /* Writes the user name that a client-first message claims, without escapes. Nobody is authenticated yet: use it only
  * to look up the record. */
@@ -961,16 +979,18 @@ uint32_t fe2o3_scram_server_claimed_user_with_rules(
  * `fe2o3_scram_server_first` does.
  *
  * If the server binds channels, the GS2 header has to be `p=` with the name of a kind whose data the rules have
- * (section 6). Otherwise it has to be `n,,`, or `y,,` if the rules accept that.
+ * (section 6). Otherwise it has to be `n,,`, or `y,,` if the rules accept that. It may name an identity to act for, as
+ * `n,a=NAME,`, if the rules accept that.
  *
  * The errors are, in this order:
  *
  * - FE2O3_CHANNEL_DATA_LENGTH if the rules bind channels, and data have more than 64 bytes,
  * - FE2O3_SERVER_UTF8_ERROR,
- * - FE2O3_SERVER_CANNOT_PARSE_GS2_HEADER if the rules do not accept the header,
+ * - FE2O3_SERVER_CANNOT_PARSE_GS2_HEADER if the rules do not accept the header, or its identity is empty, has NUL or a
+ *   wrong escape,
  * - FE2O3_SERVER_CANNOT_PARSE_USERNAME and FE2O3_SERVER_CANNOT_PARSE_CLIENT_NONCE,
  * - the same two of a strict server, if the name is empty or has NUL, or the nonce is empty or not printable,
- * - FE2O3_SERVER_MISPLACED_ATTRIBUTE of a server that is strict or binds channels,
+ * - FE2O3_SERVER_MISPLACED_ATTRIBUTE of a server that is strict, binds channels or accepts identities,
  * - FE2O3_NO_SUCH_VERSION and FE2O3_TOO_LONG if `kept` holds no record,
  * - FE2O3_TOO_LONG if a text of the challenge does not fit into the struct,
  * - FE2O3_ROOM_TOO_SMALL. */
@@ -1003,8 +1023,10 @@ uint32_t fe2o3_scram_server_first_with_rules(
  *   the rules,
  * - FE2O3_SERVER_CANNOT_PARSE_CLIENT_FINAL_MESSAGE and FE2O3_SERVER_INCORRECT_CLIENT_FINAL_NONCE,
  * - FE2O3_SERVER_PROOF_NOT_FOUND_IN_CLIENT_FINAL and FE2O3_SERVER_BASE64_DECODE_ERROR, of the proof,
- * - FE2O3_SERVER_MISPLACED_ATTRIBUTE of a server that is strict or binds channels,
- * - FE2O3_SERVER_XOR_LENGTH_MISMATCH and FE2O3_SERVER_AUTHENTICATION_FAILED if the proof is wrong. */
+ * - FE2O3_SERVER_MISPLACED_ATTRIBUTE of a server that is strict, binds channels or accepts identities,
+ * - FE2O3_SERVER_XOR_LENGTH_MISMATCH if the proof is not as long as a digest,
+ * - FE2O3_SERVER_AUTHENTICATION_FAILED if the proof is wrong, or the user may not act for the identity that the client
+ *   named (RFC 4422, section 2). */
 uint32_t fe2o3_scram_server_final_with_rules(
     const struct fe2o3_scram_rules *rules,
     const struct fe2o3_scram_record *kept,
@@ -1018,6 +1040,26 @@ uint32_t fe2o3_scram_server_final_with_rules(
 /* Writes the name of the authenticated user, without escapes. Returns FE2O3_SERVER_ILLEGAL_AUTHENTICATOR_STATE if no
  * user is authenticated. */
 uint32_t fe2o3_scram_server_authenticated_user(
+    const struct fe2o3_scram_server *server,
+    uint8_t *out,
+    size_t out_size,
+    size_t *out_len);
+
+/* Writes the identity that a client-first message names to act for, without escapes, or 0 bytes if the client acts for
+ * itself. It is only claimed, like the user's name: use it only to look up whether the user may act for it. The message is
+ * read like by `fe2o3_scram_server_claimed_user_with_rules`, and the errors are the same. */
+uint32_t fe2o3_scram_server_claimed_identity(
+    const struct fe2o3_scram_rules *rules,
+    const uint8_t *client_first,
+    size_t client_first_len,
+    uint8_t *out,
+    size_t out_size,
+    size_t *out_len);
+
+/* Writes the identity that the authenticated user acts for, without escapes, or 0 bytes if the user acts for itself (RFC
+ * 4422, section 2). The user may act for it. Returns FE2O3_SERVER_ILLEGAL_AUTHENTICATOR_STATE if no user is
+ * authenticated. */
+uint32_t fe2o3_scram_server_acts_for(
     const struct fe2o3_scram_server *server,
     uint8_t *out,
     size_t out_size,
@@ -1205,6 +1247,13 @@ struct fe2o3_sasl_server_config {
      * the other mechanisms. SCRAM without `-PLUS` then accepts no client that has seen no such mechanism (`y,,`; RFC
      * 5802, section 6), whatever FE2O3_ACCEPT_CBIND_FLAG_Y says. */
     struct fe2o3_server_channels channels;
+    /* Whether a client of SCRAM may name an identity to act for (RFC 5802, section 5.1), as by the field `accept_authzid` of
+     * struct fe2o3_scram_rules. 0 is no, any other value yes. */
+    uint32_t accept_authzid;
+    /* The identities that the user may act for besides itself (RFC 4422, section 2), without escapes, with a zero byte
+     * after each. After the login `fe2o3_scram_server_acts_for` returns the one that the user acts for. */
+    const uint8_t *identities;
+    size_t identities_len;
 };
 
 /* The server's side of a connection between calls. All zeros is a connection that has received nothing. */
@@ -1212,7 +1261,8 @@ struct fe2o3_sasl_server {
     /* The connection. */
     struct fe2o3_connection connection;
     /* The SCRAM server. After a login by any mechanism it holds the authenticated user
-     * (`fe2o3_scram_server_authenticated_user`). ANONYMOUS has none. */
+     * (`fe2o3_scram_server_authenticated_user`), and after one by SCRAM the identity that the user acts for
+     * (`fe2o3_scram_server_acts_for`). ANONYMOUS has no user. */
     struct fe2o3_scram_server scram;
 };
 

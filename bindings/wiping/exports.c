@@ -296,6 +296,27 @@ uint32_t fe2o3_scram_server_authenticated_user(const struct fe2o3_scram_server *
     return answer;
 }
 
+uint32_t proved_fe2o3_scram_server_claimed_identity(const struct fe2o3_scram_rules *rules, const uint8_t *client_first,
+    size_t client_first_len, uint8_t *out, size_t out_size, size_t *out_len);
+uint32_t fe2o3_scram_server_claimed_identity(const struct fe2o3_scram_rules *rules, const uint8_t *client_first,
+    size_t client_first_len, uint8_t *out, size_t out_size, size_t *out_len)
+{
+    uint32_t answer = proved_fe2o3_scram_server_claimed_identity(rules, client_first, client_first_len, out, out_size,
+        out_len);
+    clear_stack(depth_scram_server_claimed_identity);
+    return answer;
+}
+
+uint32_t proved_fe2o3_scram_server_acts_for(const struct fe2o3_scram_server *server, uint8_t *out, size_t out_size,
+    size_t *out_len);
+uint32_t fe2o3_scram_server_acts_for(const struct fe2o3_scram_server *server, uint8_t *out, size_t out_size,
+    size_t *out_len)
+{
+    uint32_t answer = proved_fe2o3_scram_server_acts_for(server, out, out_size, out_len);
+    clear_stack(depth_scram_server_acts_for);
+    return answer;
+}
+
 uint32_t proved_fe2o3_scram_server_error(const uint8_t *message, size_t message_len);
 uint32_t fe2o3_scram_server_error(const uint8_t *message, size_t message_len)
 {

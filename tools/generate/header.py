@@ -38,7 +38,7 @@ SECTIONS = [  # in the order of use: a title, the structs, and the functions aft
     ("A SCRAM server, over messages", "ScramServer ServerChannels ScramRules",
      "scram_server_claimed_user scram_server_first scram_server_first_with_cbind_flag_y scram_server_final"
      " scram_server_claimed_user_with_rules scram_server_first_with_rules scram_server_final_with_rules"
-     " scram_server_authenticated_user"),
+     " scram_server_authenticated_user scram_server_claimed_identity scram_server_acts_for"),
     ("Errors that a server sends in the place of a message", "",
      "scram_server_error scram_server_error_text scram_server_error_message"),
     ("PLAIN and EXTERNAL, over messages", "", "plain_message plain_claimed_user plain_verify external_verify"),

@@ -1,5 +1,5 @@
 -- What a struct of a SCRAM server keeps of a login that is not complete.
-use Rattle.std.proofs.Common.{arith, refl, sym, ap, ◌∙◌, ◌≡◌, ◌≤◌, ◌<◌, ◌-◌, ℕ, List, length}
+use Rattle.std.proofs.Common.{arith, refl, sym, ap, inl, inr, ◌∙◌, ◌≡◌, ◌⊎◌, ◌≤◌, ◌<◌, ◌-◌, ℕ, List, length}
 use Rattle.std.specs.Prelude.{Option, Some, None, replicate, take}
 use Rattle.std.specs.Str.{IsAscii, IsUtf8}
 use Rattle.std.proofs.lemmas.List.{length-take}
@@ -12,7 +12,7 @@ use Rattle.fe2o3_scram.specs.declared.scram_messages.channel_binding_flag.Channe
 use Rattle.fe2o3_scram.specs.declared.scram_messages.channel_binding_flag.ChannelBindingFlag.TheVariants.{NotSupported, ClientSupports, Required}
 use Rattle.fe2o3_scram.specs.ServerFirst.{ServerChallenge}
 use Rattle.sasl_c.specs.declared.server.ScramServer.{ScramServer as ScramStruct}
-use Rattle.sasl_c.specs.Server.{KeptExchange, NothingKept, ChallengeOpen, SignatureSent, InitialResponseAsked, PendingInit, AsksHostname, AsksInAscii, HasAsked, HasRoomForInit, ChallengeHasRoom, HasSigned, IsOpen, ShowsExchange, asked_number, asked_struct, open_number, or_empty}
+use Rattle.sasl_c.specs.Server.{KeptExchange, NothingKept, ChallengeOpen, SignatureSent, InitialResponseAsked, PendingInit, AsksHostname, AsksInAscii, HasAsked, HasRoomForInit, ChallengeHasRoom, HasSigned, IdentityHasRoom, IsOpen, ShowsExchange, asked_number, asked_struct, open_number, or_empty}
 use Rattle.sasl_c.specs.Status.{version_number}
 use Rattle.sasl_c.proofs.StatusLemmas.{carried}
 
@@ -29,6 +29,7 @@ open_room scram challenge is = let lengths = is.1 in (
   short scram.bare_len 1024 scram.bare challenge.bare (ap (λ (c : ServerChallenge). c.bare) is.2) lengths.1,
   short scram.nonce_len 512 scram.nonce challenge.nonce (ap (λ (c : ServerChallenge). c.nonce) is.2) lengths.2,
   short scram.first_len 1024 scram.first challenge.first (ap (λ (c : ServerChallenge). c.first) is.2) lengths.3,
+  is.4.2,
 )
 
 -- no number of an open challenge is 0
@@ -50,7 +51,7 @@ pub keeps_nothing : (scram : ScramStruct) (exchange : KeptExchange) → exchange
     → ShowsExchange scram exchange
 keeps_nothing scram exchange is fresh = carried (ShowsExchange scram) NothingKept exchange (sym is) (
   (λ version challenge shown. never_zero challenge.header.flag (sym fresh ∙ shown.1.0)),
-  (λ user shown. absurd (omega (arith, fresh, shown.0))),
+  (λ user acts_for shown. absurd (omega (arith, fresh, shown.0))),
   λ init shown. never_asked scram init.hostname fresh shown.0,
 )
 
@@ -66,16 +67,22 @@ pub no_challenge_room : (exchange : KeptExchange) (version : ScramVersion) (chal
 no_challenge_room exchange version challenge is wide scram shown =
     wide (open_room scram challenge (carried (ShowsExchange scram) exchange (ChallengeOpen version challenge) is shown).1)
 
-pub keeps_user : (scram : ScramStruct) (exchange : KeptExchange) (user : List ℕ) → exchange ≡ SignatureSent user
-    → HasSigned scram user → ShowsExchange scram exchange
-keeps_user scram exchange user is shown =
-    carried (ShowsExchange scram) (SignatureSent user) exchange (sym is) shown
+pub keeps_user : (scram : ScramStruct) (exchange : KeptExchange) (user : List ℕ) (acts_for : Option (List ℕ))
+    → exchange ≡ SignatureSent user acts_for → HasSigned scram user acts_for → ShowsExchange scram exchange
+keeps_user scram exchange user acts_for is shown =
+    carried (ShowsExchange scram) (SignatureSent user acts_for) exchange (sym is) shown
 
-pub no_user_room : (exchange : KeptExchange) (user : List ℕ) → exchange ≡ SignatureSent user → 256 < length user
-    → (scram : ScramStruct) → ¬ ShowsExchange scram exchange
-no_user_room exchange user is long scram shown =
-    let held = carried (ShowsExchange scram) exchange (SignatureSent user) is shown in
+no_room_signed : (user : List ℕ) (acts_for : Option (List ℕ)) → (256 < length user) ⊎ ¬ IdentityHasRoom acts_for
+    → (scram : ScramStruct) → ¬ HasSigned scram user acts_for
+no_room_signed user acts_for (inl long) scram held =
     absurd (omega (arith, long, short scram.user_len 256 scram.user user held.2 held.1))
+no_room_signed user acts_for (inr wide) scram held = wide held.4.2
+
+pub no_user_room : (exchange : KeptExchange) (user : List ℕ) (acts_for : Option (List ℕ))
+    → exchange ≡ SignatureSent user acts_for → (256 < length user) ⊎ ¬ IdentityHasRoom acts_for
+    → (scram : ScramStruct) → ¬ ShowsExchange scram exchange
+no_user_room exchange user acts_for is long scram shown =
+    no_room_signed user acts_for long scram (carried (ShowsExchange scram) exchange (SignatureSent user acts_for) is shown)
 
 pub keeps_init : (scram : ScramStruct) (exchange : KeptExchange) (init : PendingInit)
     → exchange ≡ InitialResponseAsked init → HasAsked scram init → ShowsExchange scram exchange
@@ -92,7 +99,7 @@ pub asks_in_ascii : (scram : ScramStruct) (exchange : KeptExchange) → ShowsExc
     → AsksInAscii exchange
 asks_in_ascii scram NothingKept shows = tt
 asks_in_ascii scram (ChallengeOpen version challenge) shows = tt
-asks_in_ascii scram (SignatureSent user) shows = tt
+asks_in_ascii scram (SignatureSent user acts_for) shows = tt
 asks_in_ascii scram (InitialResponseAsked init) shows = shows.5
 
 -- ---- the struct of an init that was asked

@@ -3,8 +3,10 @@ pub mod StatusLemmas
 pub mod TextLemmas
 pub mod RecordLemmas
 pub mod ClientLemmas
+pub mod IdentityLemmas
 pub mod ServerLemmas
 pub mod OpenLemmas
+pub mod ActingLemmas
 pub mod RulesLemmas
 pub mod StateLemmas
 pub mod ClientReachLemmas

@@ -15,7 +15,7 @@ use Rattle.fe2o3_sasl_negotiation.specs.declared.progress.Progress.TheVariants.{
 use Rattle.fe2o3_sasl_negotiation.specs.declared.progress.FrameKind.TheVariants as turns
 use Rattle.fe2o3_sasl_negotiation.specs.Framing.{IsPart}
 use Rattle.fe2o3_sasl_negotiation.specs.Negotiations.{Side}
-use Rattle.fe2o3_sasl_negotiation.specs.Snapshot.{client_fits, client_due, IsClientKept, side_of}
+use Rattle.fe2o3_sasl_negotiation.specs.Snapshot.{client_fits, client_due, IsClientKept, NamesNone, side_of}
 use Rattle.sasl_c.specs.declared.client.ScramClient.{ScramClient as ScramStruct}
 use Rattle.sasl_c.specs.declared.connection.Connection.{Connection as Kept}
 use Rattle.sasl_c.specs.declared.sasl_client.SaslClient.{SaslClient as Struct}
@@ -137,7 +137,7 @@ one_due expected other same = sym (named_back expected) ∙ (ap due_named same �
 
 keeps_no_part : (client : Struct) (kept : Snapshot)
     → Keeps client.connection kept.progress kept.expected kept.held.now → kept.progress ≡ InProgress → kept.limit ≡ 512
-    → shown kept.user ≡ None → ¬ IsClientKept kept → KeepsNoPartOf client_due client.connection
+    → NamesNone kept → ¬ IsClientKept kept → KeepsNoPartOf client_due client.connection
 keeps_no_part client kept keeps wanting limit mock wrong = λ expected held other unit part.
     let one = one_due expected kept.expected (other.expected ∙ sym keeps.expected) in
     let stands = carried (λ s. Keeps client.connection s kept.expected kept.held.now) kept.progress InProgress wanting keeps in
@@ -192,7 +192,7 @@ no_profile login client kept status keeps wanting named wrong =
 
 pub is_not_kept : (login : Login) (client : Struct) (kept : Snapshot) (profile : Profile)
     → Keeps client.connection kept.progress kept.expected kept.held.now → kept.progress ≡ InProgress → kept.limit ≡ 512
-    → shown kept.user ≡ None → ¬ HasNoHostname login → IsProfile login client.scram profile → ¬ IsClientKept kept
+    → NamesNone kept → ¬ HasNoHostname login → IsProfile login client.scram profile → ¬ IsClientKept kept
     → IsNoClient login client statuses.InvalidSnapshot
 is_not_kept login client kept profile keeps wanting limit mock named is wrong = inr (
   none_holds client kept keeps wanting,

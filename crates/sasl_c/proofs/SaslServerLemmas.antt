@@ -1,5 +1,5 @@
 -- What structs show of a server of a connection, and of which server they are (AMQP 1.0, part 5, section 5.3.2).
-use Rattle.std.proofs.Common.{arith, refl, sym, ap, inl, inr, ◌∙◌, ◌≡◌, ◌≢◌, ◌≤◌, ◌<◌, ◌+◌, ◌*◌, ◌∷◌, ◌++◌, ℕ, List, [], length}
+use Rattle.std.proofs.Common.{arith, refl, sym, ap, inl, inr, ◌∙◌, ◌≡◌, ◌≢◌, ◌≤◌, ◌<◌, ◌⊎◌, ◌+◌, ◌*◌, ◌∷◌, ◌++◌, ℕ, List, [], length}
 use Rattle.std.specs.Prelude.{Bool, true, false, MatchOption, Option, Some, None, Ok, Err, option_map}
 use Rattle.std.specs.Str.{IsUtf8}
 use Rattle.std.proofs.lemmas.List.{append-nil, append_assoc}
@@ -35,9 +35,9 @@ use Rattle.sasl_c.specs.SaslServer.{AddsRecord, AreFresh, HasNoServerWords, HasN
 use Rattle.fe2o3_sasl_core.specs.ExtraChallenges.{Phase}
 use Rattle.fe2o3_sasl_core.specs.declared.extra_challenges.ExtraChallenges.{ExtraChallenges}
 use Rattle.fe2o3_sasl_core.specs.declared.extra_challenges.WithExtraChallenges.{WithExtraChallenges}
-use Rattle.fe2o3_sasl_core.specs.PasswordServer.{PasswordState, SavedExchange, ScramsAt, exchange_with, part_asked, password_names, password_open, password_server, password_server_in, password_user, scrams_at}
+use Rattle.fe2o3_sasl_core.specs.PasswordServer.{PasswordState, SavedExchange, ScramsAt, exchange_with, part_asked, password_acting, password_names, password_open, password_server, password_server_in, password_user, scrams_at}
 use Rattle.fe2o3_sasl_core.specs.declared.password_server.PasswordServer.{PasswordServer}
-use Rattle.sasl_c.specs.Server.{KeptExchange, NothingKept, ChallengeOpen, SignatureSent, InitialResponseAsked, IsAuthenticated, IsPhaseOf, ShowsExchange, open_exchange, phase_for, signed_exchange}
+use Rattle.sasl_c.specs.Server.{KeptExchange, NothingKept, ChallengeOpen, SignatureSent, InitialResponseAsked, IdentityHasRoom, IsLoggedIn, IsPhaseOf, ShowsExchange, open_exchange, phase_for, signed_exchange}
 use Rattle.sasl_c.specs.Status.{version_number}
 use Rattle.sasl_c.proofs.ExchangeLemmas.{short}
 use Rattle.sasl_c.proofs.StatusLemmas.{carried}
@@ -229,14 +229,14 @@ some_digest versions.Sha512 = omega arith
 never_read : (server : Server) (text : List ℕ) (final : ClientFinal) → server.stored.stored_key ≡ []
     → ReadsClientFinal server text (Ok final) → ⊥
 unfolding ReadsClientFinal
-never_read server text final none (read, sized, meets) =
+never_read server text final none (read, sized, (meets, may)) =
     let empty : digest_len server.version ≡ 0 = sym (length-digest server.version _) ∙ ap length (meets ∙ none) in
     absurd (omega (arith, empty, some_digest server.version))
 
 pub never_met : NoRecordIsUnmet
 unfolding NoRecordIsUnmet
-never_met challenge version rules text message next ((final, read, sent), then) =
-    never_read (server_against version rules challenge record_without_keys) text final refl read
+never_met challenge version rules rights text message next ((final, read, sent), then) =
+    never_read (server_against version rules rights challenge record_without_keys) text final refl read
 
 -- ---- the server of a configuration
 
@@ -274,7 +274,7 @@ module _ (config : Config) (choice : Choice) (records : MultiRecords) (signed : 
   stands : (exchange : KeptExchange) → StandsSo (saved exchange)
   stands NothingKept = (fresh, fresh, refl)
   stands (ChallengeOpen version challenge) = stands_at version (is_required challenge.header.flag) _
-  stands (SignatureSent user) = stands_at signed false _
+  stands (SignatureSent user acts_for) = stands_at signed false _
   stands (InitialResponseAsked init) = (fresh, fresh, refl)
 
   served_in : (exchange : KeptExchange) → served exchange
@@ -283,7 +283,7 @@ module _ (config : Config) (choice : Choice) (records : MultiRecords) (signed : 
       (option_map (λ (one : SavedExchange). First) (saved exchange))
   served_in NothingKept = refl
   served_in (ChallengeOpen version challenge) = refl
-  served_in (SignatureSent user) = refl
+  served_in (SignatureSent user acts_for) = refl
   served_in (InitialResponseAsked init) = refl
 
   -- it keeps just this
@@ -305,23 +305,28 @@ module _ (config : Config) (choice : Choice) (records : MultiRecords) (signed : 
   keeps_open version challenge =
       keeps_at version (is_required challenge.header.flag) challenge (record_for records version challenge.user)
 
-  keeps_user : (version : ScramVersion) (user : List ℕ)
-      → signed_exchange (password_user (password_server (settings_for config choice records
-      (Some (record { version = version; plus = false; state = ServerFinalSent user }))))) ≡ SignatureSent user
-  keeps_user versions.Sha1 user = refl
-  keeps_user versions.Sha256 user = refl
-  keeps_user versions.Sha512 user = refl
+  -- the server after the login of a user
+  abbrev signed_in : ScramVersion → List ℕ → Option (List ℕ) → PasswordState
+  signed_in version user acts_for = password_server (settings_for config choice records
+      (Some (record { version = version; plus = false; state = ServerFinalSent user acts_for })))
+
+  keeps_user : (version : ScramVersion) (user : List ℕ) (acts_for : Option (List ℕ))
+      → signed_exchange (password_user (signed_in version user acts_for)) (password_acting (signed_in version user acts_for))
+      ≡ SignatureSent user acts_for
+  keeps_user versions.Sha1 user acts_for = refl
+  keeps_user versions.Sha256 user acts_for = refl
+  keeps_user versions.Sha512 user acts_for = refl
 
   keeps : (exchange : KeptExchange) → kept_exchange (extended exchange) ≡ exchange
   keeps NothingKept = refl
   keeps (ChallengeOpen version challenge) = keeps_open version challenge
-  keeps (SignatureSent user) = keeps_user signed user
+  keeps (SignatureSent user acts_for) = keeps_user signed user acts_for
   keeps (InitialResponseAsked init) = refl
 
   in_phase : (exchange : KeptExchange) → IsPhaseOf exchange (phase_for exchange)
   in_phase NothingKept = inl refl
   in_phase (ChallengeOpen version challenge) = inl refl
-  in_phase (SignatureSent user) = inl refl
+  in_phase (SignatureSent user acts_for) = inl refl
   in_phase (InitialResponseAsked init) = refl
 
   is_of : (exchange : KeptExchange) → sum_of choice ≡ config.mechanisms → HasRecords config records
@@ -375,22 +380,30 @@ pub no_words : (config : Config) (choice : Choice) (status : Status) → sum_of 
     → HasNoServerWords config status → IsNoConfig config status
 unfolding IsNoConfig
 no_words config choice status sum (is, inl wrong) = inl (inr ((λ none. none choice sum), inl (wrong, is)))
-no_words config choice status sum (is, inr (name, wrong)) =
+no_words config choice status sum (is, inr (inl (name, wrong))) =
     inl (inr ((λ none. none choice sum), inr ((λ other. other name), inl (wrong, is))))
+no_words config choice status sum (is, inr (inr (name, peer, wrong))) =
+    inl (inr ((λ none. none choice sum), inr ((λ other. other name), inr ((λ other. other peer), inl (wrong, is)))))
 
 pub no_channels : (config : Config) (choice : Choice) → sum_of choice ≡ config.mechanisms → IsUtf8 config.username.now
-    → IsUtf8 config.external_authcid.now → HasLongData config.channels → IsNoConfig config statuses.ChannelDataLength
+    → IsUtf8 config.external_authcid.now → IsUtf8 config.identities.now → HasLongData config.channels
+    → IsNoConfig config statuses.ChannelDataLength
 unfolding IsNoConfig
-no_channels config choice sum name peer long = inl
-    (inr ((λ none. none choice sum), inr ((λ wrong. wrong name), inr ((λ wrong. wrong peer), inl (long, refl)))))
+no_channels config choice sum name peer words long = inl (inr (
+  (λ none. none choice sum),
+  inr (
+    (λ wrong. wrong name),
+    inr ((λ wrong. wrong peer), inr ((λ wrong. wrong words), inl (long, refl))),
+  ),
+))
 
 pub no_offer : (config : Config) (choice : Choice) (records : MultiRecords) (signed : ScramVersion)
     (exchange : KeptExchange) → sum_of choice ≡ config.mechanisms → HasRecords config records
-    → IsUtf8 config.username.now → IsUtf8 config.external_authcid.now → ¬ HasLongData config.channels
-    → password_names (served config choice records signed exchange) ≡ [] → IsNoConfig config statuses.NoSuchMechanism
+    → IsUtf8 config.username.now → IsUtf8 config.external_authcid.now → IsUtf8 config.identities.now
+    → ¬ HasLongData config.channels → password_names (served config choice records signed exchange) ≡ [] → IsNoConfig config statuses.NoSuchMechanism
 unfolding IsNoConfig
-no_offer config choice records signed exchange sum has name peer short nothing = inr (
-  ((λ none. none choice sum), ((λ wrong. wrong name), ((λ wrong. wrong peer), (short, tt)))),
+no_offer config choice records signed exchange sum has name peer words short nothing = inr (
+  ((λ none. none choice sum), ((λ wrong. wrong name), ((λ wrong. wrong peer), ((λ wrong. wrong words), (short, tt))))),
   refl,
   (
     exchange,
@@ -401,58 +414,62 @@ no_offer config choice records signed exchange sum has name peer short nothing =
 )
 
 pub no_test : (config : Config) (choice : Choice) → sum_of choice ≡ config.mechanisms → IsUtf8 config.username.now
-    → IsUtf8 config.external_authcid.now → ¬ HasLongData config.channels → NoneHolds (config_tests config)
-no_test config choice sum name peer short =
-    ((λ none. none choice sum), ((λ wrong. wrong name), ((λ wrong. wrong peer), (short, tt))))
+    → IsUtf8 config.external_authcid.now → IsUtf8 config.identities.now → ¬ HasLongData config.channels
+    → NoneHolds (config_tests config)
+no_test config choice sum name peer words short =
+    ((λ none. none choice sum), ((λ wrong. wrong name), ((λ wrong. wrong peer), ((λ wrong. wrong words), (short, tt)))))
 
 pub ruleset acceptor = (no_choice, no_words, no_channels, no_test)
 
 -- ---- what the struct of SCRAM shows
 
--- a user whom a struct shows has room in it
-user_room : (scram : ScramStruct) (user : List ℕ) → IsAuthenticated scram user → length user ≤ 256
-user_room scram user is = short scram.user_len 256 scram.user user is.2 is.1
-
 -- what is shown of a login that stands so
-stands_so : (scram : ScramStruct) (progress other : Progress) (exchange : KeptExchange) (user name : Option (List ℕ))
-    → progress ≡ other → user ≡ name → ShowsProgress scram other exchange name → ShowsProgress scram progress exchange user
-stands_so scram progress other exchange user name same named shows =
-    carried (λ s. ShowsProgress scram s exchange user) other progress (sym same)
-    (carried (λ (u : Option (List ℕ)). ShowsProgress scram other exchange u) name user (sym named) shows)
+stands_so : (scram : ScramStruct) (progress other : Progress) (exchange : KeptExchange) (user name acts_for : Option (List ℕ))
+    → progress ≡ other → user ≡ name → ShowsProgress scram other exchange name acts_for
+    → ShowsProgress scram progress exchange user acts_for
+stands_so scram progress other exchange user name acts_for same named shows =
+    carried (λ s. ShowsProgress scram s exchange user acts_for) other progress (sym same)
+    (carried (λ (u : Option (List ℕ)). ShowsProgress scram other exchange u acts_for) name user (sym named) shows)
 
-pub shows_user : (scram : ScramStruct) (progress : Progress) (exchange : KeptExchange) (user : Option (List ℕ))
-    (name : List ℕ) → progress ≡ Authenticated → user ≡ Some name → IsAuthenticated scram name
-    → ShowsProgress scram progress exchange user
-shows_user scram progress exchange user name in_is some is =
-    stands_so scram progress Authenticated exchange user (Some name) in_is some is
+pub shows_user : (scram : ScramStruct) (progress : Progress) (exchange : KeptExchange) (user acts_for : Option (List ℕ))
+    (name : List ℕ) → progress ≡ Authenticated → user ≡ Some name → IsLoggedIn scram name acts_for
+    → ShowsProgress scram progress exchange user acts_for
+shows_user scram progress exchange user acts_for name in_is some is =
+    stands_so scram progress Authenticated exchange user (Some name) acts_for in_is some is
 
-pub shows_no_user : (scram : ScramStruct) (progress : Progress) (exchange : KeptExchange) (user : Option (List ℕ))
-    → progress ≡ Authenticated → user ≡ None → scram.state ≡ 0 → ShowsProgress scram progress exchange user
-shows_no_user scram progress exchange user in_is none fresh =
-    stands_so scram progress Authenticated exchange user None in_is none fresh
+pub shows_no_user : (scram : ScramStruct) (progress : Progress) (exchange : KeptExchange) (user acts_for : Option (List ℕ))
+    → progress ≡ Authenticated → user ≡ None → scram.state ≡ 0 → ShowsProgress scram progress exchange user acts_for
+shows_no_user scram progress exchange user acts_for in_is none fresh =
+    stands_so scram progress Authenticated exchange user None acts_for in_is none fresh
 
-pub no_user_room : (progress : Progress) (exchange : KeptExchange) (user : Option (List ℕ)) (name : List ℕ)
-    → progress ≡ Authenticated → user ≡ Some name → 256 < length name
-    → (scram : ScramStruct) → ¬ ShowsProgress scram progress exchange user
-no_user_room progress exchange user name in_is some long scram shows =
-    let is = stands_so scram Authenticated progress exchange (Some name) user (sym in_is) (sym some) shows in
-    absurd (omega (arith, user_room scram name is, long))
+-- a struct that shows a login has room for its names
+no_room_for : (scram : ScramStruct) (user : List ℕ) (acts_for : Option (List ℕ))
+    → (256 < length user) ⊎ ¬ IdentityHasRoom acts_for → ¬ IsLoggedIn scram user acts_for
+no_room_for scram user acts_for (inl long) is =
+    absurd (omega (arith, short scram.user_len 256 scram.user user is.0.2 is.0.1, long))
+no_room_for scram user acts_for (inr wide) is = wide is.1.2
+
+pub no_user_room : (progress : Progress) (exchange : KeptExchange) (user acts_for : Option (List ℕ)) (name : List ℕ)
+    → progress ≡ Authenticated → user ≡ Some name → (256 < length name) ⊎ ¬ IdentityHasRoom acts_for
+    → (scram : ScramStruct) → ¬ ShowsProgress scram progress exchange user acts_for
+no_user_room progress exchange user acts_for name in_is some wide scram shows = no_room_for scram name acts_for wide
+    (stands_so scram Authenticated progress exchange (Some name) user acts_for (sym in_is) (sym some) shows)
 
 pub shows_closed : (scram : ScramStruct) (progress : Progress) (exchange : KeptExchange)
-    (user : Option (List ℕ)) (why : CloseReason) → progress ≡ Failed why → scram.state ≡ 0
-    → ShowsProgress scram progress exchange user
-shows_closed scram progress exchange user why closed fresh =
-    stands_so scram progress (Failed why) exchange user user closed refl fresh
+    (user acts_for : Option (List ℕ)) (why : CloseReason) → progress ≡ Failed why → scram.state ≡ 0
+    → ShowsProgress scram progress exchange user acts_for
+shows_closed scram progress exchange user acts_for why closed fresh =
+    stands_so scram progress (Failed why) exchange user user acts_for closed refl fresh
 
 -- what a server keeps of a login that goes on
-pub shows_exchange : (progress : Progress) (exchange : KeptExchange) (user : Option (List ℕ))
+pub shows_exchange : (progress : Progress) (exchange : KeptExchange) (user acts_for : Option (List ℕ))
     (answer : Option ScramStruct) → progress ≡ InProgress
     → MatchOption answer ((scram : ScramStruct) → ¬ ShowsExchange scram exchange) (λ scram. ShowsExchange scram exchange)
-    → MatchOption answer ((scram : ScramStruct) → ¬ ShowsProgress scram progress exchange user)
-    (λ scram. ShowsProgress scram progress exchange user)
-shows_exchange progress exchange user answer wants held =
-    carried (λ (s : Progress). MatchOption answer ((scram : ScramStruct) → ¬ ShowsProgress scram s exchange user)
-    (λ scram. ShowsProgress scram s exchange user)) InProgress progress (sym wants) held
+    → MatchOption answer ((scram : ScramStruct) → ¬ ShowsProgress scram progress exchange user acts_for)
+    (λ scram. ShowsProgress scram progress exchange user acts_for)
+shows_exchange progress exchange user acts_for answer wants held =
+    carried (λ (s : Progress). MatchOption answer ((scram : ScramStruct) → ¬ ShowsProgress scram s exchange user acts_for)
+    (λ scram. ShowsProgress scram s exchange user acts_for)) InProgress progress (sym wants) held
 
 pub ruleset shown = (shows_exchange, shows_user, shows_no_user, no_user_room, shows_closed)
 

@@ -25,7 +25,7 @@ use Rattle.fe2o3_sasl_negotiation.specs.declared.progress.FrameKind.TheVariants 
 use Rattle.fe2o3_sasl_negotiation.specs.Framing.{IsPart, framed, sasl_header}
 use Rattle.fe2o3_sasl_negotiation.specs.Negotiations.{Reading, Side, SideOutput, Sends, ReceivesAt, closes}
 use Rattle.fe2o3_sasl_negotiation.specs.ServerNegotiation.{Offers, ServerOutputs, ServerSideAnswers, behind_header, offer_body}
-use Rattle.fe2o3_sasl_negotiation.specs.Snapshot.{server_fits, server_due, IsKept, IsServerKept, side_of}
+use Rattle.fe2o3_sasl_negotiation.specs.Snapshot.{server_fits, server_due, IsKept, IsServerKept, NamesNone, side_of}
 use Rattle.fe2o3_sasl_negotiation.proofs.lemmas.UnitLemmas.{length-framed}
 use Rattle.sasl_c.specs.declared.connection.Connection.{Connection}
 use Rattle.sasl_c.specs.declared.sasl_server.SaslServerConfig.{SaslServerConfig as Config}
@@ -305,7 +305,7 @@ keeps_no_part connection kept keeps wants limit wrong = λ expected held other p
 -- no server keeps what the struct does, where no server has these values
 pub keeps_no_server : (connection : Connection) (kept : Snapshot)
     → Keeps connection kept.progress kept.expected kept.held.now → kept.progress ≡ InProgress → kept.limit ≡ 512
-    → shown kept.user ≡ None → ¬ IsServerKept kept → KeepsNoPartOf server_due connection
+    → NamesNone kept → ¬ IsServerKept kept → KeepsNoPartOf server_due connection
 keeps_no_server connection kept keeps wants limit mock wrong = λ expected held other unit part.
     let one = one_due expected kept.expected (other.expected ∙ sym keeps.expected) in
     keeps_no_part connection kept keeps wants limit
@@ -331,7 +331,7 @@ no_config config bytes nonce before kept status keeps wants wrong =
 
 pub not_kept : (config : Config) (bytes nonce : List ℕ) (before : Struct) (kept : Snapshot) (state : State)
     (status : Status) → Keeps before.connection kept.progress kept.expected kept.held.now → kept.progress ≡ InProgress
-    → kept.limit ≡ 512 → shown kept.user ≡ None → ServerIsReached config InProgress state
+    → kept.limit ≡ 512 → NamesNone kept → ServerIsReached config InProgress state
     → (status ≡ statuses.InvalidSnapshot) × ¬ IsServerKept kept → NotReceived config bytes nonce before status
 unfolding NotReceived IsNoServer
 not_kept config bytes nonce before kept state status keeps wants limit mock comes (is, wrong) = inl (inr (
@@ -381,7 +381,7 @@ module _ (config : Config) (bytes nonce : List ℕ) (before : Struct) (kept : Sn
   short_answer after taken sent (next, held, flag, shows, written) =
       behind_short config before kept.extended_headers taken_side (side_in next) bytes nonce taken sent is wants held
 
-  pub unanswered : (status : Status) → shown kept.user ≡ None → ((status ≡ statuses.InvalidSnapshot) × ¬ IsServerKept kept)
+  pub unanswered : (status : Status) → NamesNone kept → ((status ≡ statuses.InvalidSnapshot) × ¬ IsServerKept kept)
       ⊎ ((status ≡ statuses.TooLong) × ((next : ServerConnectionSide Served) × (taken : ℕ) × (sent : List ℕ)
       × Follows taken sent next × HasNone state_of Shown next)) → NotReceived config bytes nonce before status
   unanswered status mock (inl wrong) =

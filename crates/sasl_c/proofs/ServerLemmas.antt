@@ -1,14 +1,14 @@
 -- What a server answers to a client-first message, by the struct of its user's record.
-use Rattle.std.proofs.Common.{arith, refl, sym, ap, inl, inr, ◌∙◌, ◌-◌, ◌≡◌, ◌≢◌, ◌≤◌, ℕ, List, length, replicate, take}
+use Rattle.std.proofs.Common.{arith, refl, sym, ap, inl, inr, ◌∙◌, ◌≡◌, ◌≢◌, ◌≤◌, ℕ, List, length, take}
 use Rattle.std.specs.Prelude.{Option, Result, Some, None, Ok, Err, codes}
 use Rattle.std.proofs.lemmas.List.{length-append, length-take}
-use Rattle.std.proofs.Math.Seq.{take-append_seam}
 use Rattle.fe2o3_scram.specs.declared.scram_messages.error.ServerScramErrorKind.{ServerScramErrorKind}
 use Rattle.fe2o3_scram.specs.declared.scram_messages.error.ServerScramErrorKind.TheVariants.{IllegalAuthenticatorState, OutOfMemory as NoMemory}
 use Rattle.std.proofs.lemmas.Slice.Eq.{bytes_eq-Decides}
 use Rattle.std.specs.Cmp.Lexicographic.{pointwise}
 use Rattle.std.specs.Prelude.{Bool, cond, nat_eq, true}
 use Rattle.fe2o3_scram.proofs.lemmas.messages.OneValueLemmas.{one_client_first_value}
+use Rattle.fe2o3_scram.specs.ActingRights.{may_act}
 use Rattle.fe2o3_scram.specs.ChannelBinding.{is_strict, ClientHeader, expected_header}
 use Rattle.fe2o3_scram.specs.ClientFinal.{ReachesBase64, Server, server_of}
 use Rattle.fe2o3_scram.specs.ClientFirst.{ClientFirst, ReadsClientFirst}
@@ -27,7 +27,9 @@ use Rattle.sasl_c.specs.declared.status.Status.{Status}
 use Rattle.sasl_c.specs.declared.status.Status.TheVariants as statuses
 use Rattle.sasl_c.specs.Records.{ShowsRecord, SpellsStruct}
 use Rattle.sasl_c.specs.declared.server.ScramServer.{ScramServer as Struct}
-use Rattle.sasl_c.specs.Server.{MakesChallenge, Challenges, ConcludesLogin, Concludes, FinalAsks, IsAuthenticated, MemoryCosts, ChallengeHasRoom, IsOpen, IsOpenFor, NotChallenged, OpensExchange, WritesChallenge, authenticated_struct, one_user, open_struct}
+use Rattle.sasl_c.specs.Server.{MakesChallenge, Challenges, ConcludesLogin, Concludes, FinalAsks, IdentityHasRoom, IsLoggedIn, MemoryCosts, ChallengeHasRoom, IsOpen, IsOpenFor, NotChallenged, OpensExchange, WritesChallenge, authenticated_struct, identity_in, one_user, open_struct}
+use Rattle.sasl_c.specs.Acting.{rights_for}
+use Rattle.sasl_c.proofs.IdentityLemmas.{is_logged_in}
 use Rattle.sasl_c.proofs.StatusLemmas.{carried, server_is_memory}
 use Rattle.sasl_c.specs.declared.status.WriteError.{WriteError}
 use Rattle.sasl_c.specs.declared.status.WriteError.TheVariants.{RoomTooSmall, Other}
@@ -159,36 +161,41 @@ short_final server text message held =
       short_text signature long,
     )
 
-pub concluded : (rules : ServerRules) (kept : Kept) (before : Struct) (text message : List ℕ)
+pub concluded : (rules : ServerRules) (identities : List ℕ) (kept : Kept) (before : Struct) (text message : List ℕ)
     (challenge : ServerChallenge) (shown : VersionedRecord) → IsOpenFor rules before challenge → ShowsRecord kept shown
-    → AnswersClientFinal (server_against shown.version rules challenge shown.stored) text (Ok message)
-    → ConcludesLogin rules kept before text message challenge.user × (length message ≤ 90)
+    → AnswersClientFinal
+    (server_against shown.version rules (rights_for challenge.user identities) challenge shown.stored) text (Ok message)
+    → ConcludesLogin rules identities kept before text message challenge.user challenge.header.acts_for
+    × (length message ≤ 90)
 unfolding ConcludesLogin
-concluded rules kept before text message challenge shown is shows held = (
-  (challenge, shown, is, shows, refl, (held, refl)),
+concluded rules identities kept before text message challenge shown is shows held = (
+  (challenge, shown, is, shows, refl, refl, (held, refl)),
   short_final _ text message held,
 )
 
-pub refuses : (rules : ServerRules) (kept : Kept) (before : Struct) (text : List ℕ) (challenge : ServerChallenge)
-    (shown : VersionedRecord) (why : ServerScramErrorKind) (status : Status) → IsOpenFor rules before challenge → ShowsRecord kept shown
-    → (why ≢ NoMemory → AnswersClientFinal (server_against shown.version rules challenge shown.stored) text (Err why))
-    → status ≡ server_status why → status ≢ statuses.OutOfMemory → Concludes rules kept text before before (Err status)
+pub refuses : (rules : ServerRules) (identities : List ℕ) (kept : Kept) (before : Struct) (text : List ℕ)
+    (challenge : ServerChallenge) (shown : VersionedRecord) (why : ServerScramErrorKind) (status : Status)
+    → IsOpenFor rules before challenge → ShowsRecord kept shown
+    → (why ≢ NoMemory → AnswersClientFinal
+    (server_against shown.version rules (rights_for challenge.user identities) challenge shown.stored) text (Err why))
+    → status ≡ server_status why → status ≢ statuses.OutOfMemory
+    → Concludes rules identities kept text before before (Err status)
 unfolding Concludes
-refuses rules kept before text challenge shown why status is shows held gives other =
+refuses rules identities kept before text challenge shown why status is shows held gives other =
     let told = held (λ memory. other (gives ∙ ap server_status memory)) in
     inr (inr (why, gives, (challenge, shown, is, shows, (told, refl))))
 
-pub not_open : (rules : ServerRules) (kept : Kept) (before : Struct) (text : List ℕ)
+pub not_open : (rules : ServerRules) (identities : List ℕ) (kept : Kept) (before : Struct) (text : List ℕ)
     → ((challenge : ServerChallenge) → ¬ IsOpenFor rules before challenge)
-    → Concludes rules kept text before before (Err (statuses.Server IllegalAuthenticatorState))
+    → Concludes rules identities kept text before before (Err (statuses.Server IllegalAuthenticatorState))
 unfolding Concludes
-not_open rules kept before text none = inl (refl, none)
+not_open rules identities kept before text none = inl (refl, none)
 
-pub keeps_none : (rules : ServerRules) (kept : Kept) (before : Struct) (text : List ℕ) (challenge : ServerChallenge)
-    (status : Status) → IsOpenFor rules before challenge → SpellsStruct kept (Err status)
-    → Concludes rules kept text before before (Err status)
+pub keeps_none : (rules : ServerRules) (identities : List ℕ) (kept : Kept) (before : Struct) (text : List ℕ)
+    (challenge : ServerChallenge) (status : Status) → IsOpenFor rules before challenge → SpellsStruct kept (Err status)
+    → Concludes rules identities kept text before before (Err status)
 unfolding Concludes
-keeps_none rules kept before text challenge status is wrong = inr (inl (challenge, is, wrong))
+keeps_none rules identities kept before text challenge status is wrong = inr (inl (challenge, is, wrong))
 
 -- memory is requested where the message reaches a base64 text
 pub final_asks : (rules : ServerRules) (kept : Kept) (before : Struct) (text : List ℕ) (challenge : ServerChallenge)
@@ -199,43 +206,56 @@ final_asks rules kept before text challenge shown why status is shows comes give
     ((challenge, is, comes (server_is_memory why status gives memory)), (shown, shows))
 
 -- and costs no HMAC value for a message that is rejected
-pub memory_costs : (A : Type 0) (rules : ServerRules) (kept : Kept) (before : Struct) (text : List ℕ)
-    (challenge : ServerChallenge) (header : ClientHeader) (strict : Bool) (shown : VersionedRecord)
+pub memory_costs : (A : Type 0) (rules : ServerRules) (identities : List ℕ) (kept : Kept) (before : Struct) (text : List ℕ)
+    (challenge : ServerChallenge) (header : ClientHeader) (strict acts : Bool) (shown : VersionedRecord)
     (why : ServerScramErrorKind) (status : Status) (counted after : ℕ) → IsOpenFor rules before challenge
     → ShowsRecord kept shown → header ≡ expected_header rules.channels challenge.header → strict ≡ is_strict rules
+    → acts ≡ may_act (rights_for challenge.user identities) challenge.user challenge.header.acts_for
     → FinalCosts {A = A}
-    (server_of shown.version header strict challenge.bare challenge.first challenge.nonce shown.stored) text
+    (server_of shown.version header strict challenge.bare challenge.first challenge.nonce shown.stored acts) text
     (Err why) counted after → status ≡ server_status why → status ≡ statuses.OutOfMemory
-    → MemoryCosts rules kept text before counted after
-memory_costs A rules kept before text challenge header strict shown why status counted after is shows same too costs
-    gives memory =
-    let server : ClientHeader → Bool → Server =
-    λ known s. server_of shown.version known s challenge.bare challenge.first challenge.nonce shown.stored in
+    → MemoryCosts rules identities kept text before counted after
+memory_costs A rules identities kept before text challenge header strict acts shown why status counted after is shows
+    same too right costs gives memory =
+    let server : ClientHeader → Bool → Bool → Server =
+    λ known s a. server_of shown.version known s challenge.bare challenge.first challenge.nonce shown.stored a in
     let asked = expected_header rules.channels challenge.header in
-    let expected = carried (λ known. FinalCosts {A = A} (server known strict) text (Err why) counted after) header
+    let expected = carried (λ known. FinalCosts {A = A} (server known strict acts) text (Err why) counted after) header
     asked same costs in
-    let tested = carried (λ s. FinalCosts {A = A} (server asked s) text (Err why) counted after) strict
-    (is_strict rules) too expected in (
+    let tested = carried (λ s. FinalCosts {A = A} (server asked s acts) text (Err why) counted after) strict
+    (is_strict rules) too expected in
+    let known = may_act (rights_for challenge.user identities) challenge.user challenge.header.acts_for in
+    let allowed = carried (λ a. FinalCosts {A = A} (server asked (is_strict rules) a) text (Err why) counted after) acts
+    known right tested in (
       challenge,
       shown,
       is,
       shows,
-      carried (λ fault. FinalCosts {A = A} (server asked (is_strict rules)) text (Err fault) counted after) why NoMemory
-          (server_is_memory why status gives memory) tested,
+      carried (λ fault. FinalCosts {A = A} (server asked (is_strict rules) known) text (Err fault) counted after) why
+          NoMemory (server_is_memory why status gives memory) allowed,
     )
 
--- the struct of a server that has logged its user in
-logged_in : (user : List ℕ) → length user ≤ 256 → IsAuthenticated (authenticated_struct user) user
-logged_in user few = (refl, few, sym (take-append_seam user (replicate (256 - length user) 0)))
-
-pub concludes : (rules : ServerRules) (kept : Kept) (before after : Struct) (text message user : List ℕ)
-    → ConcludesLogin rules kept before text message user → after ≡ authenticated_struct (take before.user_len before.user)
-    → Concludes rules kept text before after (Ok message)
+pub concludes : (rules : ServerRules) (identities : List ℕ) (kept : Kept) (before after : Struct)
+    (text message user : List ℕ) (acts_for : Option (List ℕ))
+    → ConcludesLogin rules identities kept before text message user acts_for
+    → after ≡ authenticated_struct (take before.user_len before.user) (identity_in before.acts_for_len before.acts_for)
+    → Concludes rules identities kept text before after (Ok message)
 unfolding Concludes ConcludesLogin
-concludes rules kept before after text message user held written =
+concludes rules identities kept before after text message user acts_for held written =
     let named : user ≡ take before.user_len before.user =
     held.4 ∙ ap (λ (challenge : ServerChallenge). challenge.user) held.2.0.2 in
     let few : length user ≤ 256 =
     omega (arith, ap length named, length-take before.user_len before.user, held.2.0.1.0) in
-    let same : after ≡ authenticated_struct user = written ∙ ap authenticated_struct (sym named) in
-    (user, held, carried (λ s. IsAuthenticated s user) (authenticated_struct user) after (sym same) (logged_in user few), same)
+    let acts : acts_for ≡ identity_in before.acts_for_len before.acts_for = held.5 ∙ held.2.0.4.1 in
+    let room : IdentityHasRoom acts_for =
+    carried IdentityHasRoom held.0.header.acts_for acts_for (sym held.5) held.2.0.4.2 in
+    let same : after ≡ authenticated_struct user acts_for = written
+    ∙ (ap (λ (name : List ℕ). authenticated_struct name (identity_in before.acts_for_len before.acts_for)) (sym named)
+    ∙ ap (authenticated_struct user) (sym acts)) in (
+      user,
+      acts_for,
+      held,
+      carried (λ s. IsLoggedIn s user acts_for) (authenticated_struct user acts_for) after (sym same)
+          (is_logged_in user acts_for few room),
+      same,
+    )

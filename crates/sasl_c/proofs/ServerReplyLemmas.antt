@@ -122,7 +122,8 @@ module _ (config : Config) (choice : Choice) (records : MultiRecords) where
       ((challenge : ServerChallenge) × (text : List ℕ) × (reply ≡ frames.Challenge text)
       × (state ≡ ServerFirstSent challenge (record_for records version challenge.user))
       × (is_required challenge.header.flag ≡ plus))
-      ⊎ ((user text : List ℕ) × (reply ≡ frames.Outcome outcomes.Ok (Some text)) × (state ≡ ServerFinalSent user))
+      ⊎ ((user : List ℕ) × (acts_for : Option (List ℕ)) × (text : List ℕ)
+      × (reply ≡ frames.Outcome outcomes.Ok (Some text)) × (state ≡ ServerFinalSent user acts_for))
 
   abbrev ReachesBy : Bool → ScramVersion → SaslFrame → Acceptor → Type 0
   ReachesBy plus version reply next = (state : ServerState) × Reaches plus version reply state
@@ -173,11 +174,11 @@ module _ (config : Config) (choice : Choice) (records : MultiRecords) where
 
   concluded : (plus : Bool) (version hash : ScramVersion) (state after : ServerState) (text : List ℕ)
       (answer : Result (Option (List ℕ)) ServerScramErrorKind) (reply : SaslFrame) (next : Acceptor)
-      → ConcludesFrom state hash (scram_rules plus settings.rules) text answer after
+      → ConcludesFrom state hash (scram_rules plus settings.rules) settings.rights text answer after
       → reply ≡ server_frame (λ message. frames.Outcome outcomes.Ok (Some message)) answer
       → next ≡ ScramAcceptor (provider plus version) after → Ends reply ⊎ ReachesBy plus version reply next
   concluded plus version hash (ServerFirstSent challenge stored) after text (Ok (Some message)) reply next held same is =
-      inr (after, inr (challenge.user, message, same, held.1), is)
+      inr (after, inr (challenge.user, challenge.header.acts_for, message, same, held.1), is)
   concluded plus version hash (ServerFirstSent challenge stored) after text (Ok None) reply next held same is =
       inl (ends_so reply outcomes.Auth same)
   concluded plus version hash (ServerFirstSent challenge stored) after text (Err fault) reply next held same is =
@@ -185,8 +186,8 @@ module _ (config : Config) (choice : Choice) (records : MultiRecords) where
   concluded plus version hash Initial after text (Ok message) reply next held same is = absurd held
   concluded plus version hash Initial after text (Err fault) reply next held same is =
       inl (ends_so reply outcomes.Auth same)
-  concluded plus version hash (ServerFinalSent user) after text (Ok message) reply next held same is = absurd held
-  concluded plus version hash (ServerFinalSent user) after text (Err fault) reply next held same is =
+  concluded plus version hash (ServerFinalSent user acts_for) after text (Ok message) reply next held same is = absurd held
+  concluded plus version hash (ServerFinalSent user acts_for) after text (Err fault) reply next held same is =
       inl (ends_so reply outcomes.Auth same)
 
   scram_goes : (plus : Bool) (version : ScramVersion) (state : ServerState) (nonce : List ℕ) (frame reply : SaslFrame)
@@ -469,17 +470,18 @@ module _ (config : Config) (choice : Choice) (records : MultiRecords) (sum : sum
         (choice, records, version, plus, bound, plain, selected, sum, has, stands, in_phase, refl, is),
       )
 
-  reached_signed : (version : ScramVersion) (plus : Bool) (user : List ℕ) (state : ServerState) (moved : PasswordState)
-      → state ≡ ServerFinalSent user → Behind config choice records version plus state moved
+  reached_signed : (version : ScramVersion) (plus : Bool) (user : List ℕ) (acts_for : Option (List ℕ))
+      (state : ServerState) (moved : PasswordState)
+      → state ≡ ServerFinalSent user acts_for → Behind config choice records version plus state moved
       → ServerIsReached config InProgress (moved_to moved Signing)
   unfolding IsOf
-  reached_signed version plus user state moved same behind =
+  reached_signed version plus user acts_for state moved same behind =
       go (in_exchange version plus state moved _ behind (saved_so version plus plus state _ refl same))
     where
-      go : InExchange (record { version = version; plus = plus; state = ServerFinalSent user }) moved
+      go : InExchange (record { version = version; plus = plus; state = ServerFinalSent user acts_for }) moved
           → ServerIsReached config InProgress (moved_to moved Signing)
       go (bound, plain, selected, stands, is) = (
-        SignatureSent user,
+        SignatureSent user acts_for,
         (choice, records, version, plus, bound, plain, selected, sum, has, stands, inl refl, refl, is),
       )
 
@@ -493,11 +495,11 @@ module _ (config : Config) (choice : Choice) (records : MultiRecords) (sum : sum
       (frames.Challenge text) answer (sym same)
       (reached_open version plus challenge state moved (phase_after signature phase (frames.Challenge text)) is binds
       (phase_behind signature phase text) behind))
-  sends true version plus state answer reply moved phase (inr (user, text, same, is)) behind sent = inr
+  sends true version plus state answer reply moved phase (inr (user, acts_for, text, same, is)) behind sent = inr
       (carried (λ (a : SaslFrame). ServerIsReached config InProgress (moved_to moved (phase_after true phase a)))
       (frames.Outcome outcomes.Ok (Some text)) answer (sym same)
-      (reached_signed version plus user state moved is behind))
-  sends false version plus state answer reply moved phase (inr (user, text, same, is)) behind sent =
+      (reached_signed version plus user acts_for state moved is behind))
+  sends false version plus state answer reply moved phase (inr (user, acts_for, text, same, is)) behind sent =
       inl (outcomes.Ok, Some text, sent ∙ ap (sent_for false) same)
 
   passes : (server next : State) (bound plain : ScramsAt) (selected at : Option Selected) (nonce : List ℕ)
@@ -557,8 +559,8 @@ module _ (config : Config) (choice : Choice) (records : MultiRecords) (sum : sum
   reached_asking (ChallengeOpen version challenge) signed by bound plain selected server init stands extra inner =
       reached_in (ChallengeOpen version challenge) signed by bound plain selected server _ stands
       (inr (inr (init, refl))) extra inner
-  reached_asking (SignatureSent user) signed by bound plain selected server init stands extra inner =
-      reached_in (SignatureSent user) signed by bound plain selected server _ stands (inr (init, refl)) extra inner
+  reached_asking (SignatureSent user acts_for) signed by bound plain selected server init stands extra inner =
+      reached_in (SignatureSent user acts_for) signed by bound plain selected server _ stands (inr (init, refl)) extra inner
   reached_asking (InitialResponseAsked other) signed by bound plain selected server init stands extra inner =
       reached_in (InitialResponseAsked init) signed by bound plain selected server _ stands refl extra inner
 

@@ -10,6 +10,7 @@ pub mod Plain
 pub mod External
 pub mod Client
 pub mod Rules
+pub mod Acting
 pub mod Server
 pub mod Connection
 pub mod SaslClient

@@ -36,6 +36,7 @@ rules_of rules = record {
   accept_cbind_flag_y = is_set rules.accept_cbind_flag_y;
   strict = is_set rules.strict;
   channels = channels_of rules.channels;
+  accept_authzid = is_set rules.accept_authzid;
 }
 
 -- data of a kind have more bytes than the library takes
@@ -67,4 +68,4 @@ ByRules rules Stays Due answer =
 
 -- these rules, but with the GS2 header `y,,` accepted if no channel is bound
 abbrev pub with_cbind_flag_y : ServerRules → ServerRules
-with_cbind_flag_y rules = record { accept_cbind_flag_y = true; strict = rules.strict; channels = rules.channels }
+with_cbind_flag_y rules = record rules { accept_cbind_flag_y = true }

@@ -5,6 +5,7 @@ use Rattle.fe2o3_sasl_wire.specs.declared.sasl_frames.error.Error.{Error}
 use Rattle.fe2o3_sasl_wire.specs.SaslFrames.{SaslFrame}
 use Rattle.fe2o3_sasl_wire.specs.SaslFrames as frames
 use Rattle.fe2o3_scram.specs.declared.hmac.ScramVersion.{ScramVersion}
+use Rattle.fe2o3_scram.specs.ActingRights.{Rights}
 use Rattle.fe2o3_scram.specs.ChannelBinding.{is_required}
 use Rattle.fe2o3_scram.specs.Credentials.{Record, VersionedRecord, record_at}
 use Rattle.fe2o3_scram.specs.declared.hmac.ScramVersion.TheVariants.{Sha1, Sha256, Sha512}
@@ -20,7 +21,7 @@ use Rattle.fe2o3_sasl_core.specs.LoginAttempts.{ClaimAllocates, ClaimIn, ClaimsU
 use Rattle.fe2o3_sasl_core.specs.ExtraChallenges.{Extended, extended_machine, extended_of, extended_user}
 use Rattle.fe2o3_sasl_core.specs.declared.extra_challenges.ExtraChallenges.{ExtraChallenges}
 use Rattle.fe2o3_sasl_core.specs.declared.extra_challenges.WithExtraChallenges.{WithExtraChallenges}
-use Rattle.fe2o3_sasl_core.specs.PasswordServer.{PasswordSettings, PasswordState, SavedExchange, ScramsAt, name_where, part_where, password_machine, password_names, password_open, password_server_in, password_state, password_user}
+use Rattle.fe2o3_sasl_core.specs.PasswordServer.{PasswordSettings, PasswordState, SavedExchange, ScramsAt, name_where, part_where, password_acting, password_machine, password_names, password_open, password_server_in, password_state, password_user}
 use Rattle.fe2o3_sasl_core.specs.declared.password_server.PasswordServer.{PasswordServer}
 use Rattle.fe2o3_sasl_core.specs.declared.plain_server.passwords.PlainPasswords.{PlainPasswords}
 use Rattle.fe2o3_sasl_core.specs.declared.plain_server.passwords.PlainPasswords.TheVariants as forms
@@ -39,12 +40,14 @@ use Rattle.sasl_c.specs.declared.sasl_server.SaslServer.{SaslServer as Struct}
 use Rattle.sasl_c.specs.declared.server.ScramServer.{ScramServer as ScramStruct}
 use Rattle.sasl_c.specs.declared.status.Status.{Status}
 use Rattle.sasl_c.specs.declared.status.Status.TheVariants as statuses
+use Rattle.sasl_c.specs.Acting.{rights_for}
+use Rattle.sasl_c.specs.Client.{is_set}
 use Rattle.sasl_c.specs.Connection.{IsSideOf, Keeps, KeepsNoPart, accepts_extended, side_tests, connection_struct, KeepsNoPartOf}
 use Rattle.sasl_c.specs.Peeks.{AnySide}
 use Rattle.sasl_c.specs.Records.{ShowsRecord}
 use Rattle.sasl_c.specs.Rules.{HasLongData, channels_of}
 use Rattle.sasl_c.specs.declared.records.ScramRecord.{ScramRecord as Kept}
-use Rattle.sasl_c.specs.Server.{KeptExchange, NothingKept, ChallengeOpen, SignatureSent, InitialResponseAsked, PendingInit, HasAsked, IsAuthenticated, IsOpen, IsPhaseOf, ShowsExchange, authenticated_struct, exchange_in, exchange_struct, fresh_server_struct}
+use Rattle.sasl_c.specs.Server.{KeptExchange, NothingKept, ChallengeOpen, SignatureSent, InitialResponseAsked, PendingInit, HasAsked, IsLoggedIn, IsOpen, IsPhaseOf, ShowsExchange, authenticated_struct, exchange_in, exchange_struct, fresh_server_struct}
 
 -- ---- the server of a configuration
 
@@ -64,9 +67,14 @@ server_machine = extended_machine password_names password_machine
 abbrev pub server_user : State → Option (List ℕ)
 server_user server = extended_user server.phase (password_user server.inner)
 
+-- the identity that this user acts for
+abbrev pub server_acting : State → Option (List ℕ)
+server_acting server = extended_user server.phase (password_acting server.inner)
+
 -- what it keeps of a login that is not complete
 abbrev pub kept_exchange : State → KeptExchange
 kept_exchange server = exchange_in server.phase (password_open server.inner) (password_user server.inner)
+    (password_acting server.inner)
 
 -- a number where it is so, and otherwise 0
 abbrev pub one_where : Bool → ℕ → ℕ
@@ -129,7 +137,13 @@ settings_for config choice records restored = record {
   records = records;
   mock = None;
   hashes = record { sha_512 = choice.sha_512; sha_256 = choice.sha_256; sha_1 = choice.sha_1 };
-  rules = record { accept_cbind_flag_y = choice.cbind_flag_y; strict = choice.strict; channels = channels_of config.channels };
+  rules = record {
+    accept_cbind_flag_y = choice.cbind_flag_y;
+    strict = choice.strict;
+    channels = channels_of config.channels;
+    accept_authzid = is_set config.accept_authzid;
+  };
+  rights = rights_for config.username.now config.identities.now;
   plain = choice.plain;
   plain_version = version_of_first records;
   plain_count = Some config.iterations;
@@ -145,9 +159,9 @@ no_record = record { salt = []; count = 0; stored_key = []; server_key = [] }
 
 -- no client-final message concludes a login by it, whatever the rules
 unfoldable pub NoRecordIsUnmet : Type 0
-NoRecordIsUnmet = (challenge : ServerChallenge) (version : ScramVersion) (rules : ServerRules) (text message : List ℕ)
-    (next : ServerState)
-    → ¬ ConcludesFrom (ServerFirstSent challenge no_record) version rules text (Ok (Some message)) next
+NoRecordIsUnmet = (challenge : ServerChallenge) (version : ScramVersion) (rules : ServerRules) (rights : Rights)
+    (text message : List ℕ) (next : ServerState)
+    → ¬ ConcludesFrom (ServerFirstSent challenge no_record) version rules rights text (Ok (Some message)) next
 
 -- a record, and in place of none one without keys
 abbrev pub or_no_record : Option Record → Record
@@ -169,10 +183,10 @@ saved_for records signed bound (ChallengeOpen version challenge) = Some (record 
   state = ServerFirstSent challenge (record_for records version challenge.user);
 })
 saved_for records signed bound (InitialResponseAsked init) = None
-saved_for records signed bound (SignatureSent user) = Some (record {
+saved_for records signed bound (SignatureSent user acts_for) = Some (record {
   version = signed;
   plus = bound;
-  state = ServerFinalSent user;
+  state = ServerFinalSent user acts_for;
 })
 
 -- the last init was of this hash, by the parts of SCRAM that are selected
@@ -219,32 +233,34 @@ ServerIsReached config InProgress server = (exchange : KeptExchange) × IsOf con
 ServerIsReached config Authenticated server = Unit {0}
 ServerIsReached config (Failed why) server = Unit {0}
 
--- the struct shows that this user has logged in, or nothing if the login has no user name
-abbrev pub ShowsUser : ScramStruct → Option (List ℕ) → Type 0
-ShowsUser scram None = scram.state ≡ 0
-ShowsUser scram (Some user) = IsAuthenticated scram user
+-- the struct shows that this user has logged in, for this identity or for itself, or nothing if the login has no user name
+abbrev pub ShowsUser : ScramStruct → Option (List ℕ) → Option (List ℕ) → Type 0
+ShowsUser scram None acts_for = scram.state ≡ 0
+ShowsUser scram (Some user) acts_for = IsLoggedIn scram user acts_for
 
--- the struct of SCRAM holds what a login of this progress needs: what the server keeps, the authenticated user, or
--- nothing once it is closed
-abbrev pub ShowsProgress : ScramStruct → Progress → KeptExchange → Option (List ℕ) → Type 0
-ShowsProgress scram InProgress exchange user = ShowsExchange scram exchange
-ShowsProgress scram Authenticated exchange user = ShowsUser scram user
-ShowsProgress scram (Failed why) exchange user = scram.state ≡ 0
+-- the struct of SCRAM holds what a login of this progress needs: what the server keeps, the authenticated user with the
+-- identity that it acts for, or nothing once it is closed
+abbrev pub ShowsProgress : ScramStruct → Progress → KeptExchange → Option (List ℕ) → Option (List ℕ) → Type 0
+ShowsProgress scram InProgress exchange user acts_for = ShowsExchange scram exchange
+ShowsProgress scram Authenticated exchange user acts_for = ShowsUser scram user acts_for
+ShowsProgress scram (Failed why) exchange user acts_for = scram.state ≡ 0
 
 -- the struct of SCRAM that a call writes for such a login
-abbrev pub progress_struct : Progress → KeptExchange → Option (List ℕ) → ScramStruct
-progress_struct InProgress exchange user = exchange_struct exchange
-progress_struct Authenticated exchange None = fresh_server_struct
-progress_struct Authenticated exchange (Some user) = authenticated_struct user
-progress_struct (Failed why) exchange user = fresh_server_struct
+abbrev pub progress_struct : Progress → KeptExchange → Option (List ℕ) → Option (List ℕ) → ScramStruct
+progress_struct InProgress exchange user acts_for = exchange_struct exchange
+progress_struct Authenticated exchange None acts_for = fresh_server_struct
+progress_struct Authenticated exchange (Some user) acts_for = authenticated_struct user acts_for
+progress_struct (Failed why) exchange user acts_for = fresh_server_struct
 
 -- the struct of SCRAM holds what a server of this progress needs
 abbrev pub ShowsState : ScramStruct → Progress → State → Type 0
-ShowsState scram progress server = ShowsProgress scram progress (kept_exchange server) (server_user server)
+ShowsState scram progress server =
+    ShowsProgress scram progress (kept_exchange server) (server_user server) (server_acting server)
 
 -- the struct that a call writes for a server
 abbrev pub state_struct : Progress → State → ScramStruct
-state_struct progress server = progress_struct progress (kept_exchange server) (server_user server)
+state_struct progress server =
+    progress_struct progress (kept_exchange server) (server_user server) (server_acting server)
 
 -- the structs show a side, where this says what the one of SCRAM shows of its acceptor
 abbrev pub ShowsBy : {A S : Type 0} → (A → S) → (ScramStruct → Progress → A → Type 0) → Struct → ServerConnectionSide A
@@ -284,15 +300,17 @@ HasNoStruct side = (512 < length side.held) ⊎ ((scram : ScramStruct) → ¬ Sh
 unfoldable pub IsServer : Config → Struct → Side State → Type 0
 IsServer config server side = ShowsSide server side × (side.limit ≡ 512) × ServerIsReached config side.progress side.state
 
--- the words of a configuration are not UTF-8: the user's name, or otherwise the peer's
+-- the words of a configuration are not UTF-8: the user's name, or otherwise the peer's, or otherwise the identities
 abbrev pub HasNoServerWords : Config → Status → Type 0
 HasNoServerWords config status = (status ≡ statuses.NotUtf8)
-    × (¬ IsUtf8 config.username.now ⊎ (IsUtf8 config.username.now × ¬ IsUtf8 config.external_authcid.now))
+    × (¬ IsUtf8 config.username.now ⊎ (IsUtf8 config.username.now × ¬ IsUtf8 config.external_authcid.now)
+    ⊎ (IsUtf8 config.username.now × IsUtf8 config.external_authcid.now × ¬ IsUtf8 config.identities.now))
 
 -- the tests of a configuration, in their order
 abbrev pub config_tests : Config → List (Status × Type 0)
 config_tests config = (statuses.NoSuchMechanism, (choice : Choice) → sum_of choice ≢ config.mechanisms)
     ∷ (statuses.NotUtf8, ¬ IsUtf8 config.username.now) ∷ (statuses.NotUtf8, ¬ IsUtf8 config.external_authcid.now)
+    ∷ (statuses.NotUtf8, ¬ IsUtf8 config.identities.now)
     ∷ (statuses.ChannelDataLength, HasLongData config.channels) ∷ []
 
 -- why a configuration has no server: a test that holds, or a server that would offer nothing, in place of which ANONYMOUS were

@@ -1,11 +1,11 @@
 -- A SCRAM server that is kept in a struct of C between its calls (RFC 5802, sections 3 and 5).
-use Rattle.std.specs.Prelude.{true, ◌≡◌, ◌≤◌, ◌⊎◌, ℕ, List, [], ◌∷◌, length, replicate, take, Option, Some, None, Result, Ok, Err}
+use Rattle.std.specs.Prelude.{true, ◌≡◌, ◌<◌, ◌≤◌, ◌⊎◌, ℕ, List, [], ◌∷◌, length, replicate, take, nat_eq, if◌then◌else◌, Option, Some, None, Result, Ok, Err}
 use Rattle.std.specs.Str.{IsAscii, IsUtf8}
 use Rattle.fe2o3_sasl_wire.specs.FrameView.{shown}
 use Rattle.fe2o3_scram.specs.declared.hmac.ScramVersion.{ScramVersion}
 use Rattle.fe2o3_scram.specs.declared.scram_messages.error.ServerScramErrorKind.{ServerScramErrorKind}
 use Rattle.fe2o3_scram.specs.declared.scram_messages.error.ServerScramErrorKind.TheVariants.{IllegalAuthenticatorState, OutOfMemory}
-use Rattle.fe2o3_scram.specs.ChannelBinding.{TakesFlag, expected_header, own_header}
+use Rattle.fe2o3_scram.specs.ChannelBinding.{TakesFlag, expected_header}
 use Rattle.fe2o3_scram.specs.ClientFinal.{ReachesBase64}
 use Rattle.fe2o3_scram.specs.declared.channel_binding.ChannelKind.TheVariants.{TlsUnique, TlsServerEndPoint, TlsExporter}
 use Rattle.fe2o3_scram.specs.ClientFirst.{ClientFirst, HasEscapes, ReadsClientFirst}
@@ -19,6 +19,7 @@ use Rattle.fe2o3_scram.specs.ServerFinal.{FinalCosts}
 use Rattle.fe2o3_scram.specs.ServerFirst.{AnswersClientFirst, ServerChallenge}
 use Rattle.fe2o3_scram.specs.Texts.{base64_text}
 use Rattle.fe2o3_sasl_core.specs.ExtraChallenges.{Phase, Asking, Idle, Signing, Unconfirmed}
+use Rattle.sasl_c.specs.Acting.{rights_for}
 use Rattle.sasl_c.specs.declared.records.ScramRecord.{ScramRecord as Kept}
 use Rattle.sasl_c.specs.declared.exchange.AskedInit.{AskedInit}
 use Rattle.sasl_c.specs.declared.exchange.ScramExchange.{ScramExchange}
@@ -35,15 +36,34 @@ use Rattle.sasl_c.specs.Status.{Lacks, Room, server_status, version_number, with
 abbrev pub one_user : List ℕ → VersionedRecord → Store
 one_user user shown = record { version = shown.version; records = (user, shown.stored) ∷ [] }
 
+-- the empty text where there is none
+abbrev pub or_empty : Option (List ℕ) → List ℕ
+or_empty None = []
+or_empty (Some text) = text
+
+-- an identity that has room in a struct, in which no bytes are none
+abbrev pub IdentityHasRoom : Option (List ℕ) → Type 0
+IdentityHasRoom None = Unit {0}
+IdentityHasRoom (Some name) = (0 < length name) × (length name ≤ 256)
+
 -- a challenge that has room in a struct
 abbrev pub ChallengeHasRoom : ServerChallenge → Type 0
 ChallengeHasRoom challenge = (length challenge.user ≤ 256) × (length challenge.bare ≤ 1024) × (length challenge.nonce ≤ 512)
-    × (length challenge.first ≤ 1024)
+    × (length challenge.first ≤ 1024) × IdentityHasRoom challenge.header.acts_for
 
 -- no length above that of its array
 abbrev pub AreLengths : Struct → Type 0
 AreLengths server = (server.user_len ≤ 256) × (server.bare_len ≤ 1024) × (server.nonce_len ≤ 512)
     × (server.first_len ≤ 1024)
+
+-- the identity that is that many bytes of an array, or none of no bytes
+abbrev pub identity_in : ℕ → List ℕ → Option (List ℕ)
+identity_in len array = if nat_eq len 0 then None else Some (take len array)
+
+-- the struct holds this identity to act for, or none (RFC 5802, section 5.1)
+abbrev pub HoldsIdentity : Struct → Option (List ℕ) → Type 0
+HoldsIdentity server acts_for = (server.acts_for_len ≤ 256)
+    × (acts_for ≡ identity_in server.acts_for_len server.acts_for) × IdentityHasRoom acts_for
 
 -- the number of a struct that shows a challenge to a client with this GS2 header
 abbrev pub open_number : ChannelBindingFlag → ℕ
@@ -53,11 +73,11 @@ open_number (Required TlsUnique) = 7
 open_number (Required TlsServerEndPoint) = 8
 open_number (Required TlsExporter) = 9
 
--- the challenge that a struct shows, to a client with this flag that acts for itself
+-- the challenge that a struct shows, to a client with this flag
 abbrev pub struct_challenge : ChannelBindingFlag → Struct → ServerChallenge
 struct_challenge flag server = record {
   user = take server.user_len server.user;
-  header = own_header flag;
+  header = record { flag = flag; acts_for = identity_in server.acts_for_len server.acts_for };
   bare = take server.bare_len server.bare;
   first = take server.first_len server.first;
   nonce = take server.nonce_len server.nonce;
@@ -67,10 +87,11 @@ struct_challenge flag server = record {
 abbrev pub IsOpen : Struct → ServerChallenge → Type 0
 IsOpen server challenge = (server.state ≡ open_number challenge.header.flag) × AreLengths server
     × (challenge ≡ struct_challenge challenge.header.flag server) × IsUtf8 challenge.user
+    × HoldsIdentity server challenge.header.acts_for × IsUtf8 (or_empty challenge.header.acts_for)
 
 -- the struct's open challenge is one for a server with these rules: a server that binds channels has the data of the
--- client's kind, and one that binds none has a client that binds none; which of `n,,` and `y,,` the server accepts plays
--- no part once the challenge is open
+-- client's kind, and one that binds none has a client that binds none; which of `n,,` and `y,,` the server accepts, and
+-- whether it accepts identities, plays no part once the challenge is open
 abbrev pub IsOpenFor : ServerRules → Struct → ServerChallenge → Type 0
 IsOpenFor rules server challenge = IsOpen server challenge × TakesFlag rules.channels true challenge.header.flag
 
@@ -82,10 +103,15 @@ IsOpenBy server version challenge = IsVersion server.version version × IsOpen s
 abbrev pub IsAuthenticated : Struct → List ℕ → Type 0
 IsAuthenticated server user = (server.state ≡ 2) × (server.user_len ≤ 256) × (user ≡ take server.user_len server.user)
 
--- the struct is that of a server that has sent its signature to this user in a challenge, which is not answered yet
-abbrev pub HasSigned : Struct → List ℕ → Type 0
-HasSigned server user = (server.state ≡ 4) × (server.user_len ≤ 256) × (user ≡ take server.user_len server.user)
-    × IsUtf8 user
+-- the struct is that of a server that has authenticated this user for this identity, or for itself
+abbrev pub IsLoggedIn : Struct → List ℕ → Option (List ℕ) → Type 0
+IsLoggedIn server user acts_for = IsAuthenticated server user × HoldsIdentity server acts_for
+
+-- the struct is that of a server that has sent its signature to this user, who acts for this identity or for itself, in a
+-- challenge, which is not answered yet
+abbrev pub HasSigned : Struct → List ℕ → Option (List ℕ) → Type 0
+HasSigned server user acts_for = (server.state ≡ 4) × (server.user_len ≤ 256) × (user ≡ take server.user_len server.user)
+    × IsUtf8 user × HoldsIdentity server acts_for × IsUtf8 (or_empty acts_for)
 
 -- an init that has no initial response, and was answered by an empty challenge (AMQP 1.0, part 5, section 5.3.3.2; RFC
 -- 4422, section 5): its mechanism, its hostname, if it has one, and the nonce of 32 bytes that was passed with it
@@ -111,20 +137,22 @@ HasAsked server init = AsksHostname server init.hostname × (server.nonce_len �
     × (server.first_len ≤ 1024) × (init.mechanism ≡ take server.first_len server.first) × IsAscii init.mechanism
 
 -- what a server keeps of a login that is not complete: nothing, an open challenge of SCRAM with its hash, the user to
--- which it has sent its signature in a challenge, or the init that it has asked for its initial response
+-- which it has sent its signature in a challenge, with the identity that it acts for, or the init that it has asked for its
+-- initial response
 pub data KeptExchange : Type 0 where
   NothingKept : KeptExchange
   ChallengeOpen : (version : ScramVersion) → (challenge : ServerChallenge) → KeptExchange
-  SignatureSent : (user : List ℕ) → KeptExchange
+  SignatureSent : (user : List ℕ) → (acts_for : Option (List ℕ)) → KeptExchange
   InitialResponseAsked : (init : PendingInit) → KeptExchange
 
 -- the struct shows that a server keeps this
 abbrev pub ShowsExchange : Struct → KeptExchange → Type 0
 ShowsExchange server NothingKept =
     ((version : ScramVersion) (challenge : ServerChallenge) → ¬ IsOpenBy server version challenge)
-    × ((user : List ℕ) → ¬ HasSigned server user) × ((init : PendingInit) → ¬ HasAsked server init)
+    × ((user : List ℕ) (acts_for : Option (List ℕ)) → ¬ HasSigned server user acts_for)
+    × ((init : PendingInit) → ¬ HasAsked server init)
 ShowsExchange server (ChallengeOpen version challenge) = IsOpenBy server version challenge
-ShowsExchange server (SignatureSent user) = HasSigned server user
+ShowsExchange server (SignatureSent user acts_for) = HasSigned server user acts_for
 ShowsExchange server (InitialResponseAsked init) = HasAsked server init
 
 -- the mechanism of an init that was asked is ASCII
@@ -137,24 +165,25 @@ abbrev pub open_exchange : Option (ScramVersion × ServerChallenge) → KeptExch
 open_exchange None = NothingKept
 open_exchange (Some shown) = ChallengeOpen shown.0 shown.1
 
--- and the user to whom the signature was sent, if there is one
-abbrev pub signed_exchange : Option (List ℕ) → KeptExchange
-signed_exchange None = NothingKept
-signed_exchange (Some user) = SignatureSent user
+-- and the user to whom the signature was sent, if there is one, with the identity that it acts for
+abbrev pub signed_exchange : Option (List ℕ) → Option (List ℕ) → KeptExchange
+signed_exchange None acts_for = NothingKept
+signed_exchange (Some user) acts_for = SignatureSent user acts_for
 
--- what a server keeps in this phase, with this open challenge and this user
-abbrev pub exchange_in : Phase → Option (ScramVersion × ServerChallenge) → Option (List ℕ) → KeptExchange
-exchange_in Signing opened user = signed_exchange user
-exchange_in (Asking mechanism hostname nonce) opened user = InitialResponseAsked (record {
+-- what a server keeps in this phase, with this open challenge, this user and this identity
+abbrev pub exchange_in : Phase → Option (ScramVersion × ServerChallenge) → Option (List ℕ) → Option (List ℕ)
+    → KeptExchange
+exchange_in Signing opened user acts_for = signed_exchange user acts_for
+exchange_in (Asking mechanism hostname nonce) opened user acts_for = InitialResponseAsked (record {
   mechanism = mechanism;
   hostname = hostname;
   nonce = nonce;
 })
-exchange_in phase opened user = open_exchange opened
+exchange_in phase opened user acts_for = open_exchange opened
 
 -- the phase in which a server is restored that keeps this
 abbrev pub phase_for : KeptExchange → Phase
-phase_for (SignatureSent user) = Signing
+phase_for (SignatureSent user acts_for) = Signing
 phase_for (InitialResponseAsked init) = Asking init.mechanism init.hostname init.nonce
 phase_for exchange = Idle
 
@@ -164,7 +193,7 @@ IsAsking phase = (init : PendingInit) × (phase ≡ Asking init.mechanism init.h
 
 -- a server whose acceptor keeps this of SCRAM is in this phase: an init may have been asked after it
 abbrev pub IsPhaseOf : KeptExchange → Phase → Type 0
-IsPhaseOf (SignatureSent user) phase = (phase ≡ Signing) ⊎ IsAsking phase
+IsPhaseOf (SignatureSent user acts_for) phase = (phase ≡ Signing) ⊎ IsAsking phase
 IsPhaseOf (InitialResponseAsked init) phase = phase ≡ Asking init.mechanism init.hostname init.nonce
 IsPhaseOf exchange phase = (phase ≡ Idle) ⊎ ((phase ≡ Unconfirmed) ⊎ IsAsking phase)
 
@@ -179,10 +208,12 @@ fresh_server_struct = record {
   bare_len = 0;
   nonce_len = 0;
   first_len = 0;
+  acts_for_len = 0;
   user = replicate 256 0;
   bare = replicate 1024 0;
   nonce = replicate 512 0;
   first = replicate 1024 0;
+  acts_for = replicate 256 0;
 }
 
 -- of one whose challenge is open, by the hash of this number
@@ -194,39 +225,43 @@ open_struct version challenge = record {
   bare_len = length challenge.bare;
   nonce_len = length challenge.nonce;
   first_len = length challenge.first;
+  acts_for_len = length (or_empty challenge.header.acts_for);
   user = zero_filled 256 challenge.user;
   bare = zero_filled 1024 challenge.bare;
   nonce = zero_filled 512 challenge.nonce;
   first = zero_filled 1024 challenge.first;
+  acts_for = zero_filled 256 (or_empty challenge.header.acts_for);
 }
 
--- of one that keeps only a user, whose name is that many bytes of this array, in the state of this number
-abbrev pub user_struct : ℕ → ℕ → List ℕ → Struct
-user_struct state len array = record {
+-- of one that keeps only a user and an identity, each that many bytes of an array, in the state of this number
+abbrev pub user_struct : ℕ → ℕ → List ℕ → ℕ → List ℕ → Struct
+user_struct state len array acts_len acts_array = record {
   state = state;
   version = 0;
   user_len = len;
   bare_len = 0;
   nonce_len = 0;
   first_len = 0;
+  acts_for_len = acts_len;
   user = array;
   bare = replicate 1024 0;
   nonce = replicate 512 0;
   first = replicate 1024 0;
+  acts_for = acts_array;
 }
 
--- of one that has authenticated this user
-abbrev pub authenticated_struct : List ℕ → Struct
-authenticated_struct user = user_struct 2 (length user) (zero_filled 256 user)
+-- of one that keeps this user and this identity
+abbrev pub named_struct : ℕ → List ℕ → Option (List ℕ) → Struct
+named_struct state user acts_for = user_struct state (length user) (zero_filled 256 user) (length (or_empty acts_for))
+    (zero_filled 256 (or_empty acts_for))
+
+-- of one that has authenticated this user for this identity, or for itself
+abbrev pub authenticated_struct : List ℕ → Option (List ℕ) → Struct
+authenticated_struct user acts_for = named_struct 2 user acts_for
 
 -- of one that has sent its signature to this user in a challenge
-abbrev pub signed_struct : List ℕ → Struct
-signed_struct user = user_struct 4 (length user) (zero_filled 256 user)
-
--- the empty text where there is none
-abbrev pub or_empty : Option (List ℕ) → List ℕ
-or_empty None = []
-or_empty (Some text) = text
+abbrev pub signed_struct : List ℕ → Option (List ℕ) → Struct
+signed_struct user acts_for = named_struct 4 user acts_for
 
 -- an init whose mechanism is ASCII, and whose texts have room in a struct
 abbrev pub HasRoomForInit : PendingInit → Type 0
@@ -242,17 +277,19 @@ asked_struct init = record {
   bare_len = length (or_empty init.hostname);
   nonce_len = 32;
   first_len = length init.mechanism;
+  acts_for_len = 0;
   user = replicate 256 0;
   bare = zero_filled 1024 (or_empty init.hostname);
   nonce = zero_filled 512 init.nonce;
   first = zero_filled 1024 init.mechanism;
+  acts_for = replicate 256 0;
 }
 
 -- of one that keeps this
 abbrev pub exchange_struct : KeptExchange → Struct
 exchange_struct NothingKept = fresh_server_struct
 exchange_struct (ChallengeOpen version challenge) = open_struct (version_number version) challenge
-exchange_struct (SignatureSent user) = signed_struct user
+exchange_struct (SignatureSent user acts_for) = signed_struct user acts_for
 exchange_struct (InitialResponseAsked init) = asked_struct init
 
 -- ---- what the calls return (RFC 5802, section 5), and the struct after them
@@ -307,13 +344,22 @@ ClaimedUser rules text (Ok name) = (first : ClientFirst) × ReadsClientFirst rul
 ClaimedUser rules text (Err status) = (why : ServerScramErrorKind) × (status ≡ server_status why)
     × ReadsClientFirst rules text (Err why)
 
+-- the identity that it names, or the empty text if the client acts for itself
+abbrev pub ClaimedIdentity : ServerRules → List ℕ → Result (List ℕ) Status → Type 0
+ClaimedIdentity rules text (Ok name) = (first : ClientFirst) × ReadsClientFirst rules text (Ok first)
+    × (name ≡ or_empty first.header.acts_for)
+ClaimedIdentity rules text (Err status) = (why : ServerScramErrorKind) × (status ≡ server_status why)
+    × ReadsClientFirst rules text (Err why)
+
 -- the struct's open challenge is answered by this message of a server with these rules, where the record is that of its
--- user
-unfoldable pub ConcludesLogin : ServerRules → Kept → Struct → List ℕ → List ℕ → List ℕ → Type 0
-ConcludesLogin rules kept before text message user = (challenge : ServerChallenge) × (shown : VersionedRecord)
-    × IsOpenFor rules before challenge × ShowsRecord kept shown × (user ≡ challenge.user)
-    × ConcludesFrom (ServerFirstSent challenge shown.stored) shown.version rules text (Ok (Some message))
-    (ServerFinalSent user)
+-- user, who may act for the identities of this text
+unfoldable pub ConcludesLogin : ServerRules → List ℕ → Kept → Struct → List ℕ → List ℕ → List ℕ → Option (List ℕ)
+    → Type 0
+ConcludesLogin rules identities kept before text message user acts_for = (challenge : ServerChallenge)
+    × (shown : VersionedRecord) × IsOpenFor rules before challenge × ShowsRecord kept shown × (user ≡ challenge.user)
+    × (acts_for ≡ challenge.header.acts_for)
+    × ConcludesFrom (ServerFirstSent challenge shown.stored) shown.version rules (rights_for challenge.user identities)
+    text (Ok (Some message)) (ServerFinalSent user acts_for)
 
 -- memory is requested to answer a client-final message: a challenge is open, the struct of the record shows one, and
 -- the message is read as far as its first base64 text
@@ -323,31 +369,41 @@ FinalAsks rules kept text before = ((challenge : ServerChallenge) × IsOpenFor r
 
 -- the HMAC values of an answer that is out of memory, as a meter shows them before and after: none for a message that
 -- is rejected, and at most two
-abbrev pub MemoryCosts : ServerRules → Kept → List ℕ → Struct → ℕ → ℕ → Type 0
-MemoryCosts rules kept text before counted after = (challenge : ServerChallenge) × (shown : VersionedRecord)
+abbrev pub MemoryCosts : ServerRules → List ℕ → Kept → List ℕ → Struct → ℕ → ℕ → Type 0
+MemoryCosts rules identities kept text before counted after = (challenge : ServerChallenge) × (shown : VersionedRecord)
     × IsOpenFor rules before challenge × ShowsRecord kept shown
-    × FinalCosts {A = Unit {0}} (server_against shown.version rules challenge shown.stored) text (Err OutOfMemory) counted
-    after
+    × FinalCosts {A = Unit {0}}
+    (server_against shown.version rules (rights_for challenge.user identities) challenge shown.stored) text
+    (Err OutOfMemory) counted after
 
--- the server-final message of a server with these rules, and the struct after it; or that no challenge is open for these
--- rules, or one is and the struct of the record shows none, or it shows one and the message is rejected
-unfoldable pub Concludes : ServerRules → Kept → List ℕ → Struct → Struct → Result (List ℕ) Status → Type 0
-Concludes rules kept text before after (Ok message) = (user : List ℕ) × ConcludesLogin rules kept before text message user
-    × IsAuthenticated after user × (after ≡ authenticated_struct user)
-Concludes rules kept text before after (Err status) =
+-- the server-final message of a server with these rules, whose user may act for the identities of this text, and the struct
+-- after it; or that no challenge is open for these rules, or one is and the struct of the record shows none, or it shows one
+-- and the message is rejected
+unfoldable pub Concludes : ServerRules → List ℕ → Kept → List ℕ → Struct → Struct → Result (List ℕ) Status → Type 0
+Concludes rules identities kept text before after (Ok message) = (user : List ℕ) × (acts_for : Option (List ℕ))
+    × ConcludesLogin rules identities kept before text message user acts_for × IsLoggedIn after user acts_for
+    × (after ≡ authenticated_struct user acts_for)
+Concludes rules identities kept text before after (Err status) =
     ((status ≡ server_status IllegalAuthenticatorState)
     × ((challenge : ServerChallenge) → ¬ IsOpenFor rules before challenge))
     ⊎ ((challenge : ServerChallenge) × IsOpenFor rules before challenge × SpellsStruct kept (Err status))
     ⊎ ((why : ServerScramErrorKind) × (status ≡ server_status why)
     × ((challenge : ServerChallenge) × (shown : VersionedRecord) × IsOpenFor rules before challenge × ShowsRecord kept shown
-    × ConcludesFrom (ServerFirstSent challenge shown.stored) shown.version rules text (Err why)
-    (ServerFirstSent challenge shown.stored)))
+    × ConcludesFrom (ServerFirstSent challenge shown.stored) shown.version rules (rights_for challenge.user identities)
+    text (Err why) (ServerFirstSent challenge shown.stored)))
 
 -- the authenticated user
 abbrev pub TellsUser : Struct → Result (List ℕ) Status → Type 0
 TellsUser server (Ok user) = IsAuthenticated server user
 TellsUser server (Err status) = (status ≡ server_status IllegalAuthenticatorState)
     × ((user : List ℕ) → ¬ IsAuthenticated server user)
+
+-- the identity that the authenticated user acts for, or the empty text if it acts for itself
+abbrev pub TellsIdentity : Struct → Result (List ℕ) Status → Type 0
+TellsIdentity server (Ok name) = (user : List ℕ) × (acts_for : Option (List ℕ)) × IsLoggedIn server user acts_for
+    × (name ≡ or_empty acts_for)
+TellsIdentity server (Err status) = (status ≡ server_status IllegalAuthenticatorState)
+    × ((user : List ℕ) (acts_for : Option (List ℕ)) → ¬ IsLoggedIn server user acts_for)
 
 -- ---- the code's values
 
@@ -359,5 +415,5 @@ init_shown init = record { mechanism = init.mechanism.now; hostname = shown init
 abbrev pub exchange_shown : ScramExchange → KeptExchange
 exchange_shown forms.NothingKept = NothingKept
 exchange_shown (forms.ChallengeOpen version challenge) = ChallengeOpen version (challenge_kept challenge)
-exchange_shown (forms.SignatureSent user) = SignatureSent user.now
+exchange_shown (forms.SignatureSent user acts_for) = SignatureSent user.now (shown acts_for)
 exchange_shown (forms.InitialResponseAsked init) = InitialResponseAsked (init_shown init)

@@ -112,7 +112,7 @@ abbrev pub client_size : ℕ
 client_size = 2 * word + 32 + 64 + keys_size
 
 abbrev pub server_size : ℕ
-server_size = 6 * word + 256 + 1024 + 512 + 1024
+server_size = 7 * word + 256 + 1024 + 512 + 1024 + 256
 
 abbrev pub connection_size : ℕ
 connection_size = 4 * word + 512 + word
@@ -130,10 +130,10 @@ abbrev pub channels_size : ℕ
 channels_size = 4 * word + 3 * 64
 
 abbrev pub config_size : ℕ
-config_size = 2 * word + slice + slice + slice + channels_size
+config_size = 2 * word + slice + slice + slice + channels_size + (word + 4) + slice
 
 abbrev pub rules_size : ℕ
-rules_size = 2 * word + channels_size
+rules_size = 2 * word + channels_size + (word + 4) + slice
 
 -- the sizes by the numbers of `fe2o3_size`, and 0 of every other number
 abbrev pub struct_sizes : List (ℕ × ℕ)

@@ -1,10 +1,10 @@
 //! A side of a connection as a struct between calls (AMQP 1.0, part 5, section 5.3.2).
 
-ghost use Rattle.std.specs.Prelude.{◌≡◌, ◌≢◌, ◌<◌, Bool, length, IfOk, IfErr, IfSome, MatchOption, None};
-ghost use Rattle.fe2o3_sasl_wire.specs.FrameView.{shown};
+ghost use Rattle.std.specs.Prelude.{◌≡◌, ◌≢◌, ◌<◌, Bool, length, IfOk, IfErr, IfSome, MatchOption};
 ghost use Rattle.fe2o3_sasl_negotiation.specs.declared.progress.Expected.{Expected as ExpectedUnit};
 ghost use Rattle.fe2o3_sasl_negotiation.specs.declared.progress.Progress.TheVariants.{InProgress};
 ghost use Rattle.fe2o3_sasl_negotiation.specs.Negotiations.{Side, after_end_of_input};
+ghost use Rattle.fe2o3_sasl_negotiation.specs.Snapshot.{NamesNone};
 ghost use Rattle.fe2o3_scram.specs.Readings.{IsFirst};
 ghost use Rattle.sasl_c.specs.Connection.{Keeps, accepts_extended, kept_bytes, with_end_of_input, closed_status, code_status, expected_number, frame_status, profile_status, side_tests, connection_struct};
 
@@ -204,7 +204,7 @@ impl Connection {
     pub fn read(&self) -> Result<Snapshot<'_>, Status>
         ensures kept { IfOk result (λ kept. Keeps self.now kept.progress kept.expected kept.held.now) }
         ensures wanting { IfOk result (λ kept. (kept.progress ≡ InProgress) × (kept.limit ≡ 512)) }
-        ensures mock { IfOk result (λ kept. shown kept.user ≡ None) }
+        ensures mock { IfOk result NamesNone }
         ensures extended { IfOk result (λ kept. kept.extended_headers ≡ accepts_extended self.now) }
         ensures err { IfErr result (λ status. IsFirst (side_tests self.now) status) }
     {
@@ -220,6 +220,7 @@ impl Connection {
             extended_headers: is_set(self.extended_headers),
             held,
             user: None,
+            acts_for: None,
         })
     }
 }

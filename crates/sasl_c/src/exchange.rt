@@ -1,14 +1,14 @@
 //! What the struct of a SCRAM server keeps of a login that is not complete.
 
-ghost use Rattle.std.specs.Prelude.{◌≡◌, ◌<◌, List, ℕ, Option, IfOk, IfSome, IsAscii, MatchOption, length};
+ghost use Rattle.std.specs.Prelude.{◌≡◌, ◌<◌, ◌⊎◌, List, ℕ, Option, IfOk, IfSome, IsAscii, MatchOption, length};
 ghost use Rattle.std.specs.Str.{IsUtf8};
 ghost use Rattle.fe2o3_sasl_core.specs.ExtraChallenges.{Asking, phase_of};
 ghost use Rattle.fe2o3_sasl_wire.specs.FrameView.{shown};
-ghost use Rattle.sasl_c.specs.Server.{AsksHostname, AsksInAscii, HasAsked, HasRoomForInit, HasSigned, PendingInit, ShowsExchange, asked_number, asked_struct, exchange_shown, exchange_struct, init_shown, or_empty, phase_for, signed_struct};
+ghost use Rattle.sasl_c.specs.Server.{AsksHostname, AsksInAscii, HasAsked, HasRoomForInit, HasSigned, IdentityHasRoom, PendingInit, ShowsExchange, asked_number, asked_struct, exchange_shown, exchange_struct, init_shown, or_empty, phase_for, signed_struct};
 ghost use Rattle.sasl_c.specs.declared.server.ScramServer.{ScramServer as ScramStruct};
 
 use crate::arrays::{fill, head, padded};
-use crate::server::ScramServer;
+use crate::server::{ScramServer, identity_text};
 use crate::status::number_of;
 use fe2o3_sasl_core::{ChallengePhase, OutOfMemory};
 use fe2o3_sasl_wire::{Symbol, SymbolError};
@@ -37,8 +37,8 @@ pub enum ScramExchange<'a> {
     /// An open challenge of SCRAM by this hash.
     ChallengeOpen(ScramVersion, OpenChallenge<'a>),
 
-    /// The user to whom the server's signature was sent in a challenge.
-    SignatureSent(&'a str),
+    /// The user to whom the server's signature was sent in a challenge, and the identity that it acts for.
+    SignatureSent(&'a str, Option<&'a str>),
 
     /// The init that was asked for its initial response.
     InitialResponseAsked(AskedInit<'a>),
@@ -105,7 +105,7 @@ impl ScramExchange<'_> {
         match self {
             ScramExchange::NothingKept => Ok(ChallengePhase::Idle),
             ScramExchange::ChallengeOpen(_, _) => Ok(ChallengePhase::Idle),
-            ScramExchange::SignatureSent(_) => Ok(ChallengePhase::Signing),
+            ScramExchange::SignatureSent(_, _) => Ok(ChallengePhase::Signing),
             ScramExchange::InitialResponseAsked(init) => init.phase(alloc),
         }
     }
@@ -127,8 +127,8 @@ impl ScramServer {
     pub fn kept_exchange(&self) -> ScramExchange<'_>
         ensures { ShowsExchange self.now (exchange_shown result) }
     {
-        if let Some(user) = self.signed_user() {
-            return ScramExchange::SignatureSent(user);
+        if let Some((user, acts_for)) = self.signed_user() {
+            return ScramExchange::SignatureSent(user, acts_for);
         }
         if let Some(init) = self.asked_init() {
             return ScramExchange::InitialResponseAsked(init);
@@ -177,29 +177,35 @@ impl ScramServer {
         })
     }
 
-    /// Returns the user to whom the server's signature was sent in a challenge, if the struct holds one.
-    fn signed_user(&self) -> Option<&str>
-        ensures { MatchOption result ((user : List ℕ) → ¬ HasSigned self.now user)
-            (λ user. HasSigned self.now user.now) }
+    /// Returns the user to whom the server's signature was sent in a challenge, and the identity that it acts for, if the
+    /// struct holds both.
+    #[tactic(auto, using(crate::proofs::IdentityLemmas::signed))]
+    fn signed_user(&self) -> Option<(&str, Option<&str>)>
+        ensures { MatchOption result ((user : List ℕ) (acts_for : Option (List ℕ)) → ¬ HasSigned self.now user acts_for)
+            (λ signed. HasSigned self.now signed.0.now (shown signed.1)) }
     {
         if self.state != 4 {
             return None;
         }
         let user = head(&self.user, self.user_len)?;
+        let acts_for = self.identity()?;
         match str::from_utf8(user) {
-            Ok(user) => Some(user),
+            Ok(user) => Some((user, acts_for)),
             Err(_) => None,
         }
     }
 
-    /// Returns the struct of a server that has sent its signature to this user in a challenge, or `None` if the name
-    /// does not fit.
-    fn signed(user: &str) -> Option<ScramServer>
-        ensures user { MatchOption result (256 < length user.now) (λ server. HasSigned server user.now) }
-        ensures writes { IfSome result (λ server. server ≡ signed_struct user.now) }
+    /// Returns the struct of a server that has sent its signature to this user in a challenge, who acts for this identity,
+    /// or `None` if a name does not fit.
+    #[tactic(auto, using(crate::proofs::IdentityLemmas::signs))]
+    fn signed(user: &str, acts_for: Option<&str>) -> Option<ScramServer>
+        ensures user { MatchOption result ((256 < length user.now) ⊎ ¬ IdentityHasRoom (shown acts_for.entry))
+            (λ server. HasSigned server user.now (shown acts_for.entry)) }
+        ensures writes { IfSome result (λ server. server ≡ signed_struct user.now (shown acts_for.entry)) }
     {
-        let name = padded(user.as_bytes())?;
-        Some(ScramServer::with_user(4, name, user.len() as u32))
+        let _ = identity_text(acts_for);
+        let server = ScramServer::of_user(4, user, acts_for)?;
+        Some(server)
     }
 
     /// Returns the struct of a server that has asked this init for its initial response, or `None` if a text does not
@@ -236,10 +242,12 @@ impl ScramServer {
             bare_len: hostname.len() as u32,
             nonce_len: 32,
             first_len: init.mechanism.len() as u32,
+            acts_for_len: 0,
             user: [0; 256],
             bare,
             nonce,
             first,
+            acts_for: [0; 256],
         })
     }
 
@@ -255,7 +263,7 @@ impl ScramServer {
             ScramExchange::ChallengeOpen(version, challenge) => {
                 ScramServer::of(number_of(version), &challenge)
             }
-            ScramExchange::SignatureSent(user) => ScramServer::signed(user),
+            ScramExchange::SignatureSent(user, acts_for) => ScramServer::signed(user, acts_for),
             ScramExchange::InitialResponseAsked(init) => ScramServer::asked(init),
         }
     }

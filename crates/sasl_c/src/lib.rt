@@ -13,6 +13,7 @@
 //! `drop`: each `?` is a further drop to prove.
 #![tactic(auto)]
 
+mod acting;
 mod arrays;
 mod channels;
 mod client;
@@ -41,6 +42,7 @@ mod sasl_server;
 mod server;
 mod server_calls;
 mod server_errors;
+mod server_identity;
 mod server_steps;
 mod server_user;
 mod shows;

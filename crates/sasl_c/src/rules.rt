@@ -45,7 +45,7 @@ pub struct ServerChannels {
 /// always with the same values.
 #[repr(C)]
 #[derive(Drop)]
-pub struct ScramRules {
+pub struct ScramRules<'a> {
     /// Whether the GS2 header may be `y,,` too: the client supports channel binding, and was offered no mechanism with
     /// `-PLUS` (RFC 5802, section 6). 0 is no, any other value yes. Only for a server that offers no such mechanism. It
     /// has no effect if the server binds channels.
@@ -59,6 +59,18 @@ pub struct ScramRules {
 
     /// The server's channel, if it is of the mechanism with `-PLUS`.
     pub channels: ServerChannels,
+
+    /// Whether a client may name an identity to act for (RFC 5802, section 5.1). 0 is no, any other value yes. The identity
+    /// is of one or more characters and without NUL (FE2O3_SERVER_CANNOT_PARSE_GS2_HEADER), and such a server tests the
+    /// extensions like a strict one. By itself the option lets each user name only itself.
+    pub accept_authzid: u32,
+
+    /// The identities that the claimed user may act for besides itself (RFC 4422, section 2), without escapes, with a zero
+    /// byte after each. It is read with the client-final message: look up the identities of the user
+    /// (`fe2o3_scram_server_claimed_user_with_rules`), or only whether it may act for the one that the client names
+    /// (`fe2o3_scram_server_claimed_identity`). A user who may not act for the identity gets
+    /// FE2O3_SERVER_AUTHENTICATION_FAILED, like one with a wrong password.
+    pub identities: &'a [u8],
 }
 
 /// Returns the data of a kind of channel: the first bytes of an array, or no data if there are none.
@@ -106,13 +118,13 @@ impl ServerChannels {
     }
 }
 
-impl ScramRules {
+impl ScramRules<'_> {
     /// Returns the rules that the struct means. Those of zeros are the rules of a server without options.
     #[tactic(auto, using(crate::proofs::RulesLemmas::zeros))]
     pub fn shown(&self) -> Result<ServerRules, Status>
         ensures shows { ShowsRules self.now result }
         ensures zeros { self.now.accept_cbind_flag_y ≡ 0 → self.now.strict ≡ 0 → self.now.channels.binds_channel ≡ 0
-            → result ≡ Ok default_rules }
+            → self.now.accept_authzid ≡ 0 → result ≡ Ok default_rules }
     {
         self.read()
     }
@@ -126,6 +138,7 @@ impl ScramRules {
             accept_cbind_flag_y: is_set(self.accept_cbind_flag_y),
             strict: is_set(self.strict),
             channels: self.channels.shown()?,
+            accept_authzid: is_set(self.accept_authzid),
         })
     }
 }

@@ -11,8 +11,9 @@ ghost use Rattle.fe2o3_sasl_core.specs.declared.password_server.builder.BuildErr
 ghost use Rattle.fe2o3_sasl_negotiation.specs.declared.progress.Progress.TheVariants.{InProgress};
 ghost use Rattle.fe2o3_sasl_negotiation.specs.Snapshot.{IsServerKept, side_of};
 ghost use Rattle.fe2o3_sasl_negotiation.specs.Sides.{ServerConnectionSide, extended_in, server_side};
+ghost use Rattle.sasl_c.specs.Acting.{rights_for};
 ghost use Rattle.sasl_c.specs.Rules.{channels_of};
-ghost use Rattle.sasl_c.specs.SaslServer.{AddsRecord, HasNoServerWords, HasNone, IsNoConfig, NoRecordIsUnmet, NotReceived, Received, ReceivesAsServer, ServerIsReached, ServerTakes, ShowRecords, ShowsBy, ShowsState, config_tests, extra_for, one_where, passwords_number, record_for, saved_for, settings_for, state_of, struct_by, sum_of, version_of_first};
+ghost use Rattle.sasl_c.specs.SaslServer.{AddsRecord, HasNoServerWords, HasNone, IsNoConfig, NoRecordIsUnmet, NotReceived, Received, ReceivesAsServer, ServerIsReached, ServerTakes, ShowRecords, ShowsBy, ShowsState, config_tests, extra_for, record_for, saved_for, settings_for, state_of, struct_by, sum_of, version_of_first};
 ghost use Rattle.sasl_c.specs.Server.{exchange_shown, phase_for};
 ghost use Rattle.sasl_c.specs.declared.sasl_server.Choice.{Choice as Choices};
 ghost use Rattle.sasl_c.specs.Connection.{side_tests};
@@ -20,9 +21,11 @@ ghost use Rattle.sasl_c.specs.Status.{AnswersText, AsksText, AsksWhere, FillsWit
 ghost use Rattle.sasl_c.specs.declared.status.Status.TheVariants.{OutOfMemory as StatusOutOfMemory, InvalidSnapshot as StatusInvalidSnapshot, TooLong as StatusTooLong};
 ghost use Rattle.sasl_c.specs.declared.status.WriteError.TheVariants.{RoomTooSmall};
 
+use crate::acting::acting_rights;
 use crate::arrays::put;
 use crate::connection::Connection;
 use crate::exchange::ScramExchange;
+use crate::flags::{is_set, split, split_passwords};
 use crate::records::ScramRecord;
 use crate::rules::ServerChannels;
 use crate::server::ScramServer;
@@ -35,9 +38,11 @@ use fe2o3_sasl_core::{
 };
 use fe2o3_sasl_negotiation::{RestoreError, ServerNegotiation, Snapshot};
 use fe2o3_scram::{
-    ChannelBindings, Meter, MultiRecordStore, ScramCredentialProvider, ScramVersion, StoredPassword,
+    ActingRights, ChannelBindings, Meter, MultiRecordStore, ScramCredentialProvider, ScramVersion,
+    StoredPassword,
 };
 use std::alloc::Global;
+use std::sync::Arc;
 
 /// What a server offers, and the records of one user. You lend the struct to each call.
 #[repr(C)]
@@ -71,6 +76,14 @@ pub struct SaslServerConfig<'a> {
     /// the other mechanisms. SCRAM without `-PLUS` then accepts no client that has seen no such mechanism (`y,,`; RFC
     /// 5802, section 6), whatever FE2O3_ACCEPT_CBIND_FLAG_Y says.
     pub channels: ServerChannels,
+
+    /// Whether a client of SCRAM may name an identity to act for (RFC 5802, section 5.1), as by the field `accept_authzid` of
+    /// struct fe2o3_scram_rules. 0 is no, any other value yes.
+    pub accept_authzid: u32,
+
+    /// The identities that the user may act for besides itself (RFC 4422, section 2), without escapes, with a zero byte
+    /// after each. After the login `fe2o3_scram_server_acts_for` returns the one that the user acts for.
+    pub identities: &'a [u8],
 }
 
 /// The server's side of a connection between calls. All zeros is a connection that has received nothing.
@@ -81,7 +94,8 @@ pub struct SaslServer {
     pub connection: Connection,
 
     /// The SCRAM server. After a login by any mechanism it holds the authenticated user
-    /// (`fe2o3_scram_server_authenticated_user`). ANONYMOUS has none.
+    /// (`fe2o3_scram_server_authenticated_user`), and after one by SCRAM the identity that the user acts for
+    /// (`fe2o3_scram_server_acts_for`). ANONYMOUS has no user.
     pub scram: ScramServer,
 }
 
@@ -109,34 +123,6 @@ struct Choice {
 
     /// Which passwords PLAIN tests.
     passwords: PlainPasswords,
-}
-
-/// Whether a number is in a sum below its double, and the rest.
-fn split(sum: u32, n: u32) -> (bool, u32)
-    requires { sum < n + n }
-    ensures sum { sum ≡ one_where result.0 n + result.1 }
-    ensures rest { result.1 < n }
-{
-    if sum < n {
-        (false, sum)
-    } else {
-        (true, sum - n)
-    }
-}
-
-/// Returns the form of PLAIN's passwords of a sum, and the rest.
-fn split_passwords(sum: u32) -> (PlainPasswords, u32)
-    requires { sum ≤ 383 }
-    ensures sum { sum ≡ passwords_number result.0 + result.1 }
-    ensures rest { result.1 < 128 }
-{
-    if sum < 128 {
-        (PlainPasswords::Typed, sum)
-    } else if sum < 256 {
-        (PlainPasswords::Prepared, sum - 128)
-    } else {
-        (PlainPasswords::Saslprep, sum - 256)
-    }
 }
 
 impl Choice {
@@ -284,11 +270,13 @@ impl SaslServerConfig<'_> {
         version: ScramVersion,
         external: &str,
         channels: Option<ChannelBindings>,
+        rights: &Arc<ActingRights>,
         exchange: &ScramExchange<'_>,
     ) -> Result<PasswordServer, BuildError>
         requires channels { channels ≡ channels_of self.now.channels }
         requires version { version ≡ version_of_first store.now }
         requires external { external.now ≡ self.now.external_authcid.now }
+        requires rights { rights.now.value ≡ rights_for self.now.username.now self.now.identities.now }
         ensures ok { IfOk result (λ server. password_state server
             ≡ password_server (settings_for self.now choice store.now (saved_for store.now version false (exchange_shown exchange.now)))) }
         ensures none { IfErr result (λ error. error ≡ BuildNoMechanism
@@ -301,6 +289,8 @@ impl SaslServerConfig<'_> {
             .accept_cbind_flag_y(choice.cbind_flag_y)
             .strict(choice.strict)
             .channels(channels)
+            .accept_authzid(is_set(self.accept_authzid))
+            .acting_rights(rights)
             .plain_under_tls(choice.plain)
             .plain_records(version, self.iterations)
             .plain_passwords(choice.passwords)
@@ -309,7 +299,9 @@ impl SaslServerConfig<'_> {
         match exchange {
             ScramExchange::NothingKept => builder.build(alloc),
             ScramExchange::InitialResponseAsked(_) => builder.build(alloc),
-            ScramExchange::SignatureSent(user) => builder.authenticated(version, user).build(alloc),
+            ScramExchange::SignatureSent(user, acts_for) => builder
+                .authenticated(version, user, *acts_for)
+                .build(alloc),
             ScramExchange::ChallengeOpen(hash, challenge) => {
                 let stored = record_for(store, *hash, challenge.username);
                 match builder
@@ -324,12 +316,15 @@ impl SaslServerConfig<'_> {
     }
 
     /// Tests that the words of the configuration are texts.
-    fn words(&self) -> Result<(&str, &str), Status>
+    fn words(&self) -> Result<(&str, &str, &str), Status>
         ensures { MatchResult result (λ words. (words.0.now ≡ self.now.username.now)
-            × (words.1.now ≡ self.now.external_authcid.now) × IsUtf8 self.now.username.now × IsUtf8 self.now.external_authcid.now)
+            × (words.1.now ≡ self.now.external_authcid.now) × (words.2.now ≡ self.now.identities.now)
+            × IsUtf8 self.now.username.now × IsUtf8 self.now.external_authcid.now × IsUtf8 self.now.identities.now)
             (λ status. HasNoServerWords self.now status) }
     {
-        Ok((text(self.username)?, text(self.external_authcid)?))
+        let username = text(self.username)?;
+        let external = text(self.external_authcid)?;
+        Ok((username, external, text(self.identities)?))
     }
 
     /// The library's server, which continues what the struct of SCRAM keeps of a login.
@@ -344,7 +339,7 @@ impl SaslServerConfig<'_> {
         let Some(choice) = Choice::of(self.mechanisms) else {
             return Err(Status::NoSuchMechanism);
         };
-        let (username, external) = match self.words() {
+        let (username, external, identities) = match self.words() {
             Ok(words) => words,
             Err(status) => return Err(status),
         };
@@ -356,11 +351,15 @@ impl SaslServerConfig<'_> {
             Ok(store) => store,
             Err(status) => return Err(status),
         };
+        let rights = match acting_rights(alloc, username, identities) {
+            Ok(rights) => rights,
+            Err(status) => return Err(status),
+        };
         let version = self.first_version();
         let exchange = scram.kept_exchange();
         let phase = exchange.phase(alloc)?;
         match self.server(
-            alloc, choice, &store, version, external, channels, &exchange,
+            alloc, choice, &store, version, external, channels, &rights, &exchange,
         ) {
             Ok(server) => Ok(WithExtraChallenges::with_phase(server, choice.extra(), phase)),
             Err(BuildError::NoMechanism) => Err(Status::NoSuchMechanism),

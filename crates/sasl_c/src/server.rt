@@ -1,11 +1,13 @@
 //! A SCRAM server whose state is a struct between its calls.
 
-ghost use Rattle.std.specs.Prelude.{◌≡◌, ◌≢◌, ◌<◌, ◌≤◌, ◌↔◌, IsTrue, length, take, IfSome, MatchOption};
+ghost use Rattle.std.specs.Prelude.{◌≡◌, ◌≢◌, ◌<◌, ◌≤◌, ◌↔◌, ◌⊎◌, ℕ, List, Option, IsTrue, length, take, IfSome, MatchOption};
+ghost use Rattle.std.specs.Str.{IsUtf8};
+ghost use Rattle.fe2o3_sasl_wire.specs.FrameView.{shown};
 ghost use Rattle.fe2o3_scram.specs.ServerFirst.{ServerChallenge};
 ghost use Rattle.fe2o3_scram.specs.declared.hmac.ScramVersion.{ScramVersion as ScramVersions};
 ghost use Rattle.fe2o3_scram.specs.ScramServer.{challenge_kept};
 ghost use Rattle.fe2o3_scram.specs.declared.scram_messages.channel_binding_flag.ChannelBindingFlag.{ChannelBindingFlag as HeaderOf};
-ghost use Rattle.sasl_c.specs.Server.{ChallengeHasRoom, IsAuthenticated, IsOpen, IsOpenBy, IsOpenFor, authenticated_struct, fresh_server_struct, open_number, open_struct, user_struct};
+ghost use Rattle.sasl_c.specs.Server.{ChallengeHasRoom, HoldsIdentity, IdentityHasRoom, IsLoggedIn, IsOpen, IsOpenBy, IsOpenFor, authenticated_struct, fresh_server_struct, identity_in, named_struct, open_number, open_struct, or_empty, user_struct};
 
 use crate::arrays::{cleared, fill, head, padded};
 use crate::rules::takes;
@@ -37,6 +39,9 @@ pub struct ScramServer {
     /// The number of bytes of `first` in use.
     pub first_len: u32,
 
+    /// The number of bytes of `acts_for` in use, or 0 if the client acts for itself.
+    pub acts_for_len: u32,
+
     /// The user name, without escapes. While a challenge is open the client only claims it; afterwards it is
     /// authenticated.
     pub user: [u8; 256],
@@ -49,6 +54,10 @@ pub struct ScramServer {
 
     /// The server-first message.
     pub first: [u8; 1024],
+
+    /// The identity that the client acts for, without escapes (RFC 5802, section 5.1). While a challenge is open the client
+    /// only names it; afterwards the user may act for it.
+    pub acts_for: [u8; 256],
 }
 
 impl ScramServer {
@@ -64,16 +73,25 @@ impl ScramServer {
             bare_len: 0,
             nonce_len: 0,
             first_len: 0,
+            acts_for_len: 0,
             user: [0; 256],
             bare: [0; 1024],
             nonce: [0; 512],
             first: [0; 1024],
+            acts_for: [0; 256],
         }
     }
 
-    /// Returns the struct of a server that keeps only a user, the first `user_len` bytes of this array, in this state.
-    pub fn with_user(state: u32, user: [u8; 256], user_len: u32) -> ScramServer
-        ensures { result ≡ user_struct state user_len user }
+    /// Returns the struct of a server that keeps only a user and an identity, the first bytes of these arrays, in this
+    /// state.
+    fn with_names(
+        state: u32,
+        user: [u8; 256],
+        user_len: u32,
+        acts_for: [u8; 256],
+        acts_for_len: u32,
+    ) -> ScramServer
+        ensures { result ≡ user_struct state user_len user acts_for_len acts_for }
     {
         ScramServer {
             state,
@@ -82,29 +100,55 @@ impl ScramServer {
             bare_len: 0,
             nonce_len: 0,
             first_len: 0,
+            acts_for_len,
             user,
             bare: [0; 1024],
             nonce: [0; 512],
             first: [0; 1024],
+            acts_for,
         }
     }
 
-    /// Returns the struct of a server that has authenticated this user, or `None` if the name does not fit.
-    pub fn logged_in(user: &str) -> Option<ScramServer>
-        ensures user { MatchOption result (256 < length user.now) (λ server. IsAuthenticated server user.now) }
-        ensures writes { IfSome result (λ server. server ≡ authenticated_struct user.now) }
+    /// Returns the struct of a server that keeps only this user and the identity that it acts for, in this state, or `None`
+    /// if a name does not fit.
+    pub fn of_user(state: u32, user: &str, acts_for: Option<&str>) -> Option<ScramServer>
+        ensures { MatchOption result ((256 < length user.now) ⊎ ¬ IdentityHasRoom (shown acts_for.entry))
+            (λ server. (length user.now ≤ 256) × IdentityHasRoom (shown acts_for.entry)
+            × (server ≡ named_struct state user.now (shown acts_for.entry))) }
     {
         let name = padded(user.as_bytes())?;
-        Some(ScramServer::with_user(2, name, user.len() as u32))
+        if !identity_fits(acts_for) {
+            return None;
+        }
+        let identity = identity_text(acts_for);
+        let mut named = [0; 256];
+        fill(&mut named, identity.as_bytes());
+        Some(ScramServer::with_names(state, name, user.len() as u32, named, identity.len() as u32))
     }
 
-    /// Turns the struct into that of a server that has authenticated the user of the challenge, which keeps only the name
-    /// of the exchange.
-    pub fn log_in(&mut self)
-        requires { self.old.user_len ≤ 256 }
-        ensures { self.new ≡ authenticated_struct (take self.old.user_len self.old.user) }
+    /// Returns the struct of a server that has authenticated this user for this identity, or `None` if a name does not fit.
+    #[tactic(auto, using(crate::proofs::IdentityLemmas::logged_in))]
+    pub fn logged_in(user: &str, acts_for: Option<&str>) -> Option<ScramServer>
+        ensures user { MatchOption result ((256 < length user.now) ⊎ ¬ IdentityHasRoom (shown acts_for.entry))
+            (λ server. IsLoggedIn server user.now (shown acts_for.entry)) }
+        ensures writes { IfSome result (λ server. server ≡ authenticated_struct user.now (shown acts_for.entry)) }
     {
-        *self = ScramServer::with_user(2, cleared(&self.user, self.user_len), self.user_len);
+        let server = ScramServer::of_user(2, user, acts_for)?;
+        Some(server)
+    }
+
+    /// Turns the struct into that of a server that has authenticated the user of the challenge, which keeps only the names
+    /// of the exchange.
+    #[tactic(auto, using(crate::proofs::IdentityLemmas::kept_identity))]
+    pub fn log_in(&mut self)
+        requires user { self.old.user_len ≤ 256 }
+        requires identity { self.old.acts_for_len ≤ 256 }
+        ensures { self.new ≡ authenticated_struct (take self.old.user_len self.old.user)
+            (identity_in self.old.acts_for_len self.old.acts_for) }
+    {
+        let user = cleared(&self.user, self.user_len);
+        let acts_for = cleared(&self.acts_for, self.acts_for_len);
+        *self = ScramServer::with_names(2, user, self.user_len, acts_for, self.acts_for_len);
     }
 
     /// Returns the struct of a server with this open challenge, by the hash of this number, or `None` if a text of the
@@ -129,16 +173,19 @@ impl ScramServer {
         ensures open { IsOpen self.new (challenge_kept challenge.now) }
         ensures writes { self.new ≡ open_struct version (challenge_kept challenge.now) }
     {
+        let identity = identity_text(challenge.acts_for);
         self.state = open_number(challenge.header);
         self.version = version;
         self.user_len = challenge.username.len() as u32;
         self.bare_len = challenge.client_first_message_bare.len() as u32;
         self.nonce_len = challenge.client_server_nonce.len() as u32;
         self.first_len = challenge.server_first_message.len() as u32;
+        self.acts_for_len = identity.len() as u32;
         fill(&mut self.user, challenge.username.as_bytes());
         fill(&mut self.bare, challenge.client_first_message_bare);
         fill(&mut self.nonce, challenge.client_server_nonce);
         fill(&mut self.first, challenge.server_first_message);
+        fill(&mut self.acts_for, identity.as_bytes());
     }
 }
 
@@ -150,6 +197,28 @@ pub fn fits(challenge: &OpenChallenge<'_>) -> bool
         && challenge.client_first_message_bare.len() <= 1024
         && challenge.client_server_nonce.len() <= 512
         && challenge.server_first_message.len() <= 1024
+        && identity_fits(challenge.acts_for)
+}
+
+/// Returns whether an identity fits into the struct, where no bytes are none.
+fn identity_fits(acts_for: Option<&str>) -> bool
+    ensures { IsTrue result ↔ IdentityHasRoom (shown acts_for.entry) }
+{
+    match acts_for {
+        Some(name) => !name.is_empty() && name.len() <= 256,
+        None => true,
+    }
+}
+
+/// Returns the identity, or the empty text if there is none.
+pub fn identity_text(acts_for: Option<&str>) -> &str
+    ensures text { result.now ≡ or_empty (shown acts_for.entry) }
+    ensures utf8 { IsUtf8 (or_empty (shown acts_for.entry)) }
+{
+    match acts_for {
+        Some(name) => name,
+        None => "",
+    }
 }
 
 /// Returns the state of a struct with an open challenge to a client with this GS2 header.
@@ -205,7 +274,23 @@ impl ScramServer {
         Some(challenge)
     }
 
+    /// Returns the identity that the struct holds, or none if it holds no bytes of one. `None` if these are no text.
+    #[tactic(auto, using(crate::proofs::IdentityLemmas::identity))]
+    pub fn identity(&self) -> Option<Option<&str>>
+        ensures { MatchOption result
+            ((acts_for : Option (List ℕ)) → HoldsIdentity self.now acts_for → ¬ IsUtf8 (or_empty acts_for))
+            (λ acts_for. HoldsIdentity self.now (shown acts_for) × IsUtf8 (or_empty (shown acts_for))) }
+    {
+        let bytes = head(&self.acts_for, self.acts_for_len)?;
+        match str::from_utf8(bytes) {
+            Ok(name) if name.is_empty() => Some(None),
+            Ok(name) => Some(Some(name)),
+            Err(_) => None,
+        }
+    }
+
     /// Returns the open challenge, if the struct holds one.
+    #[tactic(auto, using(crate::proofs::IdentityLemmas::challenge))]
     pub fn challenge(&self) -> Option<OpenChallenge<'_>>
         ensures { MatchOption result ((challenge : ServerChallenge) → ¬ IsOpen self.now challenge)
             (λ challenge. IsOpen self.now (challenge_kept challenge)) }
@@ -215,10 +300,12 @@ impl ScramServer {
         let bare = head(&self.bare, self.bare_len)?;
         let nonce = head(&self.nonce, self.nonce_len)?;
         let first = head(&self.first, self.first_len)?;
+        let acts_for = self.identity()?;
         match str::from_utf8(user) {
             Ok(username) => Some(OpenChallenge {
                 username,
                 header,
+                acts_for,
                 client_first_message_bare: bare,
                 client_server_nonce: nonce,
                 server_first_message: first,

@@ -1,7 +1,7 @@
 //! The calls of a SCRAM server whose state is a struct between them.
 
-ghost use Rattle.std.specs.Prelude.{◌≡◌, ◌≢◌, ◌≤◌, ◌^◌, List, ℕ, None, length, Ok, Err, IfOk, IfErr, OnErr};
-ghost use Rattle.fe2o3_scram.specs.ClientFirst.{HasEscapes, default_rules, either_header};
+ghost use Rattle.std.specs.Prelude.{◌≡◌, ◌≢◌, ◌≤◌, ◌^◌, [], List, ℕ, Option, None, length, Ok, Err, IfOk, IfErr, OnErr};
+ghost use Rattle.fe2o3_scram.specs.ClientFirst.{HasEscapes, client_first_values, default_rules, either_header};
 ghost use Rattle.fe2o3_scram.specs.Credentials.{Record};
 ghost use Rattle.fe2o3_scram.specs.ServerFirst.{ServerChallenge};
 ghost use Rattle.fe2o3_scram.specs.ScramServer.{Initial, ServerFirstSent, challenge_kept, provider_in, state_in, rules_in, mock_in};
@@ -11,6 +11,7 @@ ghost use Rattle.sasl_c.specs.Status.{AnswersText, AsksText, AsksWhere, Fills, F
 ghost use Rattle.sasl_c.specs.declared.status.Status.TheVariants.{OutOfMemory as StatusOutOfMemory};
 ghost use Rattle.sasl_c.specs.declared.status.WriteError.TheVariants.{RoomTooSmall};
 
+use crate::acting::may_act;
 use crate::arrays::{head, put, write};
 use crate::records::ScramRecord;
 use crate::rules::{ScramRules, with_cbind_flag_y};
@@ -30,6 +31,7 @@ const EITHER_HEADER: ServerRules = ServerRules {
     accept_cbind_flag_y: true,
     strict: false,
     channels: None,
+    accept_authzid: false,
 };
 
 /// Returns a server over these credentials, with these rules for the messages of a client.
@@ -193,23 +195,25 @@ pub extern "C" fn fe2o3_scram_server_first_with_cbind_flag_y(
 /// `fe2o3_scram_server_first` does.
 ///
 /// If the server binds channels, the GS2 header has to be `p=` with the name of a kind whose data the rules have
-/// (section 6). Otherwise it has to be `n,,`, or `y,,` if the rules accept that.
+/// (section 6). Otherwise it has to be `n,,`, or `y,,` if the rules accept that. It may name an identity to act for, as
+/// `n,a=NAME,`, if the rules accept that.
 ///
 /// The errors are, in this order:
 ///
 /// - FE2O3_CHANNEL_DATA_LENGTH if the rules bind channels, and data have more than 64 bytes,
 /// - FE2O3_SERVER_UTF8_ERROR,
-/// - FE2O3_SERVER_CANNOT_PARSE_GS2_HEADER if the rules do not accept the header,
+/// - FE2O3_SERVER_CANNOT_PARSE_GS2_HEADER if the rules do not accept the header, or its identity is empty, has NUL or a
+///   wrong escape,
 /// - FE2O3_SERVER_CANNOT_PARSE_USERNAME and FE2O3_SERVER_CANNOT_PARSE_CLIENT_NONCE,
 /// - the same two of a strict server, if the name is empty or has NUL, or the nonce is empty or not printable,
-/// - FE2O3_SERVER_MISPLACED_ATTRIBUTE of a server that is strict or binds channels,
+/// - FE2O3_SERVER_MISPLACED_ATTRIBUTE of a server that is strict, binds channels or accepts identities,
 /// - FE2O3_NO_SUCH_VERSION and FE2O3_TOO_LONG if `kept` holds no record,
 /// - FE2O3_TOO_LONG if a text of the challenge does not fit into the struct,
 /// - FE2O3_ROOM_TOO_SMALL.
 #[unsafe(no_mangle)]
 pub extern "C" fn fe2o3_scram_server_first_with_rules(
     alloc: Global,
-    rules: &ScramRules,
+    rules: &ScramRules<'_>,
     kept: &ScramRecord,
     server: &mut ScramServer,
     nonce: &[u8; 32],
@@ -239,7 +243,7 @@ pub extern "C" fn fe2o3_scram_server_first_with_rules(
 /// Writes the server-first message by the rules of a struct, and the struct of the server with its open challenge.
 fn first_by_rules(
     alloc: Global,
-    rules: &ScramRules,
+    rules: &ScramRules<'_>,
     kept: &ScramRecord,
     server: &mut ScramServer,
     nonce: &[u8; 32],
@@ -294,7 +298,7 @@ pub extern "C" fn fe2o3_scram_server_claimed_user(
 #[unsafe(no_mangle)]
 pub extern "C" fn fe2o3_scram_server_claimed_user_with_rules(
     alloc: Global,
-    rules: &ScramRules,
+    rules: &ScramRules<'_>,
     client_first: &[u8],
     out: &mut [u8],
     out_len: &mut usize,
@@ -310,7 +314,7 @@ pub extern "C" fn fe2o3_scram_server_claimed_user_with_rules(
 /// Writes the user name that a client-first message claims, by the rules of a struct.
 fn claimed_by_rules(
     alloc: Global,
-    rules: &ScramRules,
+    rules: &ScramRules<'_>,
     client_first: &[u8],
     out: &mut [u8],
     out_len: &mut usize,
@@ -342,29 +346,39 @@ fn claimed_into(
     ensures memory { AsksText (HasEscapes rules client_first.now) result }
 {
     match ClientFirst::parse_with_rules(alloc, client_first, rules) {
-        Ok(first) => put(first.username.as_bytes(), out, out_len),
+        Ok(first) => put(user_of(&first), out, out_len),
         Err(why) => Err(WriteError::Other(Status::from(why))),
     }
 }
 
-/// Returns the server-final message.
+/// Returns the user name that a client-first message claims. It is a function of its own because the proof of
+/// `claimed_into` cites its contract.
+fn user_of<'a>(first: &'a ClientFirst<'_>) -> &'a [u8]
+    ensures { result.now ≡ (client_first_values first.now).user }
+{
+    first.username.as_bytes()
+}
+
+/// Returns the server-final message to a user who may act for these identities.
 fn concluded(
     alloc: Global,
     rules: ServerRules,
+    identities: &[u8],
     kept: &ScramRecord,
     server: &ScramServer,
     client_final: &[u8],
     meter: &mut Meter,
 ) -> Result<Vec<u8>, Status>
     requires { meter.old ≤ 2 ^ 63 }
-    ensures ok { IfOk result (λ message. (user : List ℕ)
-        × ConcludesLogin rules kept.now server.now client_final.now message.items user) }
+    ensures ok { IfOk result (λ message. (user : List ℕ) × (acts_for : Option (List ℕ))
+        × ConcludesLogin rules identities.now kept.now server.now client_final.now message.items user acts_for) }
     ensures fits { IfOk result (λ message. length message.items ≤ 90) }
-    ensures named { IfOk result (λ _. server.now.user_len ≤ 256) }
+    ensures named { IfOk result (λ _. (server.now.user_len ≤ 256) × (server.now.acts_for_len ≤ 256)) }
     ensures err { IfErr result (λ status. status ≢ StatusOutOfMemory
-        → Concludes rules kept.now client_final.now server.now server.now (Err status)) }
+        → Concludes rules identities.now kept.now client_final.now server.now server.now (Err status)) }
     ensures memory { AsksWhere (FinalAsks rules kept.now client_final.now server.now) result }
-    ensures cost { AsksWhere (MemoryCosts rules kept.now client_final.now server.now meter.old meter.new) result }
+    ensures cost { AsksWhere (MemoryCosts rules identities.now kept.now client_final.now server.now meter.old meter.new)
+        result }
 {
     let Some(challenge) = server.challenge_for(&rules) else {
         return Err(Status::Server(ServerScramErrorKind::IllegalAuthenticatorState));
@@ -373,7 +387,7 @@ fn concluded(
         Ok(shown) => shown,
         Err(status) => return Err(status),
     };
-    let header = ClientHeader::new(rules.expected_channel(challenge.header), None);
+    let header = ClientHeader::new(rules.expected_channel(challenge.header), challenge.acts_for);
     let strict = rules.is_strict();
     match version.compute_server_final_message_with_header(
         alloc,
@@ -384,6 +398,7 @@ fn concluded(
         challenge.client_first_message_bare,
         challenge.server_first_message,
         &stored,
+        may_act(challenge.username, challenge.acts_for, identities),
         meter,
     ) {
         Ok(message) => Ok(message),
@@ -399,6 +414,7 @@ const FINAL_MOST: usize = 90;
 fn conclude(
     alloc: Global,
     rules: ServerRules,
+    identities: &[u8],
     kept: &ScramRecord,
     server: &mut ScramServer,
     client_final: &[u8],
@@ -407,18 +423,19 @@ fn conclude(
     out_len: &mut usize,
 ) -> Result<(), WriteError>
     requires { meter.old ≤ 2 ^ 63 }
-    ensures text { FillsWithin 90 (Concludes rules kept.now client_final.now server.old server.new)
+    ensures text { FillsWithin 90 (Concludes rules identities.now kept.now client_final.now server.old server.new)
         (record { bytes = out.old; len = out_len.old }) (record { bytes = out.new; len = out_len.new }) result }
     ensures stays { OnErr result (server.new ≡ server.old) }
     ensures first { IfErr result (λ status. status ≡ RoomTooSmall → meter.new ≡ meter.old) }
     ensures memory { AsksText (FinalAsks rules kept.now client_final.now server.old) result }
-    ensures cost { AsksText (MemoryCosts rules kept.now client_final.now server.old meter.old meter.new) result }
+    ensures cost { AsksText (MemoryCosts rules identities.now kept.now client_final.now server.old meter.old meter.new)
+        result }
 {
     if out.len() < FINAL_MOST {
         *out_len = FINAL_MOST;
         return Err(WriteError::RoomTooSmall);
     }
-    let message = concluded(alloc, rules, kept, server, client_final, meter)?;
+    let message = concluded(alloc, rules, identities, kept, server, client_final, meter)?;
     put(&message, out, out_len)?;
     server.log_in();
     Ok(())
@@ -438,7 +455,7 @@ pub extern "C" fn fe2o3_scram_server_final(
     out: &mut [u8],
     out_len: &mut usize,
 ) -> u32
-    ensures { AnswersText result (λ answer. FillsWithin 90 (Concludes default_rules kept.now client_final.now server.old server.new)
+    ensures { AnswersText result (λ answer. FillsWithin 90 (Concludes default_rules [] kept.now client_final.now server.old server.new)
         (record { bytes = out.old; len = out_len.old }) (record { bytes = out.new; len = out_len.new }) answer
         × OnErr answer (server.new ≡ server.old) × AsksText (FinalAsks default_rules kept.now client_final.now server.old) answer) }
 {
@@ -446,6 +463,7 @@ pub extern "C" fn fe2o3_scram_server_final(
     text_number(conclude(
         alloc,
         ServerRules::new(),
+        &[],
         kept,
         server,
         client_final,
@@ -473,12 +491,14 @@ pub extern "C" fn fe2o3_scram_server_final(
 ///   the rules,
 /// - FE2O3_SERVER_CANNOT_PARSE_CLIENT_FINAL_MESSAGE and FE2O3_SERVER_INCORRECT_CLIENT_FINAL_NONCE,
 /// - FE2O3_SERVER_PROOF_NOT_FOUND_IN_CLIENT_FINAL and FE2O3_SERVER_BASE64_DECODE_ERROR, of the proof,
-/// - FE2O3_SERVER_MISPLACED_ATTRIBUTE of a server that is strict or binds channels,
-/// - FE2O3_SERVER_XOR_LENGTH_MISMATCH and FE2O3_SERVER_AUTHENTICATION_FAILED if the proof is wrong.
+/// - FE2O3_SERVER_MISPLACED_ATTRIBUTE of a server that is strict, binds channels or accepts identities,
+/// - FE2O3_SERVER_XOR_LENGTH_MISMATCH if the proof is not as long as a digest,
+/// - FE2O3_SERVER_AUTHENTICATION_FAILED if the proof is wrong, or the user may not act for the identity that the client
+///   named (RFC 4422, section 2).
 #[unsafe(no_mangle)]
 pub extern "C" fn fe2o3_scram_server_final_with_rules(
     alloc: Global,
-    rules: &ScramRules,
+    rules: &ScramRules<'_>,
     kept: &ScramRecord,
     server: &mut ScramServer,
     client_final: &[u8],
@@ -487,7 +507,7 @@ pub extern "C" fn fe2o3_scram_server_final_with_rules(
 ) -> u32
     ensures { AnswersText result (λ answer. ByRules rules.now
         ((server.new ≡ server.old) × (out.new ≡ out.old) × (out_len.new ≡ out_len.old))
-        (λ shown answer. FillsWithin 90 (Concludes shown kept.now client_final.now server.old server.new)
+        (λ shown answer. FillsWithin 90 (Concludes shown rules.now.identities.now kept.now client_final.now server.old server.new)
         (record { bytes = out.old; len = out_len.old }) (record { bytes = out.new; len = out_len.new }) answer
         × OnErr answer (server.new ≡ server.old) × AsksText (FinalAsks shown kept.now client_final.now server.old) answer)
         answer) }
@@ -498,7 +518,7 @@ pub extern "C" fn fe2o3_scram_server_final_with_rules(
 /// Writes the server-final message by the rules of a struct.
 fn conclude_by_rules(
     alloc: Global,
-    rules: &ScramRules,
+    rules: &ScramRules<'_>,
     kept: &ScramRecord,
     server: &mut ScramServer,
     client_final: &[u8],
@@ -507,17 +527,18 @@ fn conclude_by_rules(
 ) -> Result<(), WriteError>
     ensures { ByRules rules.now
         ((server.new ≡ server.old) × (out.new ≡ out.old) × (out_len.new ≡ out_len.old))
-        (λ shown answer. FillsWithin 90 (Concludes shown kept.now client_final.now server.old server.new)
+        (λ shown answer. FillsWithin 90 (Concludes shown rules.now.identities.now kept.now client_final.now server.old server.new)
         (record { bytes = out.old; len = out_len.old }) (record { bytes = out.new; len = out_len.new }) answer
         × OnErr answer (server.new ≡ server.old) × AsksText (FinalAsks shown kept.now client_final.now server.old) answer)
         result }
 {
     match rules.shown() {
-        Ok(rules) => {
+        Ok(shown) => {
             let mut meter = Meter::new();
             conclude(
                 alloc,
-                rules,
+                shown,
+                rules.identities,
                 kept,
                 server,
                 client_final,

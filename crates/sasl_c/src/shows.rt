@@ -21,18 +21,24 @@ use fe2o3_scram::{OpenChallenge, ScramVersion};
 
 /// Returns the struct of SCRAM for a login of this progress, or `None` if a text does not fit.
 #[tactic(auto, using(crate::proofs::SaslServerLemmas::shown))]
-fn shown(progress: Progress, exchange: ScramExchange<'_>, user: Option<&str>) -> Option<ScramServer>
+fn shown(
+    progress: Progress,
+    exchange: ScramExchange<'_>,
+    user: Option<&str>,
+    acts_for: Option<&str>,
+) -> Option<ScramServer>
     ensures shows { MatchOption result
         ((scram : ScramStruct) → ¬ ShowsProgress scram progress (exchange_shown exchange.entry)
-        (option_map (λ user. user.now) user.entry)) (λ scram. ShowsProgress scram progress
-        (exchange_shown exchange.entry) (option_map (λ user. user.now) user.entry)) }
+        (option_map (λ user. user.now) user.entry) (option_map (λ name. name.now) acts_for.entry))
+        (λ scram. ShowsProgress scram progress (exchange_shown exchange.entry)
+        (option_map (λ user. user.now) user.entry) (option_map (λ name. name.now) acts_for.entry)) }
     ensures writes { IfSome result (λ scram. scram ≡ progress_struct progress (exchange_shown exchange.entry)
-        (option_map (λ user. user.now) user.entry)) }
+        (option_map (λ user. user.now) user.entry) (option_map (λ name. name.now) acts_for.entry)) }
 {
     match progress {
         Progress::InProgress => ScramServer::of_exchange(exchange),
         Progress::Authenticated => match user {
-            Some(user) => ScramServer::logged_in(user),
+            Some(user) => ScramServer::logged_in(user, acts_for),
             None => Some(ScramServer::fresh()),
         },
         Progress::Failed(_) => Some(ScramServer::fresh()),
@@ -67,12 +73,13 @@ impl OpensChallenges for PasswordServer {
 /// all other phases no proof is found.
 fn exchange_of<A: OpensChallenges>(server: &WithExtraChallenges<A>) -> ScramExchange<'_>
     ensures { exchange_shown result
-        ≡ exchange_in (phase_of server.now.phase) (A.opened server.now.acceptor) (A.named server.now.acceptor) }
+        ≡ exchange_in (phase_of server.now.phase) (A.opened server.now.acceptor) (A.named server.now.acceptor)
+        (A.acting server.now.acceptor) }
 {
     let inner = server.acceptor();
     match server.phase() {
         ChallengePhase::Signing => match inner.authenticated_user() {
-            Some(user) => ScramExchange::SignatureSent(user),
+            Some(user) => ScramExchange::SignatureSent(user, inner.acts_for()),
             None => ScramExchange::NothingKept,
         },
         ChallengePhase::Idle => open_of(inner),
@@ -114,14 +121,21 @@ pub trait Shows: AuthenticatedUser {
 
 impl<A: OpensChallenges> Shows for WithExtraChallenges<A> {
     ghost shows = { λ scram progress server. ShowsProgress scram progress
-        (exchange_in (phase_of server.phase) (A.opened server.acceptor) (A.named server.acceptor))
-        (extended_user (phase_of server.phase) (A.named server.acceptor)) };
+        (exchange_in (phase_of server.phase) (A.opened server.acceptor) (A.named server.acceptor)
+        (A.acting server.acceptor)) (extended_user (phase_of server.phase) (A.named server.acceptor))
+        (extended_user (phase_of server.phase) (A.acting server.acceptor)) };
 
     ghost written_for = { λ progress server. progress_struct progress
-        (exchange_in (phase_of server.phase) (A.opened server.acceptor) (A.named server.acceptor))
-        (extended_user (phase_of server.phase) (A.named server.acceptor)) };
+        (exchange_in (phase_of server.phase) (A.opened server.acceptor) (A.named server.acceptor)
+        (A.acting server.acceptor)) (extended_user (phase_of server.phase) (A.named server.acceptor))
+        (extended_user (phase_of server.phase) (A.acting server.acceptor)) };
 
     fn shown(&self, progress: Progress) -> Option<ScramServer> {
-        shown(progress, exchange_of(self), self.authenticated_user())
+        shown(
+            progress,
+            exchange_of(self),
+            self.authenticated_user(),
+            self.acts_for(),
+        )
     }
 }

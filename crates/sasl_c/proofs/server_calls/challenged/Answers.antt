@@ -45,8 +45,8 @@ returns-in-Ok-None-clause-err c = λ _.
     c.in-Ok.ensures.answer c.in_ok-username.ensures.ok
     (c.server_over-machine.ensures.provider ∙ c.new-credential.ensures) held
 
-pub returns-in-Err-compute_server_first_message-clause-err : goal.returns-in-Err-compute_server_first_message-clause-err
-returns-in-Err-compute_server_first_message-clause-err c =
+pub returns-clause-err : goal.returns-clause-err
+returns-clause-err c =
     let machine = c.server_over-machine.result in
     let why = c.in-Err-compute_server_first_message.why in
     failed c.args.rules c.args.kept.now c.args.nonce.now c.args.client_first.now (provider_in machine)

@@ -1,4 +1,4 @@
-use Rattle.std.proofs.Common.{◌≡◌}
+use Rattle.std.proofs.Common.{◌≡◌, []}
 use Rattle.std.specs.Prelude.{OnErr}
 use Rattle.fe2o3_scram.specs.ClientFirst.{default_rules}
 use Rattle.fe2o3_scram.specs.declared.scram_messages.server_rules.ServerRules.{ServerRules}
@@ -12,7 +12,7 @@ returns c = let made = c.conclude.ensures in (
   c.conclude.result,
   c.text_number.ensures,
   carried (λ (rules : ServerRules). FillsWithin 90
-      (Concludes rules c.args.kept.now c.args.client_final.now c.args.server.now c.conclude.new.server)
+      (Concludes rules [] c.args.kept.now c.args.client_final.now c.args.server.now c.conclude.new.server)
       (record { bytes = c.args.out.now; len = c.args.out_len.now })
       (record { bytes = c.conclude.new.out; len = c.conclude.new.out_len }) c.conclude.result
       × OnErr c.conclude.result (c.conclude.new.server ≡ c.args.server.now)

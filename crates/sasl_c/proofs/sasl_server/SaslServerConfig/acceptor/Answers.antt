@@ -20,4 +20,4 @@ returns-in-Err-NoMechanism-clause-err c = λ _. let none = c.in-Err-NoMechanism.
     no_offer c.args.self.now c.in-Some.choice c.in-Ok-store.store c.first_version-version.result
     (exchange_shown c.kept_exchange-exchange.result) c.in-Some.ensures
     (carried (λ user. ShowRecords user c.args.self.now.records.now c.in-Ok-store.store) c.in-Ok.words.0.now _
-    c.in-Ok.ensures.0 c.in-Ok-store.ensures.ok) c.in-Ok.ensures.2 c.in-Ok.ensures.3 c.in-Ok-shown.ensures.1 none
+    c.in-Ok.ensures.0 c.in-Ok-store.ensures.ok) c.in-Ok.ensures.3 c.in-Ok.ensures.4 c.in-Ok.ensures.5 c.in-Ok-shown.ensures.1 none
