@@ -446,10 +446,12 @@ class _ScramServerStruct(ctypes.Structure):
         ("bare_len", ctypes.c_uint32),
         ("nonce_len", ctypes.c_uint32),
         ("first_len", ctypes.c_uint32),
+        ("acts_for_len", ctypes.c_uint32),
         ("user", ctypes.c_uint8 * 256),
         ("bare", ctypes.c_uint8 * 1024),
         ("nonce", ctypes.c_uint8 * 512),
         ("first", ctypes.c_uint8 * 1024),
+        ("acts_for", ctypes.c_uint8 * 256),
     ]
 
 
@@ -470,6 +472,9 @@ class _ScramRulesStruct(ctypes.Structure):
         ("accept_cbind_flag_y", ctypes.c_uint32),
         ("strict", ctypes.c_uint32),
         ("channels", _ServerChannelsStruct),
+        ("accept_authzid", ctypes.c_uint32),
+        ("identities", ctypes.c_char_p),
+        ("identities_len", ctypes.c_size_t),
     ]
 
 
@@ -511,6 +516,9 @@ class _SaslServerConfigStruct(ctypes.Structure):
         ("external_authcid", ctypes.c_char_p),
         ("external_authcid_len", ctypes.c_size_t),
         ("channels", _ServerChannelsStruct),
+        ("accept_authzid", ctypes.c_uint32),
+        ("identities", ctypes.c_char_p),
+        ("identities_len", ctypes.c_size_t),
     ]
 
 
@@ -831,6 +839,26 @@ _EXPORTS: dict[str, tuple[Any, list[Any]]] = {
         ],
     ),
     "fe2o3_scram_server_authenticated_user": (
+        ctypes.c_uint32,
+        [
+            ctypes.POINTER(_ScramServerStruct),
+            ctypes.c_void_p,
+            ctypes.c_size_t,
+            ctypes.POINTER(ctypes.c_size_t),
+        ],
+    ),
+    "fe2o3_scram_server_claimed_identity": (
+        ctypes.c_uint32,
+        [
+            ctypes.POINTER(_ScramRulesStruct),
+            ctypes.c_char_p,
+            ctypes.c_size_t,
+            ctypes.c_void_p,
+            ctypes.c_size_t,
+            ctypes.POINTER(ctypes.c_size_t),
+        ],
+    ),
+    "fe2o3_scram_server_acts_for": (
         ctypes.c_uint32,
         [
             ctypes.POINTER(_ScramServerStruct),
@@ -2447,7 +2475,9 @@ class ClientSteps(_Steps, _ClientSide):
 class _ServerSide(_Login):
     """A server's login: what it offers, and its records."""
 
-    __slots__ = ("_attempt", "_channels", "_iterations", "_mechanisms", "_external_authcid", "_records_of", "_struct")
+    __slots__ = (
+        "_attempt", "_channels", "_identities_of", "_iterations", "_mechanisms", "_external_authcid", "_records_of", "_struct"
+    )
 
     def __init__(
         self,
@@ -2457,6 +2487,7 @@ class _ServerSide(_Login):
         iterations: int = 4096,
         external_authcid: Optional[Text] = None,
         channels: Optional[Iterable[Channel]] = None,
+        identities_of: Optional[Callable[[str], Iterable[str]]] = None,
     ) -> None:
         """A login by one of the mechanisms, a sum of `Offer`:
 
@@ -2470,7 +2501,13 @@ class _ServerSide(_Login):
 
         With `channels` SCRAM is also offered with `-PLUS`: pass the channel of the connection once for each kind that the
         server accepts (`Channel`; RFC 5802, section 6). A client that supports no channel binding still logs in without
-        `-PLUS`. `Offer.ACCEPT_CBIND_FLAG_Y` then has no effect."""
+        `-PLUS`. `Offer.ACCEPT_CBIND_FLAG_Y` then has no effect.
+
+        With `identities_of` a client of SCRAM may name an identity to act for (RFC 5802, section 5.1). It returns the
+        identities that a user may act for besides itself, perhaps none. A user without the right is rejected like one
+        with a wrong password. After the login `acts_for` returns the identity. Such a server tests extensions like a
+        strict one."""
+        self._identities_of = identities_of
         self._records_of, self._mechanisms = records_of, _number(mechanisms)
         self._iterations, self._struct = _number(iterations), self._fresh()
         self._external_authcid = _text("" if external_authcid is None else external_authcid)
@@ -2496,6 +2533,8 @@ class _ServerSide(_Login):
             copies = [stack.enter_context(record._lending()) for record in found]
             records = (_ScramRecordStruct * len(copies))(*copies)
             stack.callback(_wipe, records)
+            accepts = self._identities_of is not None
+            identities = _joined(self._identities_of(name) if self._identities_of is not None and name is not None else ())
             self._alive()  # (`records_of` can wipe this side)
             yield _SaslServerConfigStruct(
                 mechanisms=self._mechanisms,
@@ -2507,6 +2546,9 @@ class _ServerSide(_Login):
                 external_authcid=self._external_authcid,
                 external_authcid_len=len(self._external_authcid),
                 channels=self._channels,
+                accept_authzid=accepts,
+                identities=identities,
+                identities_len=len(identities),
             )
 
     @staticmethod
@@ -2547,6 +2589,16 @@ class _ServerSide(_Login):
                 256, lambda *room: _library.fe2o3_scram_server_authenticated_user(ctypes.byref(scram), *room)
             )
         return name.decode("utf-8")
+
+    def acts_for(self) -> Optional[str]:
+        """Returns the identity that the authenticated user acts for, without escapes (RFC 4422, section 2), or None if the
+        user acts for itself. The connection belongs to this identity, if there is one. Raises `InvalidState` if no user is
+        authenticated."""
+        with self._lock:
+            scram = self._scram()
+            if self.progress == Progress.AUTHENTICATED and scram.state == _ServerState.INITIAL:
+                return None
+            return _identity_of(scram)
 
 
 class ServerConnection(_Connection, _ServerSide):
@@ -2639,18 +2691,37 @@ def _channels_of(channels: Optional[Iterable[Channel]]) -> _ServerChannelsStruct
     return bound
 
 
-def _rules_of(accept_cbind_flag_y: bool, strict: bool, channels: Optional[Iterable[Channel]]) -> _ScramRulesStruct:
+def _rules_of(
+    accept_cbind_flag_y: bool, strict: bool, channels: Optional[Iterable[Channel]], accept_authzid: bool
+) -> _ScramRulesStruct:
     """Returns the rules of a server. None for channels is a server that binds no channel."""
     return _ScramRulesStruct(
-        accept_cbind_flag_y=bool(accept_cbind_flag_y), strict=bool(strict), channels=_channels_of(channels)
+        accept_cbind_flag_y=bool(accept_cbind_flag_y),
+        strict=bool(strict),
+        channels=_channels_of(channels),
+        accept_authzid=bool(accept_authzid),
     )
+
+
+def _joined(identities: Iterable[str]) -> bytes:
+    """Returns identities as the library takes them, with a zero byte after each."""
+    names = [_text(name) for name in identities]
+    if any(b"\0" in name for name in names):
+        raise ValueError("an identity has NUL")
+    return b"".join(name + b"\0" for name in names)
+
+
+def _identity_of(scram: _ScramServerStruct) -> Optional[str]:
+    """Returns the identity that the user of a server acts for, if it acts for another than itself."""
+    name = _written(256, lambda *room: _library.fe2o3_scram_server_acts_for(ctypes.byref(scram), *room))
+    return name.decode("utf-8") or None
 
 
 class _ClaimedUser:
     """`Server.claimed_user`, which is called on the class or on a server."""
 
     def __get__(self, server: Optional[Server], owner: Any = None) -> Callable[[Bytes], str]:
-        rules = functools.partial(_rules_of, False, False, None) if server is None else server._rules_copied
+        rules = functools.partial(_rules_of, False, False, None, False) if server is None else server._rules_copied
         return types.MethodType(self.claimed_user, rules)
 
     @staticmethod
@@ -2677,6 +2748,7 @@ class Server(_Guarded):
         accept_cbind_flag_y: bool = False,
         strict: bool = False,
         channels: Optional[Iterable[Channel]] = None,
+        accept_authzid: bool = False,
     ) -> None:
         """A server without an open challenge. The GS2 header of a client has to be `n,,`. With `accept_cbind_flag_y`
         it may also be `y,,`: the client supports channel binding, and was offered no mechanism with `-PLUS` (RFC 5802,
@@ -2687,8 +2759,11 @@ class Server(_Guarded):
 
         With `strict`, it reads messages by the grammar of RFC 5802, section 7. A user name has to be of one or more
         characters and without NUL, a nonce printable and not empty, and what follows the nonce an extension. A server
-        with `channels` tests the extensions in any case."""
-        self._rules = _rules_of(accept_cbind_flag_y, strict, channels)
+        with `channels` tests the extensions in any case.
+
+        With `accept_authzid` a client may name an identity to act for (RFC 5802, section 5.1): its own user, or one that
+        you pass to `final`. Such a server tests the extensions like a strict one."""
+        self._rules = _rules_of(accept_cbind_flag_y, strict, channels, accept_authzid)
         # The record of a challenge, its struct, and its rules: set together, so that a challenge is never answered with
         # those of another.
         self._exchange = _ScramRecordStruct(), _ScramServerStruct(), self._rules
@@ -2720,13 +2795,19 @@ class Server(_Guarded):
             _wipe(*replaced)
         return answer
 
-    def final(self, client_final: Bytes) -> bytes:
+    def final(self, client_final: Bytes, *, identities: Iterable[str] = ()) -> bytes:
         """Answers the client-final message with the server-final message, if its proof is right. Otherwise raises
         `AuthenticationFailed`. With `channels`, the client has to have bound the one of its kind, otherwise it raises
-        `ChannelBindingError`. Raises `ProtocolError` for another message."""
+        `ChannelBindingError`. Raises `ProtocolError` for another message.
+
+        `identities` are those that the user may act for besides itself (RFC 4422, section 2). A user who may not act for
+        the identity that the client named gets `AuthenticationFailed` too."""
         message, call = _bytes(client_final), _library.fe2o3_scram_server_final_with_rules
+        allowed = _joined(identities)
         with self._lock:
-            known, opened, rules = self._exchange
+            known, opened, kept = self._exchange
+            rules = _ScramRulesStruct.from_buffer_copy(kept)
+            rules.identities, rules.identities_len = allowed, len(allowed)
             return _written(90, lambda *room: call(rules, known, opened, message, len(message), *room))
 
     def authenticated_user(self) -> str:
@@ -2736,6 +2817,12 @@ class Server(_Guarded):
             opened = self._exchange[1]
             name = _written(256, lambda *room: _library.fe2o3_scram_server_authenticated_user(opened, *room))
         return name.decode("utf-8")
+
+    def acts_for(self) -> Optional[str]:
+        """Returns the identity that the authenticated user acts for, without escapes (RFC 4422, section 2), or None if the
+        user acts for itself. Raises `InvalidState` if no user is authenticated."""
+        with self._lock:
+            return _identity_of(self._exchange[1])
 
 
 def plain_message(username: Text, password: Text) -> bytes:

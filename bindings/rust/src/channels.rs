@@ -161,10 +161,6 @@ pub(crate) const NO_CHANNELS: sys::ServerChannels = sys::ServerChannels {
     tls_exporter: [0; MAX_DATA_LEN],
 };
 
-/// The rules of a server that accepts the GS2 header `n,,` only, and is not strict.
-pub(crate) const NO_RULES: sys::ScramRules =
-    sys::ScramRules { accept_cbind_flag_y: 0, strict: 0, channels: NO_CHANNELS };
-
 /// Returns the channels of a server that binds these and no other.
 pub(crate) fn bound(channels: impl IntoIterator<Item = Channel>) -> sys::ServerChannels {
     let mut bound = sys::ServerChannels { binds_channel: 1, ..NO_CHANNELS };

@@ -1,12 +1,13 @@
 //! The server's side of an exchange.
 
 use crate::calls::filled;
-use crate::channels::{bound, NO_RULES};
+use crate::channels::{bound, NO_CHANNELS};
 use crate::{
     generate_nonce, sys, Channel, ScramRecord, ScramVersion, ServerScramErrorKind, StoredPassword, UserRecords,
     DEFAULT_SCRAM_ITERATIONS,
 };
 use std::fmt;
+use std::marker::PhantomData;
 use std::sync::Arc;
 
 pub(crate) const NO_CHALLENGE: sys::ScramServer = sys::ScramServer {
@@ -16,10 +17,12 @@ pub(crate) const NO_CHALLENGE: sys::ScramServer = sys::ScramServer {
     bare_len: 0,
     nonce_len: 0,
     first_len: 0,
+    acts_for_len: 0,
     user: [0; 256],
     bare: [0; 1024],
     nonce: [0; 512],
     first: [0; 1024],
+    acts_for: [0; 256],
 };
 
 /// The states of a server whose challenge is open.
@@ -31,9 +34,9 @@ const CHALLENGE_IS_OPEN: [u32; 5] = [
     sys::SCRAM_SERVER_CHALLENGE_OPEN_TLS_EXPORTER,
 ];
 
-/// The GS2 header of a client that supports channel binding, and was offered no mechanism with it (RFC 5802, section
-/// 6).
-const CBIND_FLAG_Y: &[u8] = b"y,,";
+/// The beginning of the GS2 header of a client that supports channel binding, and was offered no mechanism with it (RFC
+/// 5802, section 6).
+const CBIND_FLAG_Y: &[u8] = b"y,";
 
 /// A store of credentials.
 pub trait ScramCredentialProvider {
@@ -43,6 +46,13 @@ pub trait ScramCredentialProvider {
     /// Returns what is stored of the password of a user, whose name has no escapes; `None` if there is no such user.
     /// The server calls it at both messages of an exchange.
     fn get_stored_password<'a>(&'a self, username: &str) -> Option<StoredPassword<'a>>;
+
+    /// Returns the identities that a user may act for besides itself (RFC 4422, section 2), without escapes and without
+    /// NUL. The server calls it at the client-final message if it accepts identities
+    /// ([`ScramAuthenticator::accept_authzid`]).
+    fn identities(&self, _username: &str) -> Vec<String> {
+        Vec::new()
+    }
 }
 
 impl<T: ScramCredentialProvider> ScramCredentialProvider for Arc<T> {
@@ -52,6 +62,10 @@ impl<T: ScramCredentialProvider> ScramCredentialProvider for Arc<T> {
 
     fn get_stored_password<'a>(&'a self, username: &str) -> Option<StoredPassword<'a>> {
         self.as_ref().get_stored_password(username)
+    }
+
+    fn identities(&self, username: &str) -> Vec<String> {
+        self.as_ref().identities(username)
     }
 }
 
@@ -158,7 +172,7 @@ impl MockSettings {
 pub struct ScramAuthenticator<C: ScramCredentialProvider + Clone> {
     credentials: C,
     mock: Option<MockSettings>,
-    rules: sys::ScramRules,
+    rules: Rules,
     challenged: String,
     state: sys::ScramServer,
 }
@@ -166,7 +180,7 @@ pub struct ScramAuthenticator<C: ScramCredentialProvider + Clone> {
 impl<C: ScramCredentialProvider + Clone> ScramAuthenticator<C> {
     /// Returns a server without an open challenge, which answers an unknown user with `None`.
     pub fn new(credentials: C) -> Self {
-        Self { credentials, mock: None, rules: NO_RULES, challenged: String::new(), state: NO_CHALLENGE }
+        Self { credentials, mock: None, rules: Rules::NONE, challenged: String::new(), state: NO_CHALLENGE }
     }
 
     /// Makes the server answer an unknown user with a mock record ([`ScramRecord::mock`]).
@@ -179,6 +193,15 @@ impl<C: ScramCredentialProvider + Clone> ScramAuthenticator<C> {
     /// mechanism with `-PLUS` (RFC 5802, section 6). Only for a server that offers none.
     pub fn accept_cbind_flag_y(mut self) -> Self {
         self.rules.accept_cbind_flag_y = 1;
+        self
+    }
+
+    /// With `accept`, makes the server accept a client that names an identity to act for (RFC 5802, section 5.1). A user may
+    /// act for itself and for the identities that the store returns ([`ScramCredentialProvider::identities`]). A user
+    /// without the right gets [`ServerScramErrorKind::AuthenticationFailed`], like one with a wrong password. Such a
+    /// server tests extensions like a strict one.
+    pub fn accept_authzid(mut self, accept: bool) -> Self {
+        self.rules.accept_authzid = accept.into();
         self
     }
 
@@ -228,18 +251,18 @@ impl<C: ScramCredentialProvider + Clone> ScramAuthenticator<C> {
         if is_flag_y && self.rules.accept_cbind_flag_y == 0 {
             return Err(ServerScramErrorKind::CannotParseGs2Header);
         }
-        let username = claimed_user(&self.rules, client_first)?;
+        let username = claimed_user(&self.rules.lend(&[]).rules, client_first)?;
         let record = match self.record(&username)? {
             Some(record) => record,
             None => return Ok(None),
         };
-        let (rules, state) = (&self.rules, &mut self.state);
+        let (lent, state) = (self.rules.lend(&[]), &mut self.state);
         let message = filled(client_first.len() + 256, |out, len| {
             // SAFETY: the rules, the record, the nonce and the message are borrowed and live through the call; the
             // state, the room and its length are borrowed for writing, and so overlap nothing.
             unsafe {
                 sys::fe2o3_scram_server_first_with_rules(
-                    rules,
+                    &lent.rules,
                     &record.0,
                     state,
                     nonce,
@@ -269,13 +292,18 @@ impl<C: ScramCredentialProvider + Clone> ScramAuthenticator<C> {
             Some(record) => record,
             None => return Ok(None),
         };
-        let (rules, state) = (&self.rules, &mut self.state);
+        let identities = match self.rules.accept_authzid {
+            0 => Vec::new(),
+            _ => self.credentials.identities(&self.challenged),
+        };
+        let identities = joined(&identities);
+        let (lent, state) = (self.rules.lend(&identities), &mut self.state);
         filled(90, |out, len| {
             // SAFETY: the rules, the record and the message are borrowed and live through the call; the state, the room
             // and its length are borrowed for writing, and so overlap nothing.
             unsafe {
                 sys::fe2o3_scram_server_final_with_rules(
-                    rules,
+                    &lent.rules,
                     &record.0,
                     state,
                     client_final.as_ptr(),
@@ -293,6 +321,12 @@ impl<C: ScramCredentialProvider + Clone> ScramAuthenticator<C> {
     /// Returns the authenticated user; `None` if no user is authenticated.
     pub fn authenticated_user(&self) -> Option<String> {
         authenticated_user(&self.state)
+    }
+
+    /// Returns the identity that the authenticated user acts for (RFC 4422, section 2); `None` if the user acts for
+    /// itself, or no user is authenticated. The exchange was for this identity, if there is one, and not for the user.
+    pub fn acts_for(&self) -> Option<String> {
+        acts_for(&self.state)
     }
 
     /// Returns the record of a user, or a mock record; `None` if there is neither.
@@ -315,6 +349,55 @@ pub(crate) fn authenticated_user(state: &sys::ScramServer) -> Option<String> {
         unsafe { sys::fe2o3_scram_server_authenticated_user(state, out.as_mut_ptr(), out.len(), len) }
     });
     String::from_utf8(name.ok()?).ok()
+}
+
+/// Returns the identity that the authenticated user of a server's struct acts for.
+pub(crate) fn acts_for(state: &sys::ScramServer) -> Option<String> {
+    let name = filled(state.acts_for.len(), |out, len| {
+        // SAFETY: the state is borrowed; the room and its length are borrowed for writing, and so overlap nothing.
+        unsafe { sys::fe2o3_scram_server_acts_for(state, out.as_mut_ptr(), out.len(), len) }
+    });
+    String::from_utf8(name.ok()?).ok().filter(|name| !name.is_empty())
+}
+
+/// Returns identities as the library takes them, with a zero byte after each. One with NUL is left out: no client can name
+/// it.
+pub(crate) fn joined(identities: &[String]) -> Vec<u8> {
+    let named = identities.iter().filter(|name| !name.contains('\0'));
+    named.flat_map(|name| name.bytes().chain([0])).collect()
+}
+
+/// What a server accepts.
+#[derive(Clone)]
+struct Rules {
+    accept_cbind_flag_y: u32,
+    strict: u32,
+    accept_authzid: u32,
+    channels: sys::ServerChannels,
+}
+
+/// Rules for the library, whose pointer points to what is borrowed for `'a`.
+struct LentRules<'a> {
+    rules: sys::ScramRules,
+    from: PhantomData<&'a ()>,
+}
+
+impl Rules {
+    /// The rules of a server that accepts the GS2 header `n,,` only, and is not strict.
+    const NONE: Self = Self { accept_cbind_flag_y: 0, strict: 0, accept_authzid: 0, channels: NO_CHANNELS };
+
+    /// Returns the rules with these identities, joined.
+    fn lend<'a>(&self, identities: &'a [u8]) -> LentRules<'a> {
+        let rules = sys::ScramRules {
+            accept_cbind_flag_y: self.accept_cbind_flag_y,
+            strict: self.strict,
+            channels: self.channels,
+            accept_authzid: self.accept_authzid,
+            identities: identities.as_ptr(),
+            identities_len: identities.len(),
+        };
+        LentRules { rules, from: PhantomData }
+    }
 }
 
 /// Returns the user name that a client-first message claims, without escapes.

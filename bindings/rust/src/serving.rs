@@ -7,7 +7,7 @@ use crate::connection::{progress_of, Progress, Received, FRESH};
 use crate::frames::view_frame;
 use crate::peeks::{end_of_input, foreign_header, nonce_for, peek_body, wants_nonce};
 use crate::records::ScramRecord;
-use crate::server::{authenticated_user, MockSettings, NO_CHALLENGE};
+use crate::server::{acts_for, authenticated_user, joined, MockSettings, NO_CHALLENGE};
 use crate::{sys, Channel, ConnectionError, Frame, LoginAttempt, ScramVersion, DEFAULT_SCRAM_ITERATIONS};
 use std::collections::HashMap;
 use std::fmt;
@@ -22,11 +22,21 @@ pub trait UserRecords {
     /// Returns the records of a user, whose name has no escapes; none if there is no such user. SCRAM with a hash uses
     /// the first record of that hash, and PLAIN the first record.
     fn records(&self, username: &str) -> Vec<ScramRecord>;
+
+    /// Returns the identities that a user may act for besides itself, in SCRAM (RFC 4422, section 2), without escapes and
+    /// without NUL. It is called only for a server that accepts identities ([`PasswordServer::accept_authzid`]).
+    fn identities(&self, _username: &str) -> Vec<String> {
+        Vec::new()
+    }
 }
 
 impl<T: UserRecords + ?Sized> UserRecords for Arc<T> {
     fn records(&self, username: &str) -> Vec<ScramRecord> {
         self.as_ref().records(username)
+    }
+
+    fn identities(&self, username: &str) -> Vec<String> {
+        self.as_ref().identities(username)
     }
 }
 
@@ -93,6 +103,7 @@ pub struct PasswordServer<R: UserRecords + Clone> {
     mechanisms: u32,
     external_authcid: String,
     channels: sys::ServerChannels,
+    accept_authzid: u32,
 }
 
 /// A configuration for the library, whose pointers point to what is borrowed for `'a`.
@@ -105,7 +116,14 @@ impl<R: UserRecords + Clone> PasswordServer<R> {
     /// Returns a server over these records.
     pub fn new(records: R) -> Self {
         let mechanisms = sys::OFFER_SCRAM_SHA_512 + sys::OFFER_SCRAM_SHA_256;
-        Self { records, mock: None, mechanisms, external_authcid: String::new(), channels: NO_CHANNELS }
+        Self {
+            records,
+            mock: None,
+            mechanisms,
+            external_authcid: String::new(),
+            channels: NO_CHANNELS,
+            accept_authzid: 0,
+        }
     }
 
     /// Adds this value of enum fe2o3_offer to the offer, or removes it.
@@ -168,6 +186,13 @@ impl<R: UserRecords + Clone> PasswordServer<R> {
         self.with(sys::ACCEPT_CBIND_FLAG_Y, true)
     }
 
+    /// With `accept`, makes SCRAM accept a client that names an identity to act for: see
+    /// [`ScramAuthenticator::accept_authzid`](crate::ScramAuthenticator::accept_authzid). The store says who may act for
+    /// whom ([`UserRecords::identities`]).
+    pub fn accept_authzid(self, accept: bool) -> Self {
+        Self { accept_authzid: accept.into(), ..self }
+    }
+
     /// With `is_strict`, makes SCRAM read messages by the grammar of RFC 5802, section 7: see
     /// [`ScramAuthenticator::strict`](crate::ScramAuthenticator::strict). libpq sends an empty user name, which is rejected
     /// then.
@@ -202,8 +227,21 @@ impl<R: UserRecords + Clone> PasswordServer<R> {
         Ok(structs(&records))
     }
 
-    /// Returns the configuration with the records of a user.
-    pub(crate) fn lend<'a>(&'a self, name: Option<&'a str>, records: &'a [sys::ScramRecord]) -> LentConfig<'a> {
+    /// Returns the identities that the claimed user may act for, joined; none if the server accepts no identity.
+    pub(crate) fn identities(&self, name: Option<&str>) -> Vec<u8> {
+        match name {
+            Some(name) if self.accept_authzid != 0 => joined(&self.records.identities(name)),
+            _ => Vec::new(),
+        }
+    }
+
+    /// Returns the configuration with the records of a user, and the identities that the user may act for.
+    pub(crate) fn lend<'a>(
+        &'a self,
+        name: Option<&'a str>,
+        records: &'a [sys::ScramRecord],
+        identities: &'a [u8],
+    ) -> LentConfig<'a> {
         let username = name.unwrap_or_default();
         let config = sys::SaslServerConfig {
             mechanisms: self.mechanisms,
@@ -215,6 +253,9 @@ impl<R: UserRecords + Clone> PasswordServer<R> {
             external_authcid: self.external_authcid.as_ptr(),
             external_authcid_len: self.external_authcid.len(),
             channels: self.channels,
+            accept_authzid: self.accept_authzid,
+            identities: identities.as_ptr(),
+            identities_len: identities.len(),
         };
         LentConfig { config, from: PhantomData }
     }
@@ -321,7 +362,8 @@ impl<R: UserRecords + Clone> ServerNegotiation<R> {
         records: &[sys::ScramRecord],
     ) -> Result<(usize, Vec<u8>), ConnectionError> {
         let nonce = nonce_for(&self.state.connection);
-        let lent = self.config.lend(name, records);
+        let identities = self.config.identities(name);
+        let lent = self.config.lend(name, records, &identities);
         let state = &mut self.state;
         let mut taken = 0;
         let sent = filled(SENT_MOST, |out, len| {
@@ -383,6 +425,12 @@ impl<R: UserRecords + Clone> ServerNegotiation<R> {
     /// Returns the authenticated user; `None` before the login is complete, and for ANONYMOUS.
     pub fn authenticated_user(&self) -> Option<String> {
         authenticated_user(&self.state.scram)
+    }
+
+    /// Returns the identity that the authenticated user acts for (RFC 4422, section 2); `None` if the user acts for
+    /// itself, or no user is authenticated. The connection belongs to this identity, if there is one.
+    pub fn acts_for(&self) -> Option<String> {
+        acts_for(&self.state.scram)
     }
 }
 

@@ -5,7 +5,7 @@ use crate::calls::filled;
 use crate::client::INITIAL;
 use crate::connection::Progress;
 use crate::policies::{refusal_data, Choice};
-use crate::server::{authenticated_user, NO_CHALLENGE};
+use crate::server::{acts_for, authenticated_user, NO_CHALLENGE};
 use crate::serving::{named, PasswordServer, UserRecords};
 use crate::{generate_nonce, sys, CachedKeys, ClientPolicy, ConnectionError, LoginAttempt, SaslProfile};
 use std::fmt;
@@ -237,7 +237,7 @@ impl<R: UserRecords + Clone> ServerSteps<R> {
 
     /// Returns the frame body with which the server offers its mechanisms. Send it after the client's SASL header.
     pub fn sasl_mechanisms(&self) -> Result<Vec<u8>, ConnectionError> {
-        let lent = self.config.lend(None, &[]);
+        let lent = self.config.lend(None, &[], &[]);
         filled(BODY_MOST, |out, len| {
             // SAFETY: the configuration's pointers point to what `lent` borrows; the room and its length are borrowed
             // for writing, and so overlap nothing.
@@ -293,7 +293,8 @@ impl<R: UserRecords + Clone> ServerSteps<R> {
         name: Option<&str>,
         records: &[sys::ScramRecord],
     ) -> Result<Answered, ConnectionError> {
-        let lent = self.config.lend(name, records);
+        let identities = self.config.identities(name);
+        let lent = self.config.lend(name, records, &identities);
         let state = &mut self.state;
         stepped(|progress, out, len| {
             // SAFETY: the configuration's pointers point to what `lent` borrows, and the body is a slice that lives
@@ -328,6 +329,12 @@ impl<R: UserRecords + Clone> ServerSteps<R> {
     /// Returns the authenticated user; `None` before the login is complete, and for ANONYMOUS.
     pub fn authenticated_user(&self) -> Option<String> {
         authenticated_user(&self.state)
+    }
+
+    /// Returns the identity that the authenticated user acts for (RFC 4422, section 2); `None` if the user acts for
+    /// itself, or no user is authenticated. The login is for this identity, if there is one.
+    pub fn acts_for(&self) -> Option<String> {
+        acts_for(&self.state)
     }
 }
 

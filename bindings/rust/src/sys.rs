@@ -648,6 +648,8 @@ pub struct ScramServer {
     pub nonce_len: u32,
     /// The number of bytes of `first` in use.
     pub first_len: u32,
+    /// The number of bytes of `acts_for` in use, or 0 if the client acts for itself.
+    pub acts_for_len: u32,
     /// The user name, without escapes. While a challenge is open the client only claims it; afterwards it is
     /// authenticated.
     pub user: [u8; 256],
@@ -657,6 +659,9 @@ pub struct ScramServer {
     pub nonce: [u8; 512],
     /// The server-first message.
     pub first: [u8; 1024],
+    /// The identity that the client acts for, without escapes (RFC 5802, section 5.1). While a challenge is open the
+    /// client only names it; afterwards the user may act for it.
+    pub acts_for: [u8; 256],
 }
 
 /// What identifies the channel of a server (RFC 5802, section 6). All zeros is a server that binds no channel.
@@ -699,6 +704,17 @@ pub struct ScramRules {
     pub strict: u32,
     /// The server's channel, if it is of the mechanism with `-PLUS`.
     pub channels: ServerChannels,
+    /// Whether a client may name an identity to act for (RFC 5802, section 5.1). 0 is no, any other value yes. The
+    /// identity is of one or more characters and without NUL (SERVER_CANNOT_PARSE_GS2_HEADER), and such a server tests
+    /// the extensions like a strict one. By itself the option lets each user name only itself.
+    pub accept_authzid: u32,
+    /// The identities that the claimed user may act for besides itself (RFC 4422, section 2), without escapes, with a
+    /// zero byte after each. It is read with the client-final message: look up the identities of the user
+    /// (`fe2o3_scram_server_claimed_user_with_rules`), or only whether it may act for the one that the client names
+    /// (`fe2o3_scram_server_claimed_identity`). A user who may not act for the identity gets
+    /// SERVER_AUTHENTICATION_FAILED, like one with a wrong password.
+    pub identities: *const u8,
+    pub identities_len: usize,
 }
 
 /// One side of a connection between calls. All zeros is a connection that has received nothing and accepts no extended
@@ -785,6 +801,13 @@ pub struct SaslServerConfig {
     /// the other mechanisms. SCRAM without `-PLUS` then accepts no client that has seen no such mechanism (`y,,`; RFC
     /// 5802, section 6), whatever ACCEPT_CBIND_FLAG_Y says.
     pub channels: ServerChannels,
+    /// Whether a client of SCRAM may name an identity to act for (RFC 5802, section 5.1), as by the field
+    /// `accept_authzid` of struct fe2o3_scram_rules. 0 is no, any other value yes.
+    pub accept_authzid: u32,
+    /// The identities that the user may act for besides itself (RFC 4422, section 2), without escapes, with a zero byte
+    /// after each. After the login `fe2o3_scram_server_acts_for` returns the one that the user acts for.
+    pub identities: *const u8,
+    pub identities_len: usize,
 }
 
 /// The server's side of a connection between calls. All zeros is a connection that has received nothing.
@@ -794,7 +817,8 @@ pub struct SaslServer {
     /// The connection.
     pub connection: Connection,
     /// The SCRAM server. After a login by any mechanism it holds the authenticated user
-    /// (`fe2o3_scram_server_authenticated_user`). ANONYMOUS has none.
+    /// (`fe2o3_scram_server_authenticated_user`), and after one by SCRAM the identity that the user acts for
+    /// (`fe2o3_scram_server_acts_for`). ANONYMOUS has no user.
     pub scram: ScramServer,
 }
 
@@ -1125,16 +1149,18 @@ extern "C" {
     /// `fe2o3_scram_server_first` does.
     ///
     /// If the server binds channels, the GS2 header has to be `p=` with the name of a kind whose data the rules have
-    /// (section 6). Otherwise it has to be `n,,`, or `y,,` if the rules accept that.
+    /// (section 6). Otherwise it has to be `n,,`, or `y,,` if the rules accept that. It may name an identity to act
+    /// for, as `n,a=NAME,`, if the rules accept that.
     ///
     /// The errors are, in this order:
     ///
     /// - CHANNEL_DATA_LENGTH if the rules bind channels, and data have more than 64 bytes,
     /// - SERVER_UTF8_ERROR,
-    /// - SERVER_CANNOT_PARSE_GS2_HEADER if the rules do not accept the header,
+    /// - SERVER_CANNOT_PARSE_GS2_HEADER if the rules do not accept the header, or its identity is empty, has NUL or a
+    ///   wrong escape,
     /// - SERVER_CANNOT_PARSE_USERNAME and SERVER_CANNOT_PARSE_CLIENT_NONCE,
     /// - the same two of a strict server, if the name is empty or has NUL, or the nonce is empty or not printable,
-    /// - SERVER_MISPLACED_ATTRIBUTE of a server that is strict or binds channels,
+    /// - SERVER_MISPLACED_ATTRIBUTE of a server that is strict, binds channels or accepts identities,
     /// - NO_SUCH_VERSION and TOO_LONG if `kept` holds no record,
     /// - TOO_LONG if a text of the challenge does not fit into the struct,
     /// - ROOM_TOO_SMALL.
@@ -1167,8 +1193,10 @@ extern "C" {
     ///   rules,
     /// - SERVER_CANNOT_PARSE_CLIENT_FINAL_MESSAGE and SERVER_INCORRECT_CLIENT_FINAL_NONCE,
     /// - SERVER_PROOF_NOT_FOUND_IN_CLIENT_FINAL and SERVER_BASE64_DECODE_ERROR, of the proof,
-    /// - SERVER_MISPLACED_ATTRIBUTE of a server that is strict or binds channels,
-    /// - SERVER_XOR_LENGTH_MISMATCH and SERVER_AUTHENTICATION_FAILED if the proof is wrong.
+    /// - SERVER_MISPLACED_ATTRIBUTE of a server that is strict, binds channels or accepts identities,
+    /// - SERVER_XOR_LENGTH_MISMATCH if the proof is not as long as a digest,
+    /// - SERVER_AUTHENTICATION_FAILED if the proof is wrong, or the user may not act for the identity that the client
+    ///   named (RFC 4422, section 2).
     pub fn fe2o3_scram_server_final_with_rules(
         rules: *const ScramRules,
         kept: *const ScramRecord,
@@ -1182,6 +1210,26 @@ extern "C" {
     /// Writes the name of the authenticated user, without escapes. Returns SERVER_ILLEGAL_AUTHENTICATOR_STATE if no
     /// user is authenticated.
     pub fn fe2o3_scram_server_authenticated_user(
+        server: *const ScramServer,
+        out: *mut u8,
+        out_size: usize,
+        out_len: *mut usize) -> u32;
+
+    /// Writes the identity that a client-first message names to act for, without escapes, or 0 bytes if the client acts
+    /// for itself. It is only claimed, like the user's name: use it only to look up whether the user may act for it.
+    /// The message is read like by `fe2o3_scram_server_claimed_user_with_rules`, and the errors are the same.
+    pub fn fe2o3_scram_server_claimed_identity(
+        rules: *const ScramRules,
+        client_first: *const u8,
+        client_first_len: usize,
+        out: *mut u8,
+        out_size: usize,
+        out_len: *mut usize) -> u32;
+
+    /// Writes the identity that the authenticated user acts for, without escapes, or 0 bytes if the user acts for
+    /// itself (RFC 4422, section 2). The user may act for it. Returns SERVER_ILLEGAL_AUTHENTICATOR_STATE if no user is
+    /// authenticated.
+    pub fn fe2o3_scram_server_acts_for(
         server: *const ScramServer,
         out: *mut u8,
         out_size: usize,
