@@ -1,6 +1,6 @@
 //! The channel of an argument `KIND:HEX`, and what a client and a server do with it (RFC 5802, section 6).
 
-ghost use Rattle.std.specs.Prelude.{◌≡◌, ◌≢◌, ◌⊎◌, ℕ, List, Ok, IfOk, IfErr, option_map};
+ghost use Rattle.std.specs.Prelude.{◌≡◌, ◌≢◌, ◌⊎◌, ℕ, List, Ok, IfOk, IfErr, false, option_map};
 ghost use Rattle.hex.specs.Hex.{decode_of};
 ghost use Rattle.scram_base_lib.specs.Channel.{BindsOnly, RejectsChannel, SaysChannel, SpellsChannel, digits_in, name_in, only_data};
 
@@ -77,12 +77,14 @@ pub fn server_rules(
     strict: bool,
 ) -> Result<ServerRules, Stop>
     ensures channels { IfOk result (λ rules. BindsOnly (option_map (λ word. word.now) word.entry) rules.channels) }
-    ensures options { IfOk result (λ rules. (rules.accept_cbind_flag_y ≡ accept_y) × (rules.strict ≡ strict)) }
+    ensures options { IfOk result (λ rules. (rules.accept_cbind_flag_y ≡ accept_y) × (rules.strict ≡ strict)
+        × (rules.accept_authzid ≡ false)) }
 {
     Ok(ServerRules {
         accept_cbind_flag_y: accept_y,
         strict,
         channels: channels(alloc, word)?,
+        accept_authzid: false,
     })
 }
 

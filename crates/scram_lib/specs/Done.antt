@@ -9,7 +9,7 @@ use Rattle.fe2o3_scram.specs.Credentials.{Provider, Store}
 use Rattle.fe2o3_scram.specs.Mixed.{MultiRecords, provider_for}
 use Rattle.fe2o3_scram.specs.MultiRecordLines.{SpellsMixed}
 use Rattle.fe2o3_scram.specs.ScramClient.{AnswersIn, ClientInitial, ClientSide, VerifiesIn, started}
-use Rattle.fe2o3_scram.specs.ScramServer.{ChallengesFrom, ConcludesFrom, Initial, ServerState, mock_in, provider_in, rules_in, served_by, state_in}
+use Rattle.fe2o3_scram.specs.ScramServer.{ChallengesFrom, ConcludesFrom, Initial, ServerState, mock_in, provider_in, rights_in, rules_in, served_by, state_in}
 use Rattle.fe2o3_sasl_negotiation.specs.Sides.{ServerConnectionSide, client_side, server_side}
 use Rattle.fe2o3_sasl_negotiation.specs.declared.progress.Progress.TheVariants.{Authenticated, InProgress}
 use Rattle.scram_base_lib.specs.Channel.{BindsOnly, SaysChannel}
@@ -72,7 +72,7 @@ provider_of server = served_by (λ users. users) server
 -- a server in another state
 abbrev pub IsSameServer : ScramAuthenticator Store → ScramAuthenticator Store → Type 0
 IsSameServer server next = (provider_in next ≡ provider_in server) × (rules_in next ≡ rules_in server)
-    × (mock_in next ≡ mock_in server)
+    × (mock_in next ≡ mock_in server) × (rights_in next ≡ rights_in server)
 
 -- an answer with a message
 abbrev pub IsMessage : {X F : Type 0} → Result (Option X) F → Type 0
@@ -88,8 +88,8 @@ pub record HasAccepted (server next : ScramAuthenticator Store) : Type 0 where
   pub final : List ℕ
   pub signature : List ℕ
   pub challenges : ChallengesFrom (state_in server) (provider_of server) nonce first (Ok (Some challenge)) opened
-  pub concludes : ConcludesFrom opened (provider_of server).version (rules_in server) final (Ok (Some signature))
-      (state_in next)
+  pub concludes : ConcludesFrom opened (provider_of server).version (rules_in server) (rights_in server) final
+      (Ok (Some signature)) (state_in next)
 
 -- the password is that of each record of the user in this text that is asked for, and there is one
 abbrev pub HasItsPassword : Named → List ℕ → List ℕ → Type 0

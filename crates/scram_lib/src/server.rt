@@ -1,7 +1,7 @@
 //! `server`: the server side of a login, for the users of a file. The input has the client's messages.
 
 ghost use Rattle.std.specs.Prelude.{◌≡◌, ◌↔◌, ℕ, List, Ok, Some, IsSome, IfOk, OnOk, false};
-ghost use Rattle.fe2o3_scram.specs.ScramServer.{ChallengesFrom, ConcludesFrom, provider_in, rules_in, state_in};
+ghost use Rattle.fe2o3_scram.specs.ScramServer.{ChallengesFrom, ConcludesFrom, provider_in, rights_in, rules_in, state_in};
 ghost use Rattle.scram_lib.specs.Done.{AreRulesOf, AreUsers, HasAccepted, IsMessage, IsSameServer, IsServerAsked, HasServed, provider_of};
 
 pub mod mock;
@@ -307,7 +307,8 @@ fn conclude<I: BufRead, O: Write>(
     output: &mut O,
 ) -> Result<(), Stop>
     ensures { OnOk result ((text : List ℕ) × (signature : List ℕ) × ConcludesFrom (state_in server.old)
-        (provider_of server.old).version (rules_in server.old) text (Ok (Some signature)) (state_in server.new)) }
+        (provider_of server.old).version (rules_in server.old) (rights_in server.old) text (Ok (Some signature))
+        (state_in server.new)) }
 {
     let message = wire::receive(alloc, input)?;
     let answer = server.compute_server_final_message(alloc, &message);

@@ -42,6 +42,7 @@ pub fn rules_for(any_header: bool, bound: bool) -> ServerRules
         } else {
             None
         },
+        accept_authzid: false,
     }
 }
 
