@@ -114,6 +114,7 @@ static void messages(const struct fe2o3_login *login, const struct fe2o3_scram_r
     expect(CALL(scram_client_first, login, &all.client, nonce, ROOM(all.client_first)), FE2O3_OK);
     expect(CALL(scram_server_claimed_user, GIVEN(all.client_first), ROOM(all.user)), FE2O3_OK);
     expect(CALL(scram_server_claimed_user_with_rules, &rules, GIVEN(all.client_first), ROOM(all.user)), FE2O3_OK);
+    expect(CALL(scram_server_claimed_identity, &rules, GIVEN(all.client_first), ROOM(all.out)), FE2O3_OK);
     CALL(scram_server_first_with_cbind_flag_y, record, &all.server, nonce, GIVEN(all.client_first),
         ROOM(all.server_first));
     expect(CALL(scram_server_first_with_rules, &rules, record, &all.server, nonce, GIVEN(all.client_first),
@@ -131,6 +132,7 @@ static void messages(const struct fe2o3_login *login, const struct fe2o3_scram_r
     if (status == FE2O3_OK) {
         status = CALL(scram_client_verify, login, &all.client, GIVEN(all.server_final));
         expect(CALL(scram_server_authenticated_user, &all.server, ROOM(all.user)), FE2O3_OK);
+        expect(CALL(scram_server_acts_for, &all.server, ROOM(all.out)), FE2O3_OK);
         expect(CALL(scram_client_get_keys, &all.client, &all.other_keys), FE2O3_OK);
     } else if (all.server.state == FE2O3_SCRAM_SERVER_CHALLENGE_OPEN) {
         CALL(scram_server_error_message, status, ROOM(all.out));

@@ -217,6 +217,8 @@ static void draw_server(struct fe2o3_scram_server *server)
         for (size_t at = 0; at < 49; at++)
             server->nonce[at] = (uint8_t)('a' + below(26));
         server->first_len = below(1026);
+        server->acts_for_len = below(3) ? 0 : below(6);
+        memcpy(server->acts_for, "user", 4);
     } else if (below(4) == 0) {
         draw_asked(server);
     }
@@ -310,9 +312,14 @@ static int has_asked(const struct fe2o3_scram_server *server)
 /* Rules of random bytes, half of them with flags and lengths that a caller may set. */
 static void draw_rules(struct fe2o3_scram_rules *rules)
 {
+    static uint8_t identities[40];
     fill(rules, sizeof *rules);
+    fill(identities, sizeof identities);
+    rules->identities = identities;
+    rules->identities_len = below(sizeof identities + 1);
     if (below(2))
         return;
+    rules->accept_authzid = below(2);
     rules->accept_cbind_flag_y = below(2);
     rules->strict = below(2);
     rules->channels.binds_channel = below(2);
@@ -338,6 +345,8 @@ static void with_a_server(void)
         fe2o3_scram_server_final_with_rules(&rules, &all.record, &all.server, GIVEN(client_final), ROOM));
     answered("server_final", fe2o3_scram_server_final(&all.record, &all.server, GIVEN(client_final), ROOM));
     answered("server_logged_in", fe2o3_scram_server_authenticated_user(&all.server, ROOM));
+    answered("server_acts_for", fe2o3_scram_server_acts_for(&all.server, ROOM));
+    answered("server_identity", fe2o3_scram_server_claimed_identity(&rules, GIVEN(client_first), ROOM));
 }
 
 static void with_a_record(void)
@@ -449,6 +458,11 @@ static void with_a_side_of_a_server(void)
     draw_rules(&rules);
     if (below(4) == 0)
         config.channels = rules.channels;
+    if (below(4) == 0) {
+        config.accept_authzid = rules.accept_authzid;
+        config.identities = rules.identities;
+        config.identities_len = rules.identities_len;
+    }
     to_server(&drawn.server_side, &came);
     if (below(4) == 0)
         fill(came.bytes, came.len);

@@ -2604,7 +2604,7 @@ class RandomStructs(Case):
                 if self.random.random() < 0.9:
                     setattr(server, field + "_len", self.random.randrange(most + 2))
             if self.chance():
-                server.user_len = self.random.randrange(3)
+                server.user_len, server.acts_for_len = self.random.randrange(3), 0
             if self.chance():
                 nonce = base64_of(os.urandom(33))
                 server.nonce_len = len(nonce)
@@ -2683,6 +2683,7 @@ class RandomStructs(Case):
         """Rules of random bytes, whose lengths mostly fit. For each GS2 header the state of an open challenge and the
         data of the channel. Whether no length is too large."""
         rules = self.filled(fe2o3_sasl._ScramRulesStruct)
+        rules.accept_authzid, rules.identities, rules.identities_len = 0, None, 0
         channels = rules.channels
         for struct, field in ((rules, "accept_cbind_flag_y"), (rules, "strict"), (channels, "binds_channel")):
             if self.chance():
@@ -2739,7 +2740,7 @@ class RandomStructs(Case):
             (rules, headers, fits), (record, client_key, stored) = self.rules(), self.known_record()
             server, nonce = self.filled(fe2o3_sasl._ScramServerStruct), base64_of(os.urandom(32))
             server.state = state = self.random.choice((*concluded, *concluded, 0, 2, 4, 10, server.state))
-            server.user_len, server.nonce_len = 4, len(nonce)
+            server.user_len, server.nonce_len, server.acts_for_len = 4, len(nonce), 0
             server.bare_len, server.first_len = self.random.randrange(1025), self.random.randrange(1025)
             ctypes.memmove(server.user, b"user", 4)
             ctypes.memmove(server.nonce, nonce, len(nonce))

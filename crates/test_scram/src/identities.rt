@@ -132,11 +132,22 @@ fn is(answer: &Answer, wanted: &[u8]) -> bool {
     }
 }
 
+/// Returns whether this is the wanted identity, or none if none is wanted.
+fn is_named(found: Option<&str>, wanted: Option<&str>) -> bool {
+    match (found, wanted) {
+        (Some(found), Some(wanted)) => found.as_bytes() == wanted.as_bytes(),
+        (None, None) => true,
+        _ => false,
+    }
+}
+
 /// Returns whether the server opens a challenge that names the row's identity.
 fn opens<R: Abort + AllocGlobal>(rt: &R, server: &mut Server, row: &Row) -> bool {
     let answer = first(rt, server, row.header, "");
     match server.open_challenge() {
-        Some(open) => is(&answer, SERVER_FIRST.as_bytes()) && open.acts_for == row.acts_for,
+        Some(open) => {
+            is(&answer, SERVER_FIRST.as_bytes()) && is_named(open.acts_for, row.acts_for)
+        }
         None => false,
     }
 }
@@ -160,7 +171,7 @@ fn accepts<R: Abort + AllocGlobal>(rt: &R, server: &mut Server, row: &Row) -> bo
     is(&answer, row.server_final)
         && cost == 2
         && server.authenticated_user() == Some("user")
-        && server.acts_for() == row.acts_for
+        && is_named(server.acts_for(), row.acts_for)
 }
 
 /// Returns whether the server rejects the row with this proof after it has tested the proof, signs nothing and names no one.
