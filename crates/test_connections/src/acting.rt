@@ -194,64 +194,111 @@ fn client<R: Abort + AllocGlobal>(rt: &R, row: &Row) -> ClientNegotiation {
     ClientNegotiation::new(rt.alloc(), SaslProfile::from(scram), None)
 }
 
-/// Returns a server that accepts identities if `accepts` is true, with a right of the user to `admin`. It has
-/// authenticated the user for an identity, if one of this login is passed.
-fn server<R: Abort + AllocGlobal>(
-    rt: &R,
-    accepts: bool,
-    restored: Option<Option<&str>>,
-) -> PasswordServer {
+/// Returns the record of the user.
+fn users<R: Abort + AllocGlobal>(rt: &R) -> MultiRecordStore {
+    MultiRecordStore::parse_lines(rt.alloc(), LINE).expect(rt, "users")
+}
+
+/// Returns a right of the user to `admin`.
+fn rights<R: Abort + AllocGlobal>(rt: &R) -> Arc<ActingRights> {
     let mut rights = ActingRights::new(rt.alloc());
     rights.allow(rt.alloc(), USER, "admin").expect(rt, "memory");
-    let rights = Arc::new(rt.alloc(), rights).expect(rt, "memory");
-    let users = MultiRecordStore::parse_lines(rt.alloc(), LINE).expect(rt, "users");
-    let builder = PasswordServerBuilder::new(&users)
+    Arc::new(rt.alloc(), rights).expect(rt, "memory")
+}
+
+/// Returns the choices of a server that accepts identities if `accepts` is true.
+fn builder<'a>(
+    users: &'a MultiRecordStore,
+    rights: &'a Arc<ActingRights>,
+    accepts: bool,
+) -> PasswordServerBuilder<'a> {
+    PasswordServerBuilder::new(users)
         .hashes(ScramHashes {
             sha_512: false,
             sha_256: true,
             sha_1: false,
         })
         .accept_authzid(accepts)
-        .acting_rights(&rights);
-    let builder = match restored {
-        Some(acts_for) => builder.authenticated(ScramVersion::Sha256, USER, acts_for),
-        None => builder,
-    };
-    builder.build(rt.alloc()).expect(rt, "a server")
+        .acting_rights(rights)
 }
 
-/// Passes a header or a frame to a side, which answers with this one.
+/// Returns a server that accepts identities if `accepts` is true, with a right of the user to `admin`.
+fn server<R: Abort + AllocGlobal>(rt: &R, accepts: bool) -> PasswordServer {
+    let (users, rights) = (users(rt), rights(rt));
+    let built = builder(&users, &rights, accepts).build(rt.alloc());
+    built.expect(rt, "a server")
+}
+
+/// Returns the choices of a server that has authenticated this user for an identity.
+fn builder_for<'a>(
+    users: &'a MultiRecordStore,
+    rights: &'a Arc<ActingRights>,
+    user: &'a str,
+    name: &'a str,
+) -> PasswordServerBuilder<'a> {
+    builder(users, rights, true).authenticated(ScramVersion::Sha256, user, Some(name))
+}
+
+/// Returns the choices of a server that has authenticated this user, who acts for itself.
+fn builder_for_itself<'a>(
+    users: &'a MultiRecordStore,
+    rights: &'a Arc<ActingRights>,
+    user: &'a str,
+) -> PasswordServerBuilder<'a> {
+    builder(users, rights, true).authenticated(ScramVersion::Sha256, user, None)
+}
+
+/// Returns a server that has authenticated the user for this identity.
+fn restored<R: Abort + AllocGlobal>(rt: &R, acts_for: Option<&str>) -> PasswordServer {
+    let (users, rights) = (users(rt), rights(rt));
+    let built = match acts_for {
+        Some(name) => builder_for(&users, &rights, USER, name).build(rt.alloc()),
+        None => builder_for_itself(&users, &rights, USER).build(rt.alloc()),
+    };
+    built.expect(rt, "a server")
+}
+
+/// Returns whether this is the wanted name, or none if none is wanted.
+fn is_named(found: Option<&str>, wanted: Option<&str>) -> bool {
+    match (found, wanted) {
+        (Some(found), Some(wanted)) => found.as_bytes() == wanted.as_bytes(),
+        (None, None) => true,
+        _ => false,
+    }
+}
+
+/// Passes a header or a frame to a side, which answers with this one. Returns the HMAC values of the call.
 fn answers<R: Abort + AllocGlobal, E: Endpoint<L>, L: Role>(
     rt: &R,
     side: &mut ConnectionSide<E, L>,
     nonce: u8,
-    meter: &mut Meter,
     given: &str,
     answer: &[&str],
-) {
-    let mut out = BytesMut::new(rt.alloc());
+) -> u64 {
+    let (mut out, mut meter) = (BytesMut::new(rt.alloc()), Meter::new());
     let bytes = bytes_of(rt, &[given]);
-    let received = side.receive(rt.alloc(), &bytes, &[nonce; 32], meter, &mut out);
+    let received = side.receive(rt.alloc(), &bytes, &[nonce; 32], &mut meter, &mut out);
     assert!(rt; received.expect(rt, "memory").taken == bytes.len());
     assert!(rt; out.as_slice() == bytes_of(rt, answer).as_slice());
+    meter.count()
 }
 
 /// Passes the bytes of each side to the other, and returns the server.
 fn logged_in<R: Abort + AllocGlobal>(rt: &R, row: &Row) -> ServerNegotiation<PasswordServer> {
     let mut client = client(rt, row);
-    let mut server = ServerNegotiation::new(rt.alloc(), server(rt, row.accepts, None));
-    let (mine, theirs) = (&mut Meter::new(), &mut Meter::new());
-    answers(rt, &mut client, 1, mine, SASL, &[]);
-    answers(rt, &mut server, 2, theirs, SASL, &[SASL, MECHANISMS]);
-    answers(rt, &mut client, 1, mine, MECHANISMS, &row.client[..1]);
+    let mut server = ServerNegotiation::new(rt.alloc(), server(rt, row.accepts));
+    let mut cost = 0_u64;
+    answers(rt, &mut client, 1, SASL, &[]);
+    answers(rt, &mut server, 2, SASL, &[SASL, MECHANISMS]);
+    answers(rt, &mut client, 1, MECHANISMS, &row.client[..1]);
     for (place, (sent, answer)) in row.client.iter().zip(row.server.iter()).enumerate() {
-        answers(rt, &mut server, 2, theirs, sent, &[*answer]);
+        cost = cost.saturating_add(answers(rt, &mut server, 2, sent, &[*answer]));
         let next = place.saturating_add(1);
         let end = row.client.len().min(next.saturating_add(1));
-        answers(rt, &mut client, 1, mine, answer, &row.client[next..end]);
+        answers(rt, &mut client, 1, answer, &row.client[next..end]);
     }
     assert!(rt; client.progress() == row.progress && server.progress() == row.progress);
-    assert!(rt; theirs.count() == row.cost);
+    assert!(rt; cost == row.cost);
     server
 }
 
@@ -263,7 +310,8 @@ fn a_user_acts_for_an_identity(rt: HostRuntime) {
             Progress::Authenticated => (Some(USER), row.acts_for),
             _ => (None, None),
         };
-        assert!(rt; server.authenticated_user() == user && server.acts_for() == acts_for);
+        assert!(rt; is_named(server.authenticated_user(), user));
+        assert!(rt; is_named(server.acts_for(), acts_for));
     }
 }
 
@@ -272,16 +320,19 @@ fn the_identity_is_saved(rt: HostRuntime) {
     for row in &ROWS[1..4] {
         let side = logged_in(&rt, row);
         let saved = side.snapshot();
-        assert!(rt; saved.user == Some(USER) && saved.acts_for == row.acts_for);
+        assert!(rt; is_named(saved.user, Some(USER)) && is_named(saved.acts_for, row.acts_for));
         for acts_for in [None, Some("admin"), Some(USER), Some("guest")] {
-            let acceptor = server(&rt, true, Some(acts_for));
+            let acceptor = restored(&rt, acts_for);
             match ServerNegotiation::restore(rt.alloc(), acceptor, &saved) {
                 Ok(side) => {
-                    assert!(rt; acts_for == row.acts_for && side.acts_for() == acts_for);
-                    assert!(rt; side.authenticated_user() == Some(USER));
+                    assert!(rt; is_named(acts_for, row.acts_for));
+                    assert!(rt; is_named(side.acts_for(), acts_for));
+                    assert!(rt; is_named(side.authenticated_user(), Some(USER)));
                 }
                 Err(error) => {
-                    assert!(rt; acts_for != row.acts_for && error == RestoreError::OtherUser)
+                    assert!(rt;
+                        !is_named(acts_for, row.acts_for) && error == RestoreError::OtherUser
+                    )
                 }
             }
         }
@@ -290,17 +341,18 @@ fn the_identity_is_saved(rt: HostRuntime) {
 
 #[test]
 fn a_side_without_a_login_keeps_no_identity(rt: HostRuntime) {
-    let side = ServerNegotiation::new(rt.alloc(), server(&rt, true, None));
+    let side = ServerNegotiation::new(rt.alloc(), server(&rt, true));
     let mut saved = side.snapshot();
     saved.acts_for = Some("admin");
-    let restored = ServerNegotiation::restore(rt.alloc(), server(&rt, true, None), &saved);
+    let restored = ServerNegotiation::restore(rt.alloc(), server(&rt, true), &saved);
     assert!(rt; matches!(restored, Err(RestoreError::InvalidSnapshot)));
 }
 
 /// Returns the event of a frame that a server receives.
 fn event<R: Abort + AllocGlobal>(rt: &R, frame: &str) -> Event {
+    let body = frame.get(8..).expect(rt, "a frame");
     Event {
-        body: bytes_of(rt, &[&frame[8..]]),
+        body: bytes_of(rt, &[body]),
         nonce: [2; 32],
     }
 }
