@@ -290,12 +290,14 @@ fn logged_in<R: Abort + AllocGlobal>(rt: &R, row: &Row) -> ServerNegotiation<Pas
     let mut cost = 0_u64;
     answers(rt, &mut client, 1, SASL, &[]);
     answers(rt, &mut server, 2, SASL, &[SASL, MECHANISMS]);
-    answers(rt, &mut client, 1, MECHANISMS, &row.client[..1]);
+    let init = row.client.get(..1).expect(rt, "an init");
+    answers(rt, &mut client, 1, MECHANISMS, init);
     for (place, (sent, answer)) in row.client.iter().zip(row.server.iter()).enumerate() {
         cost = cost.saturating_add(answers(rt, &mut server, 2, sent, &[*answer]));
         let next = place.saturating_add(1);
         let end = row.client.len().min(next.saturating_add(1));
-        answers(rt, &mut client, 1, answer, &row.client[next..end]);
+        let following = row.client.get(next..end).expect(rt, "messages");
+        answers(rt, &mut client, 1, answer, following);
     }
     assert!(rt; client.progress() == row.progress && server.progress() == row.progress);
     assert!(rt; cost == row.cost);
