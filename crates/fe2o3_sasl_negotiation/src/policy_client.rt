@@ -112,23 +112,27 @@ fn answer_offer(
     let FrameView::Mechanisms(names) = view else {
         return Ok(Step::closed(CloseReason::UnexpectedFrame, expected));
     };
-    let Some(mut selected) = selected(alloc, login, &names)? else {
-        let why = CloseReason::Mechanism(ProfileError::NotImplemented);
-        return Ok(Step::closed(why, expected));
-    };
-    let hostname = shown_name(&login.hostname);
-    let step = reply(
-        alloc,
-        &mut selected,
-        hostname,
-        turn,
-        unit,
-        nonce,
-        meter,
-        out,
-    )?;
-    *profile = Some(selected);
-    Ok(step)
+    match selected(alloc, login, &names)? {
+        Some(mut selected) => {
+            let hostname = shown_name(&login.hostname);
+            let step = reply(
+                alloc,
+                &mut selected,
+                hostname,
+                turn,
+                unit,
+                nonce,
+                meter,
+                out,
+            )?;
+            *profile = Some(selected);
+            Ok(step)
+        }
+        None => Ok(Step::closed(
+            CloseReason::Mechanism(ProfileError::NotImplemented),
+            expected,
+        )),
+    }
 }
 
 impl Endpoint<ClientRole> for PolicyEndpoint<'_> {
