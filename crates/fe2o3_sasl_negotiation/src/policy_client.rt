@@ -67,12 +67,11 @@ fn selected(
     ensures { IfOk result (λ selected. MatchOption selected (NoneIsSelected (selection_of login.now) names.now)
         (λ profile. IsSelected (selection_of login.now) names.now (profile_of profile))) }
 {
-    let chosen =
-        match select_mechanism(alloc, names, login.username, &login.secret, login.policy) {
-            Ok(chosen) => chosen,
-            Err(ChoiceError::NoAcceptableMechanism) => return Ok(None),
-            Err(ChoiceError::OutOfMemory) => return Err(OutOfMemory),
-        };
+    let chosen = match select_mechanism(alloc, names, login.username, &login.secret, login.policy) {
+        Ok(chosen) => chosen,
+        Err(ChoiceError::NoAcceptableMechanism) => return Ok(None),
+        Err(ChoiceError::OutOfMemory) => return Err(OutOfMemory),
+    };
     match login.acts_for {
         Some(identity) => {
             let identity = String::from_str(alloc, identity)?;

@@ -68,7 +68,10 @@ fn profiles_name_identities(rt: HostRuntime) {
                 let said = acting.initial_response(rt.alloc(), &[1; 32]);
                 let said = said.expect(&rt, "memory").expect(&rt, "a message");
                 let wanted = wanted.expect(&rt, "a profile that cannot name the identity");
-                assert!(rt; said.0.as_slice() == wanted.as_bytes(), "{mechanism} {identity}");
+                assert!(rt;
+                    said.0.as_slice() == wanted.as_bytes(),
+                    "{mechanism} {identity}"
+                );
             }
             None => assert!(rt; wanted.is_none(), "{mechanism} {identity}"),
         }

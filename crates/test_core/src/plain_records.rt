@@ -94,10 +94,38 @@ static IDENTITIES: [IdentityRow; 12] = [
     (true, true, "\0user\0pencil", None, true, 4098),
     (true, false, "user\0user\0pencil", Some("user"), true, 4098),
     (true, true, "admin\0user\0pencil", Some("admin"), true, 4098),
-    (true, false, "admin\0user\0pencil", Some("admin"), false, 4098),
-    (true, true, "guest\0user\0pencil", Some("guest"), false, 4098),
-    (true, true, "admin\0user\0crayon", Some("admin"), false, 4098),
-    (true, true, "admin\0nobody\0pencil", Some("admin"), false, 12),
+    (
+        true,
+        false,
+        "admin\0user\0pencil",
+        Some("admin"),
+        false,
+        4098,
+    ),
+    (
+        true,
+        true,
+        "guest\0user\0pencil",
+        Some("guest"),
+        false,
+        4098,
+    ),
+    (
+        true,
+        true,
+        "admin\0user\0crayon",
+        Some("admin"),
+        false,
+        4098,
+    ),
+    (
+        true,
+        true,
+        "admin\0nobody\0pencil",
+        Some("admin"),
+        false,
+        12,
+    ),
     (true, true, "admin\0\0pencil", None, false, 0),
     (true, true, "user\0pencil", None, false, 0),
 ];
@@ -124,10 +152,16 @@ fn users_of_plain_act_for_identities(rt: HostRuntime) {
         let code = if is_ok { SaslCode::Ok } else { SaslCode::Auth };
         let answer = outcome(&rt, &mut server, "PLAIN", message.as_bytes());
         assert!(rt; answer == (Some(code), cost), "{message:?}");
-        assert!(rt; plain_identity(message.as_bytes()) == identity, "{message:?}");
+        assert!(rt;
+            plain_identity(message.as_bytes()) == identity,
+            "{message:?}"
+        );
         let acts_for = if is_ok { identity } else { None };
         assert!(rt; server.acts_for() == acts_for, "{message:?}");
-        assert!(rt; server.authenticated_user().is_some() == is_ok, "{message:?}");
+        assert!(rt;
+            server.authenticated_user().is_some() == is_ok,
+            "{message:?}"
+        );
     }
 }
 
