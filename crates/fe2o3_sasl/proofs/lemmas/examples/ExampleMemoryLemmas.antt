@@ -78,13 +78,13 @@ owned_ask_for_none = (
     λ profile asks. no_name _ asks,
     λ client asks. no_text asks.0,
     λ client text is asks. not_due client text is asks.1,
-    λ user password text asks. asks,
+    λ identity user password text asks. asks,
     no_data,
     λ client asks. no_signature client.state asks,
     λ client text is asks. subst (λ (s : ClientState). ReachesVerifierIn s text) is asks,
   ),
   λ client more asks. asks,
-  λ user password code more asks. asks,
+  λ identity user password code more asks. asks,
 )
 
 no_data_in_view : (profile : Profile) (code : SaslCode) → ¬ ViewAllocates profile (frames.Outcome code None)
@@ -103,7 +103,7 @@ views_ask_for_none = (
   λ profile asks. no_name _ asks,
   λ client asks. no_text asks.0,
   λ client text is asks. not_due client text is asks.1,
-  λ user password text asks. asks,
+  λ identity user password text asks. asks,
   no_data_in_view,
   λ client asks. no_text asks.0,
   λ client text is asks. not_answered client.state is asks.1,
@@ -125,7 +125,7 @@ steps_ask_for_none = (
   λ profile asks. no_name _ asks,
   λ client asks. no_text asks.0,
   λ client text is asks. not_expected client is asks.1,
-  λ user password text asks. asks,
+  λ identity user password text asks. asks,
   no_data_in_step,
   λ client asks. no_text asks.0,
   λ client text is asks. not_answered client.state is asks.1,

@@ -4,6 +4,7 @@ use Rattle.std.specs.Prelude.{is_some, nat_eq, nat_lt}
 use Rattle.std.specs.List.{Contains}
 use Rattle.std.specs.Cmp.Lexicographic.{pointwise}
 use Rattle.std.proofs.lemmas.Cmp.{nat_list_eq_equiv}
+use Rattle.std.proofs.lemmas.List.{append_assoc}
 use Rattle.fe2o3_scram.specs.declared.hmac.ScramVersion.{ScramVersion}
 use Rattle.fe2o3_scram.specs.declared.hmac.ScramVersion.TheVariants.{Sha1, Sha256, Sha512}
 use Rattle.fe2o3_scram.specs.ChannelBinding.{is_bound, mechanism_of, server_mechanism}
@@ -167,7 +168,7 @@ plain_identities_agree server next identity user password client_nonce server_no
     (inl (message, (asks, allowed), ok, to)) =
     let sent : PlainParts = record { identity = identity; user = user; password = password } in
     let same = one_message (identity ++ 0 ∷ user ++ 0 ∷ password) message sent asks.1
-    (asks.1.0, can.0, can.1.0.1, can.1.1.1, refl) in (
+    (asks.1.0, can.0, can.1.0.1, can.1.1.1, append_assoc identity (0 ∷ user) (0 ∷ password)) in (
       ap (λ (server : PlainState). server.user) to ∙ ap (λ (parts : PlainParts). Some parts.user) same,
       ap (λ (server : PlainState). server.acts_for) to ∙ ap asked_identity same,
     )
