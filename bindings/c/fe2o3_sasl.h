@@ -325,7 +325,7 @@ enum fe2o3_status {
     FE2O3_NOT_UTF8 = 3,
     /* The version is none of enum fe2o3_scram_version. */
     FE2O3_NO_SUCH_VERSION = 4,
-    /* A text is longer than the array that holds it. */
+    /* A text is longer than the array that holds it, or an identity to act for has more than 256 bytes. */
     FE2O3_TOO_LONG = 5,
     /* The typed password is not printable ASCII. */
     FE2O3_NOT_PRINTABLE = 6,
@@ -469,7 +469,7 @@ enum fe2o3_status {
      * `passwords` none of enum fe2o3_plain_passwords. */
     FE2O3_NO_SUCH_CHOICE = 85,
     /* The prepared text contains a character that RFC 4013, section 2.3, prohibits, or a word for a message of PLAIN
-     * contains a zero byte (RFC 4616, section 2). */
+     * (RFC 4616, section 2) or an identity to act for (RFC 4422, section 3.4.1) contains a zero byte. */
     FE2O3_PROHIBITED_CHARACTER = 86,
     /* The prepared text mixes right-to-left and left-to-right characters, or does not begin and end with a
      * right-to-left one (RFC 3454, section 6). */
@@ -736,6 +736,13 @@ struct fe2o3_login {
     /* The user name, without escapes. */
     const uint8_t *username;
     size_t username_len;
+    /* The identity that the client acts for, without escapes (RFC 4422, section 2), of 256 bytes at most. If empty, the
+     * client acts for itself. The server decides whether the user may act for it.
+     *
+     * SCRAM sends it as `n,a=NAME,` (RFC 5802, section 7), and a client that names one tests extensions as one that binds
+     * a channel does. The other mechanisms do not send it: FE2O3_EXTERNAL_AS sends `username` as its identity. */
+    const uint8_t *acts_for;
+    size_t acts_for_len;
     /* The password. */
     const uint8_t *password;
     size_t password_len;

@@ -416,6 +416,8 @@ class _LoginStruct(ctypes.Structure):
         ("max_iterations", ctypes.c_uint32),
         ("username", ctypes.c_char_p),
         ("username_len", ctypes.c_size_t),
+        ("acts_for", ctypes.c_char_p),
+        ("acts_for_len", ctypes.c_size_t),
         ("password", ctypes.c_char_p),
         ("password_len", ctypes.c_size_t),
         ("keys", ctypes.POINTER(_ScramKeysStruct)),

@@ -15,7 +15,7 @@ pub const NOT_UTF8: u32 = 3;
 /// The version is none of the `scram_version` constants.
 pub const NO_SUCH_VERSION: u32 = 4;
 
-/// A text is longer than the array that holds it.
+/// A text is longer than the array that holds it, or an identity to act for has more than 256 bytes.
 pub const TOO_LONG: u32 = 5;
 
 /// The typed password is not printable ASCII.
@@ -224,8 +224,8 @@ pub const REFUSED_SYS_TEMP: u32 = 84;
 /// `passwords` none of the `plain_passwords` constants.
 pub const NO_SUCH_CHOICE: u32 = 85;
 
-/// The prepared text contains a character that RFC 4013, section 2.3, prohibits, or a word for a message of PLAIN
-/// contains a zero byte (RFC 4616, section 2).
+/// The prepared text contains a character that RFC 4013, section 2.3, prohibits, or a word for a message of PLAIN (RFC
+/// 4616, section 2) or an identity to act for (RFC 4422, section 3.4.1) contains a zero byte.
 pub const PROHIBITED_CHARACTER: u32 = 86;
 
 /// The prepared text mixes right-to-left and left-to-right characters, or does not begin and end with a right-to-left
@@ -580,6 +580,13 @@ pub struct Login {
     /// The user name, without escapes.
     pub username: *const u8,
     pub username_len: usize,
+    /// The identity that the client acts for, without escapes (RFC 4422, section 2), of 256 bytes at most. If empty,
+    /// the client acts for itself. The server decides whether the user may act for it.
+    ///
+    /// SCRAM sends it as `n,a=NAME,` (RFC 5802, section 7), and a client that names one tests extensions as one that
+    /// binds a channel does. The other mechanisms do not send it: EXTERNAL_AS sends `username` as its identity.
+    pub acts_for: *const u8,
+    pub acts_for_len: usize,
     /// The password.
     pub password: *const u8,
     pub password_len: usize,

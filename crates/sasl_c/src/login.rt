@@ -44,6 +44,13 @@ pub struct Login<'a> {
     /// The user name, without escapes.
     pub username: &'a [u8],
 
+    /// The identity that the client acts for, without escapes (RFC 4422, section 2), of 256 bytes at most. If empty, the
+    /// client acts for itself. The server decides whether the user may act for it.
+    ///
+    /// SCRAM sends it as `n,a=NAME,` (RFC 5802, section 7), and a client that names one tests extensions as one that binds
+    /// a channel does. The other mechanisms do not send it: FE2O3_EXTERNAL_AS sends `username` as its identity.
+    pub acts_for: &'a [u8],
+
     /// The password.
     pub password: &'a [u8],
 
