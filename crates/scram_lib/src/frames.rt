@@ -168,7 +168,8 @@ where
     let server = server_for(rt, service, rules, secret, source, claimed.as_deref())?;
     let mut server = Box::new(alloc, continued(alloc, &opener, server)?)?;
     serve_over(rt, service, &mut *server, input, output)?;
-    tell_user(alloc, service, server.authenticated_user(), errors);
+    let user = server.authenticated_user();
+    tell_user(alloc, service, user, server.acts_for(), errors);
     Ok(Done::ServerOfFrames(server))
 }
 

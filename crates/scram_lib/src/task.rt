@@ -1,7 +1,8 @@
 //! The task that the arguments ask for.
 
-ghost use Rattle.std.specs.Prelude.{◌≡◌, true, false, Some, None, IfOk, codes, option_map};
+ghost use Rattle.std.specs.Prelude.{◌≡◌, ◌≢◌, [], true, false, Some, None, IfOk, codes, map, option_map};
 ghost use Rattle.clap.specs.Matches.{first_value, found_of, one_text};
+ghost use Rattle.scram_lib.specs.Acting.{texts_of};
 ghost use Rattle.scram_lib.specs.Done.{IsDone};
 
 use crate::client::{Login, log_in};
@@ -80,7 +81,7 @@ pub enum Task<'a> {
 
 impl<'a> Command<'a> {
     /// Returns the command of the parsed arguments.
-    pub fn of(matches: &ArgMatches<'a>) -> Command<'a> {
+    pub fn of(matches: &'a ArgMatches<'a>) -> Command<'a> {
         match matches.subcommand() {
             Some(("explain", found)) => Command::of_explain(found),
             _ => Command::Task(Task::of(matches)),
@@ -109,7 +110,7 @@ impl<'a> Command<'a> {
 
 impl<'a> Task<'a> {
     /// Returns the task of the parsed arguments. They are not those of `explain`.
-    fn of(matches: &ArgMatches<'a>) -> Task<'a> {
+    fn of(matches: &'a ArgMatches<'a>) -> Task<'a> {
         match matches.subcommand() {
             Some(("users", found)) => Task::of_users(found),
             Some(("client", found)) => Task::Client(login(found)),
@@ -227,6 +228,8 @@ impl<'a> Task<'a> {
 fn login<'a>(matches: &ArgMatches<'a>) -> Login<'a>
     ensures channel { option_map (λ word. word.now) result.channel
         ≡ first_value (found_of matches.now) (codes "channel") }
+    ensures acts_for { option_map (λ word. word.now) result.acts_for
+        ≡ first_value (found_of matches.now) (codes "acts-for") }
     ensures not_offered { (one_text (found_of matches.now) (codes "channel-not-offered") ≡ Some (codes "true"))
         → result.channel_not_offered ≡ true }
     ensures strict { (one_text (found_of matches.now) (codes "strict") ≡ Some (codes "true"))
@@ -235,6 +238,7 @@ fn login<'a>(matches: &ArgMatches<'a>) -> Login<'a>
     Login {
         version: version_of(matches, "M").unwrap_or(ScramVersion::Sha256),
         user: text(matches, "USER"),
+        acts_for: matches.get_str("acts-for"),
         min_iterations: matches.get_one::<u32>("min-iterations").unwrap_or(4096),
         max_iterations: max_iterations(matches),
         keys: matches.get_str("keys"),
@@ -254,16 +258,21 @@ fn max_iterations(matches: &ArgMatches<'_>) -> u32 {
 }
 
 /// Returns the arguments of `server`.
-fn service<'a>(matches: &ArgMatches<'a>) -> Service<'a>
+fn service<'a>(matches: &'a ArgMatches<'a>) -> Service<'a>
     ensures channel { option_map (λ word. word.now) result.channel
         ≡ first_value (found_of matches.now) (codes "channel") }
     ensures saslprep { (one_text (found_of matches.now) (codes "saslprep") ≡ Some (codes "true"))
         → result.saslprep ≡ true }
     ensures no_y { (one_text (found_of matches.now) (codes "accept-y") ≡ Some (codes "false"))
         → result.accept_y ≡ false }
+    ensures rights { map (λ word. word.now) result.may_act.now ≡ texts_of (found_of matches.now) (codes "may-act") }
+    ensures no_authzid { (one_text (found_of matches.now) (codes "accept-authzid") ≡ Some (codes "false"))
+        → texts_of (found_of matches.now) (codes "may-act") ≡ [] → result.accept_authzid ≡ false }
+    ensures authzid { texts_of (found_of matches.now) (codes "may-act") ≢ [] → result.accept_authzid ≡ true }
     ensures strict { (one_text (found_of matches.now) (codes "strict") ≡ Some (codes "true"))
         → result.strict ≡ true }
 {
+    let may_act = matches.get_strs("may-act").unwrap_or(&[]);
     Service {
         version: version_of(matches, "M").unwrap_or(ScramVersion::Sha256),
         file: text(matches, "FILE"),
@@ -272,6 +281,8 @@ fn service<'a>(matches: &ArgMatches<'a>) -> Service<'a>
         tells_unknown_users: matches.get_flag("tell-unknown-users"),
         channel: matches.get_str("channel"),
         accept_y: matches.get_flag("accept-y"),
+        accept_authzid: matches.get_flag("accept-authzid") || !may_act.is_empty(),
+        may_act,
         strict: matches.get_flag("strict"),
         nonce: matches.get_str("nonce"),
         frames: matches.get_flag("frames"),
