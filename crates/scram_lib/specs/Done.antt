@@ -67,7 +67,8 @@ pub record IsServerAsked (service : Service) (server : ScramAuthenticator Store)
   pub users : AreUsers service.version lines (provider_in server)
   pub rules : AreRulesOf service (rules_in server)
   pub claimed : Option (List ℕ)
-  pub rights : AreRightsOf service.saslprep (map (λ word. word.now) service.may_act.now) claimed (rights_in server)
+  pub rights : AreRightsOf service.saslprep (option_map (λ words. map (λ word. word.now) words.now) service.may_act) claimed
+      (rights_in server)
   pub state : state_in server ≡ Initial
 
 -- the provider that a server of these users answers by

@@ -146,7 +146,7 @@ fn negotiation(
 /// user name.
 pub(crate) fn serve<R, I, O, E, D>(
     rt: &R,
-    service: &Service<'_>,
+    service: &Service<'_, '_>,
     rules: ServerRules,
     secret: Option<Vec<u8>>,
     source: &Source<'_, D>,
@@ -174,7 +174,7 @@ where
 }
 
 /// Returns a server's side without users, which offers the mechanism.
-fn opener(alloc: Global, service: &Service<'_>, rules: ServerRules) -> Side {
+fn opener(alloc: Global, service: &Service<'_, '_>, rules: ServerRules) -> Side {
     let nobody = RecordStore::new(alloc, service.version);
     ServerNegotiation::new(alloc, ScramAuthenticator::new(nobody).with_rules(rules))
 }
@@ -182,7 +182,7 @@ fn opener(alloc: Global, service: &Service<'_>, rules: ServerRules) -> Side {
 /// Answers the client up to its init, and returns the user name that the init claims, if any. The init is not taken.
 fn receive_init<R, I, O>(
     rt: &R,
-    service: &Service<'_>,
+    service: &Service<'_, '_>,
     opener: &mut Side,
     input: &mut I,
     output: &mut O,
@@ -255,7 +255,7 @@ fn continued(
 /// Serves a login with a server's side. After `Ok` the side has logged its client in.
 fn serve_over<R, S, I, O>(
     rt: &R,
-    service: &Service<'_>,
+    service: &Service<'_, '_>,
     server: &mut ServerNegotiation<S>,
     input: &mut I,
     output: &mut O,

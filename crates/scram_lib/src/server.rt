@@ -1,9 +1,9 @@
 //! `server`: the server side of a login, for the users of a file. The input has the client's messages.
 
-ghost use Rattle.std.specs.Prelude.{◌≡◌, ◌↔◌, ℕ, List, Option, Ok, Some, IsSome, IfOk, OnOk, false, map, option_map};
-ghost use Rattle.std.specs.List.{All};
+ghost use Rattle.std.specs.Prelude.{◌≡◌, ◌↔◌, ℕ, List, Option, Ok, Some, IsSome, IfOk, IfSome, OnOk, false, true, map, option_map};
+ghost use Rattle.std.specs.List.{list_all};
 ghost use Rattle.fe2o3_scram.specs.ScramServer.{ChallengesFrom, ConcludesFrom, provider_in, rights_in, rules_in, state_in};
-ghost use Rattle.scram_lib.specs.Acting.{AreRightsOf, NamesBoth};
+ghost use Rattle.scram_lib.specs.Acting.{AreRightsOf, names_both};
 ghost use Rattle.scram_lib.specs.Done.{AreRulesOf, AreUsers, HasAccepted, IsMessage, IsSameServer, IsServerAsked, HasServed, provider_of};
 
 mod acting;
@@ -34,7 +34,7 @@ use std::sync::Arc;
 
 /// The arguments of a server.
 #[derive(Clone, Copy)]
-pub struct Service<'a> {
+pub struct Service<'a, 'm> {
     /// The mechanism.
     pub version: ScramVersion,
 
@@ -59,8 +59,8 @@ pub struct Service<'a> {
     /// Whether a client may name an identity to act for.
     pub accept_authzid: bool,
 
-    /// The rights to act for identities, each `USER:IDENTITY`. They have no effect without `accept_authzid`.
-    pub may_act: &'a [&'a str],
+    /// The rights to act for identities, each `USER:IDENTITY`, if any. They have no effect without `accept_authzid`.
+    pub may_act: Option<&'m [&'a str]>,
 
     /// Whether the server is strict.
     pub strict: bool,
@@ -76,7 +76,7 @@ pub struct Service<'a> {
 pub fn serve<R, I, O, E, D>(
     rt: &R,
     db: &D,
-    service: &Service<'_>,
+    service: &Service<'_, '_>,
     input: &mut I,
     output: &mut O,
     errors: &mut E,
@@ -102,7 +102,7 @@ where
 /// printed by the name of its record. So is an identity that is the name which the client sent.
 pub(crate) fn tell_user<E: Write>(
     alloc: Global,
-    service: &Service<'_>,
+    service: &Service<'_, '_>,
     sent: Option<&str>,
     acts_for: Option<&str>,
     errors: &mut E,
@@ -119,7 +119,7 @@ pub(crate) fn tell_user<E: Write>(
 /// Returns the line that says who has logged in, and the identity that the user acts for, if any.
 fn login_line(
     alloc: Global,
-    service: &Service<'_>,
+    service: &Service<'_, '_>,
     sent: &str,
     acts_for: Option<&str>,
 ) -> Result<Vec<u8>, Stop> {
@@ -140,12 +140,12 @@ fn login_line(
 }
 
 /// Returns the name of the record of the user who sent this name, as it is printed.
-fn shown_user(alloc: Global, service: &Service<'_>, sent: &str) -> Result<Vec<u8>, Stop> {
+fn shown_user(alloc: Global, service: &Service<'_, '_>, sent: &str) -> Result<Vec<u8>, Stop> {
     let name = service.name_of(alloc, sent)?;
     Ok(shown(alloc, name.as_deref().unwrap_or(sent).as_bytes())?)
 }
 
-impl Service<'_> {
+impl Service<'_, '_> {
     /// Returns the name of the mechanism, with `-PLUS` if the server binds a channel.
     fn mechanism(&self) -> &'static str {
         self.version.mechanism_with(self.channel.is_some())
@@ -154,7 +154,8 @@ impl Service<'_> {
     /// Returns what the server accepts, if each of its rights names a user and an identity.
     fn rules(&self, alloc: Global) -> Result<ServerRules, Stop>
         ensures rules { IfOk result (λ rules. AreRulesOf self.now rules) }
-        ensures rights { IfOk result (λ _. All NamesBoth (map (λ word. word.now) self.now.may_act.now)) }
+        ensures rights { IfOk result (λ _. IfSome self.now.may_act (λ words.
+            list_all (λ word. names_both word.now) words.now ≡ true)) }
     {
         self.test_rights()?;
         let (accept_y, accept_authzid) = (self.accept_y, self.accept_authzid);
@@ -175,7 +176,7 @@ impl Service<'_> {
 /// Returns the server for a client that claims this name, if any. It has only the records of that user.
 pub(crate) fn server_for<R: AllocGlobal, D: Database<R>>(
     rt: &R,
-    service: &Service<'_>,
+    service: &Service<'_, '_>,
     rules: ServerRules,
     secret: Option<Vec<u8>>,
     source: &Source<'_, D>,
@@ -196,7 +197,7 @@ pub(crate) fn server_for<R: AllocGlobal, D: Database<R>>(
 /// in the text.
 fn server(
     alloc: Global,
-    service: &Service<'_>,
+    service: &Service<'_, '_>,
     rules: ServerRules,
     rights: ActingRights,
     secret: Option<Vec<u8>>,
@@ -204,7 +205,8 @@ fn server(
     lines: &str,
 ) -> Result<ScramAuthenticator<RecordStore>, Stop>
     ensures { AreRulesOf service.now rules → (claimed : Option (List ℕ))
-        → AreRightsOf service.now.saslprep (map (λ word. word.now) service.now.may_act.now) claimed rights
+        → AreRightsOf service.now.saslprep
+        (option_map (λ words. map (λ word. word.now) words.now) service.now.may_act) claimed rights
         → IfOk result (λ server. IsServerAsked service.now server) }
 {
     let users = users_of(alloc, service, text, lines)?;
@@ -216,7 +218,7 @@ fn server(
 /// Returns this server, with mock authentication if there is a secret.
 fn with_mock(
     alloc: Global,
-    service: &Service<'_>,
+    service: &Service<'_, '_>,
     server: ScramAuthenticator<RecordStore>,
     secret: Option<Vec<u8>>,
     text: &str,
@@ -234,7 +236,7 @@ fn with_mock(
 /// the whole text, which has the line's number.
 fn users_of(
     alloc: Global,
-    service: &Service<'_>,
+    service: &Service<'_, '_>,
     text: &str,
     lines: &str,
 ) -> Result<RecordStore, Stop>
@@ -247,7 +249,7 @@ fn users_of(
 }
 
 /// Parses the users of a text that have records for the mechanism.
-fn users(alloc: Global, service: &Service<'_>, text: &str) -> Result<RecordStore, Stop>
+fn users(alloc: Global, service: &Service<'_, '_>, text: &str) -> Result<RecordStore, Stop>
     ensures { IfOk result (λ users. AreUsers service.now.version text.now users) }
 {
     let users = MultiRecordStore::parse_lines(alloc, text)?;
@@ -257,7 +259,7 @@ fn users(alloc: Global, service: &Service<'_>, text: &str) -> Result<RecordStore
 /// Serves a login over lines.
 fn over_lines<R, I, O, E, D>(
     rt: &R,
-    service: &Service<'_>,
+    service: &Service<'_, '_>,
     rules: ServerRules,
     secret: Option<Vec<u8>>,
     source: &Source<'_, D>,
@@ -282,7 +284,7 @@ where
 /// Answers the messages of a login, of which the first is received.
 fn log_in<R, I, O, E>(
     rt: &R,
-    service: &Service<'_>,
+    service: &Service<'_, '_>,
     server: ScramAuthenticator<RecordStore>,
     message: &[u8],
     input: &mut I,
