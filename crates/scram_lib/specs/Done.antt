@@ -1,5 +1,5 @@
 -- What a command of the program `scram` has done if it ends with status 0.
-use Rattle.std.specs.Prelude.{ℕ, List, [], ◌∷◌, Bool, true, false, Option, Some, None, Result, Ok, ◌≡◌, ◌≤◌, box_value, map, option_map, string_bytes}
+use Rattle.std.specs.Prelude.{ℕ, List, [], ◌∷◌, Bool, true, false, Option, Some, Result, Ok, ◌≡◌, ◌≤◌, box_value, map, option_map, string_bytes}
 use Rattle.std.specs.List.{Contains}
 use Rattle.fe2o3_scram.specs.declared.hmac.ScramVersion.{ScramVersion}
 use Rattle.fe2o3_scram.specs.declared.hmac.ScramVersion.TheVariants.{Sha1, Sha256, Sha512}
