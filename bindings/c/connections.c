@@ -129,7 +129,7 @@ static void clients(void)
 {
     struct fe2o3_sasl_login login = {FE2O3_SCRAM, TEXT("host"),
         {.version = FE2O3_SHA_256, .min_iterations = 4096, .max_iterations = 100000, .username = TEXT("user"),
-            .password = TEXT("pencil"), .keys = &no_keys}};
+            .acts_for = FE2O3_NONE, .password = TEXT("pencil"), .keys = &no_keys}};
     struct fe2o3_sasl_client client = {0}, plain = {0};
     struct sent sent;
     client.connection.extended_headers = 1;
@@ -176,8 +176,8 @@ static void plain_words(void)
     };
     for (size_t at = 0; at < sizeof rows / sizeof *rows; at++) {
         struct fe2o3_sasl_login login = {FE2O3_PLAIN, TEXT(""),
-            {.username = rows[at].username, .username_len = rows[at].username_len, .password = rows[at].password,
-                .password_len = rows[at].password_len, .keys = &no_keys}};
+            {.username = rows[at].username, .username_len = rows[at].username_len, .acts_for = FE2O3_NONE,
+                .password = rows[at].password, .password_len = rows[at].password_len, .keys = &no_keys}};
         struct sent sent;
         int holds = fe2o3_plain_message(rows[at].username, rows[at].username_len, rows[at].password,
             rows[at].password_len, ROOM(sent)) == rows[at].status;

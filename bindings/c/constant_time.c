@@ -81,7 +81,7 @@ static uint32_t prepare(uint32_t version)
     memset(all.long_password.bytes, 'x', all.long_password.len = 200);
     memset(all.salted.bytes, 5, all.salted.len = digest_len());
     all.login = (struct fe2o3_login){.version = version, .min_iterations = 1, .max_iterations = 100,
-        .username = TEXT("user"), .password = GIVEN(all.password), .keys = &all.no_keys};
+        .username = TEXT("user"), .acts_for = FE2O3_NONE, .password = GIVEN(all.password), .keys = &all.no_keys};
     failed = make_record(FE2O3_TYPED, &all.password, &all.record);
     failed |= make_record(FE2O3_PREPARED, &all.prepared, &all.prepared_record);
     failed |= make_salted_record(&all.salted_record);

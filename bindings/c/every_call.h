@@ -19,7 +19,7 @@ static void after(const char *name);
 #define CALL_VOID(name, ...) (before(#name), fe2o3_##name(__VA_ARGS__), after(#name))
 
 struct text {
-    uint8_t bytes[1024];
+    uint8_t bytes[2048];
     size_t len;
 };
 
@@ -252,7 +252,7 @@ static void logins(uint32_t version)
     static struct fe2o3_sasl_server_config config;
     const uint32_t failed = FE2O3_SERVER_AUTHENTICATION_FAILED, rejected = FE2O3_REFUSED_AUTH;
     login = (struct fe2o3_login){.version = version, .min_iterations = 1, .max_iterations = 4096, .username = USER,
-        .password = GIVEN(all.password), .keys = &no_keys, .signature_by_challenge = 1};
+        .acts_for = FE2O3_NONE, .password = GIVEN(all.password), .keys = &no_keys, .signature_by_challenge = 1};
     wrong = by_keys = by_both = login;
     wrong.password_len = all.wrong.len;
     by_keys.secret = FE2O3_BY_KEYS;

@@ -803,7 +803,8 @@ uint32_t fe2o3_scram_client_first(
     size_t *out_len);
 
 /* Answers the server-first message with the client-final message. `out` needs 128 bytes more than the server-first
- * message has, or 256 more if the client binds a channel. This is tested before anything is hashed. */
+ * message has, or 256 more if the client binds a channel, and another 1024 if it names an identity to act for. This is
+ * tested before anything is hashed. */
 uint32_t fe2o3_scram_client_final(
     const struct fe2o3_login *login,
     struct fe2o3_scram_client *client,

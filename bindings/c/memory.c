@@ -275,7 +275,7 @@ static void late_connection(const uint8_t *init, size_t init_len, const uint8_t 
 int main(void)
 {
     login = (struct fe2o3_login){.version = FE2O3_SHA_256, .min_iterations = 4096, .max_iterations = 4096,
-        .username = TEXT("us,er"), .password = TEXT("pencil"), .keys = &no_keys};
+        .username = TEXT("us,er"), .acts_for = FE2O3_NONE, .password = TEXT("pencil"), .keys = &no_keys};
     sasl_login = (struct fe2o3_sasl_login){.hostname = TEXT("host"), .login = login};
     config = (struct fe2o3_sasl_server_config){.mechanisms = FE2O3_OFFER_SCRAM_SHA_256 | FE2O3_OFFER_PLAIN
             | FE2O3_OFFER_ANONYMOUS | FE2O3_OFFER_EXTERNAL, .iterations = 4096, .username = FE2O3_NONE,

@@ -253,8 +253,8 @@ static uint8_t nonce[32];
 static void fitting(const struct fe2o3_scram_client *client, struct text *server_first)
 {
     static struct fe2o3_scram_keys no_keys;
-    const struct fe2o3_login who = {.version = FE2O3_SHA_1, .username = TEXT("user"), .password = TEXT("pencil"),
-        .keys = &no_keys};
+    const struct fe2o3_login who = {.version = FE2O3_SHA_1, .username = TEXT("user"), .acts_for = FE2O3_NONE,
+        .password = TEXT("pencil"), .keys = &no_keys};
     struct fe2o3_scram_client other = {0};
     struct text first = {{0}, 0};
     char count[8];
@@ -477,8 +477,21 @@ static void with_a_side_of_a_server(void)
     answered("sasl_server_receive", status);
 }
 
+/* An identity to act for, which may have bytes of any value, and may be too long. Returns its length. */
+static size_t draw_identity(uint8_t identity[260])
+{
+    size_t len = below(2) ? 0 : below(3) ? below(8) : 250 + below(10);
+    memset(identity, below(2) ? 'a' : '=', 260);
+    if (below(4) == 0)
+        fill(identity, 2);
+    if (below(8) == 0)
+        identity[0] = 0;
+    return len;
+}
+
 static void one_round(void)
 {
+    uint8_t identity[260];
     memset(&drawn, 0, sizeof drawn);
     draw_keys(&drawn.keys);
     draw_record(&drawn.record);
@@ -493,7 +506,8 @@ static void one_round(void)
     all = drawn;
     login = (struct fe2o3_login){.version = below(4) ? drawn.keys.version : ONE_OF(1, 2, 256, 512),
         .secret = below(2) ? 0 : below(4), .form = below(2) ? 0 : below(3), .min_iterations = below(3), .max_iterations = 5 + below(4),
-        .username = TEXT("user"), .password = TEXT("pencil"), .keys = &drawn.keys, .signature_by_challenge = below(2)};
+        .username = TEXT("user"), .acts_for = identity, .acts_for_len = draw_identity(identity), .password = TEXT("pencil"),
+        .keys = &drawn.keys, .signature_by_challenge = below(2)};
     with_a_client();
     with_a_server();
     with_a_record();
@@ -525,6 +539,9 @@ int main(void)
     reached("client_final", FE2O3_OK);
     reached("client_verify", FE2O3_CLIENT_SERVER_SIGNATURE_MISMATCH);
     reached("client_keys", FE2O3_OK);
+    reached("client_first", FE2O3_NOT_UTF8);
+    reached("client_first", FE2O3_PROHIBITED_CHARACTER);
+    reached("client_first", FE2O3_TOO_LONG);
     reached("client_final", FE2O3_NO_SUCH_SECRET);
     reached("client_final", FE2O3_NO_SUCH_CHOICE);
     reached("server_first", FE2O3_OK);

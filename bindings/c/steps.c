@@ -108,7 +108,7 @@ static struct fe2o3_sasl_login login_by(uint32_t mechanism, uint32_t version)
 {
     struct fe2o3_sasl_login login = {mechanism, TEXT("host"),
         {.version = version, .min_iterations = 4096, .max_iterations = 100000, .username = TEXT("user"),
-            .password = TEXT("pencil"), .keys = &no_keys}};
+            .acts_for = FE2O3_NONE, .password = TEXT("pencil"), .keys = &no_keys}};
     return login;
 }
 

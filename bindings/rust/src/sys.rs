@@ -1059,7 +1059,8 @@ extern "C" {
         out_len: *mut usize) -> u32;
 
     /// Answers the server-first message with the client-final message. `out` needs 128 bytes more than the server-first
-    /// message has, or 256 more if the client binds a channel. This is tested before anything is hashed.
+    /// message has, or 256 more if the client binds a channel, and another 1024 if it names an identity to act for.
+    /// This is tested before anything is hashed.
     pub fn fe2o3_scram_client_final(
         login: *const Login,
         client: *mut ScramClient,

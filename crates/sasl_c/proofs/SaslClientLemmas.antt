@@ -2,7 +2,6 @@
 use Rattle.std.proofs.Common.{arith, refl, sym, ap, inl, inr, ◌∙◌, ◌≡◌, ◌≢◌, ◌≤◌, ◌<◌, ◌⊎◌, ℕ, List, length, IsTrue, true}
 use Rattle.std.specs.Prelude.{Bool, Option, Some, None, false, replicate, IfSome, MatchOption, Ok, Err, nat_eq, if◌then◌else◌}
 use Rattle.std.specs.Str.{IsUtf8}
-use Rattle.fe2o3_sasl_wire.specs.FrameView.{shown}
 use Rattle.fe2o3_scram.specs.Readings.{IsFirst, NoneHolds}
 use Rattle.fe2o3_scram.specs.ScramClient.{ClientSide}
 use Rattle.fe2o3_scram.proofs.lemmas.texts.DecisionLemmas.{same_number_or}
@@ -26,7 +25,6 @@ use Rattle.sasl_c.specs.Client.{IsNoLogin, IsReached, IsState, WritesClient, fre
 use Rattle.sasl_c.specs.Connection.{Keeps, KeepsNoPartOf, accepts_extended, expected_number, side_tests, connection_struct}
 use Rattle.sasl_c.specs.SaslClient.{ClientTakes, ProfileIsReached, HasNoHostname, HasNoClientWords, HasNoMessage, IsClient, IsDueIn, message_number, IsHostname, IsNoClient, IsNoProfile, IsProfile, client_word_tests, ReadsClient, ReceivesAsClient, WritesProfile, WritesSide}
 use Rattle.sasl_c.proofs.StatusLemmas.{carried}
-use Rattle.fe2o3_sasl_core.specs.declared.sasl_profile.error.ProfileError.TheVariants.{OutOfMemory}
 
 -- ---- structs
 

@@ -10,24 +10,9 @@ ghost use Rattle.sasl_c.specs.declared.status.Status.TheVariants.{OutOfMemory as
 
 use crate::arrays::{put, write};
 use crate::status::{Status, WriteError, text, text_number};
+use crate::zeros::has_no_zero;
 use fe2o3_sasl_core::plain_server::plain_user;
 use std::alloc::{AllocError, Global};
-
-/// Splits the text at its first zero byte.
-fn cut_at_zero(text: &str) -> Option<(&str, &str)>
-    ensures { MatchOption result ((before rest : List ℕ) → ¬ Cut 0 text.now before rest)
-        (λ both. Cut 0 text.now both.0.now both.1.now) }
-{
-    text.split_once('\0')
-}
-
-/// Returns whether the text has no zero byte.
-#[tactic(auto, using(crate::proofs::PlainLemmas::zeros))]
-fn has_no_zero(text: &str) -> bool
-    ensures { IsTrue result ↔ Without 0 text.now }
-{
-    cut_at_zero(text).is_none()
-}
 
 /// Returns the words of a message as texts. `NotUtf8`, `NamesNoUser`, `EmptyPassword` and `ProhibitedCharacter`.
 #[tactic(auto, using(crate::proofs::PlainLemmas::words))]
