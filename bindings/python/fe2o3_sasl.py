@@ -1880,21 +1880,24 @@ class Channel:
 class _OwnLogin(_LoginStruct):
     """A login with its own copies of the password and the keys, which `wipe` reaches."""
 
-    _kept: tuple[bytes, ctypes.Array[ctypes.c_char], _ScramKeysStruct]
+    _kept: tuple[bytes, ctypes.Array[ctypes.c_char], _ScramKeysStruct, bytes]
 
-    def keep(self, username: bytes, password: ctypes.Array[ctypes.c_char], keys: _ScramKeysStruct) -> _OwnLogin:
+    def keep(
+        self, username: bytes, password: ctypes.Array[ctypes.c_char], keys: _ScramKeysStruct, acts_for: bytes
+    ) -> _OwnLogin:
         """Points to the texts and the keys, and keeps them alive."""
-        self._kept = username, password, keys
+        self._kept = username, password, keys, acts_for
         self.username, self.username_len = username, len(username)
+        self.acts_for, self.acts_for_len = acts_for, len(acts_for)
         self.password, self.password_len = ctypes.addressof(password), len(password) - 1
         self.keys = ctypes.pointer(keys)
         return self
 
     def copied(self) -> _OwnLogin:
         """Returns a copy that shares no secret with this login."""
-        username, password, keys = self._kept
+        username, password, keys, acts_for = self._kept
         copies = type(password).from_buffer_copy(password), _ScramKeysStruct.from_buffer_copy(keys)
-        return _OwnLogin.from_buffer_copy(self).keep(username, *copies)
+        return _OwnLogin.from_buffer_copy(self).keep(username, *copies, acts_for)
 
     def secrets(self) -> tuple[Any, ...]:
         return self, self._kept[1], self._kept[2]
@@ -1927,6 +1930,7 @@ class Client(_Guarded):
         channel: Optional[Channel] = None,
         plus_offered: bool = True,
         strict: bool = False,
+        acts_for: Optional[Text] = None,
     ) -> None:
         """A client that has sent nothing. It rejects an iteration count below the minimum, with which a server could
         guess the password sooner (RFC 7677 requires at least 4096), and one above the maximum, which costs time.
@@ -1941,7 +1945,13 @@ class Client(_Guarded):
 
         With `strict`, the client reads messages by the grammar of RFC 5802, section 7. The server's part of the nonce has
         to be printable and not empty, the iteration count without a sign or leading zeros, and what follows the count
-        or the signature an extension. A client that binds a channel tests the extensions in any case."""
+        or the signature an extension. A client that binds a channel tests the extensions in any case.
+
+        The client acts for the identity `acts_for` (RFC 4422, section 2), without escapes, or for itself if that is None
+        or empty. The server has to let the user act for it. The GS2 header is then `n,a=` with the identity, and the
+        client tests the extensions in any case. An identity of more than 256 bytes or with NUL raises `Refused` at the
+        first call, with TOO_LONG or PROHIBITED_CHARACTER. A `ClientConnection` or `ClientSteps` of the client acts for
+        the identity too."""
         if password is None and keys is None:
             raise ValueError("a login takes a password, keys, or both")
         name = _text(username)
@@ -1967,7 +1977,8 @@ class Client(_Guarded):
             self._login.channel_kind, self._login.channel_data_len = bound.kind, len(bound.data)
             self._login.channel_data = bound._array()
         text = _hidden("" if password is None else password)
-        self._login.keep(name, text, _ScramKeysStruct() if keys is None else keys._copied())
+        own_keys = _ScramKeysStruct() if keys is None else keys._copied()
+        self._login.keep(name, text, own_keys, _text("" if acts_for is None else acts_for))
         self._struct = _ScramClientStruct()
         self._lock = _Guard(self)
 
@@ -1995,6 +2006,7 @@ class Client(_Guarded):
         message = _bytes(server_first)
         with self._lock:
             more = 256 if self._login.channel_use == _ChannelUse.BOUND else 128
+            more += 4 * self._login.acts_for_len  # (escaped, and then in base64)
             return _written(
                 len(message) + more,
                 lambda *room: _library.fe2o3_scram_client_final(

@@ -48,7 +48,7 @@ pub enum SaslProfile {
     /// for the user that the transport has authenticated. The client also answers one empty challenge by it.
     ExternalAs(String),
 
-    /// SCRAM. The client's own exchange is not affected.
+    /// SCRAM, for the identity of [`ScramClient::acting_for`] if it has one. The client's own exchange is not affected.
     Scram(ScramClient),
 }
 

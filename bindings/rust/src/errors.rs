@@ -199,6 +199,16 @@ kinds! {
 }
 
 kinds! {
+    /// Why no client can act for an identity.
+    IdentityError {
+        /// The identity has more than 256 bytes.
+        TooLong = TOO_LONG,
+        /// The identity contains a zero byte (RFC 4422, section 3.4.1).
+        ProhibitedCharacter = PROHIBITED_CHARACTER,
+    }
+}
+
+kinds! {
     /// Why a text cannot be parsed as a record.
     RecordTextError {
         /// The text does not have five fields: parts are missing or left over.

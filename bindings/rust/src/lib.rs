@@ -59,8 +59,8 @@ pub use channels::{Channel, ChannelDataLength, ChannelKind};
 pub use client::ScramClient;
 pub use connection::{ClientNegotiation, Progress, Received, SaslProfile};
 pub use errors::{
-    ConnectionError, PlainError, RecordError, RecordTextError, SaslprepError, ScramErrorKind, ServerScramErrorKind,
-    Status,
+    ConnectionError, IdentityError, PlainError, RecordError, RecordTextError, SaslprepError, ScramErrorKind,
+    ServerScramErrorKind, Status,
 };
 pub use frames::{offers, view_frame, Frame};
 pub use keys::CachedKeys;
