@@ -279,6 +279,8 @@ static void with_a_client(void)
     answered("client_final", fe2o3_scram_client_final(&login, &all.client, GIVEN(server_first), ROOM));
     answered("client_verify", fe2o3_scram_client_verify(&login, &all.client, GIVEN(server_final)));
     answered("client_keys", fe2o3_scram_client_get_keys(&all.client, &all.keys));
+    answered("plain_message",
+        fe2o3_plain_message(login.acts_for, login.acts_for_len, TEXT("user"), TEXT("pencil"), ROOM));
 }
 
 /* A client-final message with the nonce of a server's struct, and a proof of random bytes. */
@@ -355,7 +357,10 @@ static void with_a_record(void)
     answered("line", fe2o3_scram_line(TEXT("user"), &all.record, ROOM));
     answered("record_verify", fe2o3_scram_record_verify(&all.record, below(3), TEXT("pencil")));
     answered("record_verify_salted", fe2o3_scram_record_verify_salted(&all.record, nonce, ONE_OF(20, 31, 32)));
-    answered("plain_verify", fe2o3_plain_verify(&all.record, below(2), below(4), below(9), TEXT("\0user\0pencil")));
+    answered("plain_verify", below(2)
+            ? fe2o3_plain_verify(&all.record, below(2), below(4), below(9), 0, FE2O3_NONE, TEXT("\0user\0pencil"))
+            : fe2o3_plain_verify(&all.record, below(2), below(4), below(9), below(2), nonce, below(33),
+                TEXT("root\0user\0pencil")));
 }
 
 /* Some characters of one to four bytes, seldom with a byte among them that begins none. */
@@ -563,6 +568,11 @@ int main(void)
     reached("record_verify_salted", FE2O3_RECORD_KEY_LENGTH_MISMATCH);
     reached("plain_verify", FE2O3_SERVER_AUTHENTICATION_FAILED);
     reached("plain_verify", FE2O3_NO_SUCH_CHOICE);
+    reached("plain_verify", FE2O3_NOT_UTF8);
+    reached("plain_message", FE2O3_OK);
+    reached("plain_message", FE2O3_NOT_UTF8);
+    reached("plain_message", FE2O3_PROHIBITED_CHARACTER);
+    reached("plain_message", FE2O3_TOO_LONG);
     reached("saslprep", FE2O3_OK);
     reached("saslprep", FE2O3_NOT_UTF8);
     reached("saslprep", FE2O3_NO_SUCH_CHOICE);

@@ -177,11 +177,14 @@ static void cases(uint32_t version)
     fe2o3_wipe(&mock, sizeof mock);
 }
 
+/* A test of a message of PLAIN by the record below. */
+#define VERIFY(...) fe2o3_plain_verify(&record, 1, FE2O3_PLAIN_PASSWORDS_TYPED, 4096, __VA_ARGS__)
+
 /* A record of its fields, and PLAIN and EXTERNAL over messages. */
 static void messages(uint32_t version)
 {
     struct fe2o3_scram_record record = {0}, made = {0}, mock = {0};
-    struct text message = {{0}, 0}, user = {{0}, 0};
+    struct text message = {{0}, 0}, named = {{0}, 0}, user = {{0}, 0};
     size_t digest = version == FE2O3_SHA_1 ? 20 : version / 8;
 
     fe2o3_scram_record_make(version, FE2O3_TYPED, TEXT("pencil"), salt, sizeof salt, 4096, &record);
@@ -194,20 +197,39 @@ static void messages(uint32_t version)
                 record.server_key, digest, &made) == FE2O3_ZERO_ITERATIONS
             && memcmp(&made, &record, sizeof made) == 0);
     told(version, "a message of PLAIN, and its user",
-        fe2o3_plain_message(TEXT("user"), TEXT("pencil"), ROOM(message)) == FE2O3_OK && message.len == 12
+        fe2o3_plain_message(FE2O3_NONE, TEXT("user"), TEXT("pencil"), ROOM(message)) == FE2O3_OK && message.len == 12
             && memcmp(message.bytes, "\0user\0pencil", 12) == 0
             && fe2o3_plain_claimed_user(GIVEN(message), ROOM(user)) == FE2O3_OK && spells(&user, "user")
-            && fe2o3_plain_claimed_user(TEXT("root\0user\0pencil"), ROOM(user)) == FE2O3_NAMES_NO_USER);
+            && fe2o3_plain_claimed_identity(GIVEN(message), ROOM(user)) == FE2O3_OK && user.len == 0
+            && fe2o3_plain_claimed_user(TEXT("\0\0pencil"), ROOM(user)) == FE2O3_NAMES_NO_USER
+            && fe2o3_plain_claimed_identity(TEXT("root\0\0pencil"), ROOM(user)) == FE2O3_NAMES_NO_USER);
+    told(version, "a message of PLAIN that asks for an identity",
+        fe2o3_plain_message(TEXT("root"), TEXT("user"), TEXT("pencil"), ROOM(named)) == FE2O3_OK && named.len == 16
+            && memcmp(named.bytes, "root\0user\0pencil", 16) == 0
+            && fe2o3_plain_claimed_user(GIVEN(named), ROOM(user)) == FE2O3_OK && spells(&user, "user")
+            && fe2o3_plain_claimed_identity(GIVEN(named), ROOM(user)) == FE2O3_OK && spells(&user, "root"));
+    told(version, "whom the user may act for",
+        VERIFY(1, TEXT("app\0root\0"), GIVEN(named)) == FE2O3_OK
+            && VERIFY(1, TEXT("app\0root"), GIVEN(named)) == FE2O3_OK
+            && VERIFY(1, TEXT("app\0roo\0rootx\0"), GIVEN(named)) == FE2O3_SERVER_AUTHENTICATION_FAILED
+            && VERIFY(1, FE2O3_NONE, GIVEN(named)) == FE2O3_SERVER_AUTHENTICATION_FAILED
+            && VERIFY(0, TEXT("root\0"), GIVEN(named)) == FE2O3_SERVER_AUTHENTICATION_FAILED
+            && VERIFY(1, TEXT("root\0"), TEXT("root\0user\0pencils")) == FE2O3_SERVER_AUTHENTICATION_FAILED
+            && VERIFY(0, FE2O3_NONE, TEXT("user\0user\0pencil")) == FE2O3_OK
+            && VERIFY(1, FE2O3_NONE, TEXT("user\0user\0pencil")) == FE2O3_OK
+            && VERIFY(1, FE2O3_NONE, GIVEN(message)) == FE2O3_OK
+            && VERIFY(1, TEXT("\xff"), GIVEN(message)) == FE2O3_NOT_UTF8
+            && fe2o3_plain_verify(&record, 1, 3, 4096, 1, TEXT("\xff"), GIVEN(named)) == FE2O3_NO_SUCH_CHOICE);
     told(version, "a login by PLAIN, a wrong password and an unknown user",
-        fe2o3_plain_verify(&record, 1, FE2O3_PLAIN_PASSWORDS_TYPED, 4096, GIVEN(message)) == FE2O3_OK
-            && fe2o3_plain_verify(&record, 1, FE2O3_PLAIN_PASSWORDS_TYPED, 4096, TEXT("\0user\0pencils"))
+        VERIFY(0, FE2O3_NONE, GIVEN(message)) == FE2O3_OK
+            && VERIFY(0, FE2O3_NONE, TEXT("\0user\0pencils"))
                 == FE2O3_SERVER_AUTHENTICATION_FAILED
-            && fe2o3_plain_verify(&record, 0, FE2O3_PLAIN_PASSWORDS_TYPED, 4096, GIVEN(message))
+            && fe2o3_plain_verify(&record, 0, FE2O3_PLAIN_PASSWORDS_TYPED, 4096, 0, FE2O3_NONE, GIVEN(message))
                 == FE2O3_SERVER_AUTHENTICATION_FAILED
             && fe2o3_scram_record_mock(version, secret, 32, TEXT("user"), sizeof salt, 4096, &mock) == FE2O3_OK
-            && fe2o3_plain_verify(&mock, 1, FE2O3_PLAIN_PASSWORDS_TYPED, 4096, GIVEN(message))
+            && fe2o3_plain_verify(&mock, 1, FE2O3_PLAIN_PASSWORDS_TYPED, 4096, 0, FE2O3_NONE, GIVEN(message))
                 == FE2O3_SERVER_AUTHENTICATION_FAILED
-            && fe2o3_plain_verify(&record, 1, 3, 4096, GIVEN(message)) == FE2O3_NO_SUCH_CHOICE);
+            && fe2o3_plain_verify(&record, 1, 3, 4096, 0, FE2O3_NONE, GIVEN(message)) == FE2O3_NO_SUCH_CHOICE);
     told(version, "EXTERNAL",
         fe2o3_external_verify(TEXT("peer"), FE2O3_NONE) == FE2O3_OK
             && fe2o3_external_verify(TEXT("peer"), TEXT("peer")) == FE2O3_OK

@@ -9,7 +9,7 @@ use crate::status::{Status, text};
 use crate::zeros::has_no_zero;
 
 /// The maximum number of bytes of an identity that a login names. The struct of a server has room for that many.
-const IDENTITY_MOST: usize = 256;
+pub const IDENTITY_MOST: usize = 256;
 
 /// Returns an identity as a text, which is empty if the client acts for itself. `NotUtf8`, `ProhibitedCharacter` and
 /// `TooLong`.

@@ -49,8 +49,12 @@ pub struct Login<'a> {
     /// The identity that the client acts for, without escapes (RFC 4422, section 2), of 256 bytes at most. If empty, the
     /// client acts for itself. The server decides whether the user may act for it.
     ///
-    /// SCRAM sends it as `n,a=NAME,` (RFC 5802, section 7), and a client that names one tests extensions as one that binds
-    /// a channel does. The other mechanisms do not send it: FE2O3_EXTERNAL_AS sends `username` as its identity.
+    /// - SCRAM sends it in the GS2 header (RFC 5802, section 7). A client that names one tests the extensions like one
+    ///   that binds a channel.
+    /// - PLAIN sends it as the first part of its message (RFC 4616, section 2), by `fe2o3_sasl_client_receive` and
+    ///   `fe2o3_sasl_client_step`. A client that names one tests its words like a strict one.
+    /// - ANONYMOUS names no identity: with one these calls return FE2O3_NOT_IMPLEMENTED.
+    /// - EXTERNAL does not send it: FE2O3_EXTERNAL_AS sends `username` as the identity.
     pub acts_for: &'a [u8],
 
     /// The password.

@@ -103,7 +103,8 @@ pub enum Status {
     /// A size inside the frame exceeds 32 bits.
     FrameTooLarge,
 
-    /// The client cannot answer this frame, or the server does not offer this mechanism.
+    /// The client cannot answer this frame, the server does not offer this mechanism, or the login names an identity to
+    /// act for and its mechanism is ANONYMOUS.
     NotImplemented,
 
     /// The server rejected the login: the credentials are wrong.
