@@ -932,6 +932,48 @@ class Identities(Case):
                         self.refused(Status.SERVER_ILLEGAL_AUTHENTICATOR_STATE, server.acts_for)
         self.assertEqual(set(asked), {"user"})
 
+    def test_connections_by_other_mechanisms(self) -> None:
+        record = Record.make(SHA_256, "pencil", salt=SALT)
+        offer = OFFERS[SHA_256] | ALL_OTHERS
+        mechanisms = ["SCRAM-SHA-256", "PLAIN", "EXTERNAL"]
+        plain, select = ClientConnection.plain, ClientConnection.select
+        for client, identities, acts_for, is_allowed in (
+            (plain("user", "pencil", acts_for="bob"), ["bob"], "bob", True),
+            (plain("user", "pencil", acts_for="user"), [], "user", True),
+            (plain("user", "pencil", acts_for=""), ["bob"], None, True),
+            (plain("user", "pencil", acts_for="bob"), ["carol"], None, False),
+            (plain("user", "pencil", acts_for="bob"), None, None, False),
+            (plain("user", "pencils", acts_for="bob"), ["bob"], None, False),
+            (select("user", "pencil", mechanisms, acts_for="bob"), ["bob"], "bob", True),
+            (select("user", "pencil", mechanisms[1:], acts_for="bob"), ["bob"], "bob", True),
+            (select("user", "pencil", mechanisms[1:], acts_for="bob"), ["carol"], None, False),
+            (select("user", "pencil", mechanisms[2:], acts_for="bob"), ["bob"], None, False),
+            (select("user", "pencil", mechanisms[2:], acts_for="peer"), ["bob"], None, True),
+        ):
+            with self.subTest(mechanism=client.mechanism(), identities=identities, acts_for=acts_for):
+                identities_of = None if identities is None else lambda name: identities
+                options = {"external_authcid": "peer", "identities_of": identities_of}
+                server = ServerConnection(of({"user": record}), mechanisms=offer, **options)
+                to_server = client.open()
+                while to_server:
+                    to_server = client.receive(server.receive(to_server)[0])[0]
+                wanted = Progress.AUTHENTICATED if is_allowed else Progress.FAILED
+                self.assertEqual((client.progress, server.progress), (wanted, wanted))
+                if is_allowed:
+                    self.assertEqual(server.acts_for(), acts_for)
+        for call in (select, ClientSteps.select):
+            with self.assertRaises(ValueError):
+                call("user", "pencil", [*mechanisms, "ANONYMOUS"], acts_for="bob")
+            call("user", "pencil", [*mechanisms, "ANONYMOUS"], acts_for="")
+        for words, status in (
+            (("user", "", "bob"), Status.EMPTY_PASSWORD),
+            (("", "pencil", "bob"), Status.NAMES_NO_USER),
+            (("user", "pencil", "bo\0b"), Status.PROHIBITED_CHARACTER),
+            (("user", "pencil", "x" * 257), Status.TOO_LONG),
+        ):
+            client = plain(*words[:2], acts_for=words[2])
+            self.refused(status, client.receive, SASL_HEADER + mechanisms_frame("PLAIN"))
+
 
 class Tls(Case):
     """Channel binding over TLS on the loopback."""
@@ -2308,7 +2350,7 @@ class Messages(Case):
         b"\0user\0pencil\0",
         b"\0\0pencil",
         b"\0user\0",
-        b"root\0user\0pencil",
+        b"root\0\0pencil",
         b"\0user\0" + b"x" * 1025,
         b"\xff\0user\0pencil",
         b"\0user\0pencil\xff",
@@ -2334,6 +2376,35 @@ class Messages(Case):
             self.refused(status, fe2o3_sasl.plain_message, name, password)
         for message in self.NONE:
             self.refused(Status.NAMES_NO_USER, fe2o3_sasl.plain_claimed_user, message)
+            self.refused(Status.NAMES_NO_USER, fe2o3_sasl.plain_claimed_identity, message)
+
+    def test_plain_identities(self) -> None:
+        record = Record.make(SHA_256, "pencil", salt=SALT)
+        message = fe2o3_sasl.plain_message("user", "pencil", acts_for="bob")
+        self.assertEqual(message, b"bob\0user\0pencil")
+        claimed = fe2o3_sasl.plain_claimed_user(message), fe2o3_sasl.plain_claimed_identity(message)
+        self.assertEqual(claimed, ("user", "bob"))
+        self.assertIsNone(fe2o3_sasl.plain_claimed_identity(b"\0user\0pencil"))
+        for identity in (None, ""):
+            self.assertEqual(fe2o3_sasl.plain_message("user", "pencil", acts_for=identity), b"\0user\0pencil")
+        for status, identity in (
+            (Status.NOT_UTF8, b"\xff"), (Status.PROHIBITED_CHARACTER, "bo\0b"), (Status.TOO_LONG, "x" * 257)
+        ):
+            self.refused(status, lambda: fe2o3_sasl.plain_message("user", "pencil", acts_for=identity))
+        for given, identities, is_allowed in (
+            (message, ["bob"], True),
+            (message, ["carol", "bob"], True),
+            (b"user\0user\0pencil", [], True),
+            (b"user\0user\0pencil", None, True),
+            (b"\0user\0pencil", [], True),
+            (message, [], False),
+            (message, None, False),
+            (message, ["carol", "Bob", "bobby", "bo"], False),
+            (message + b"s", ["bob"], False),
+        ):
+            with self.subTest(given=given, identities=identities):
+                self.assertEqual(fe2o3_sasl.plain_verify(record, given, identities=identities), is_allowed)
+                self.assertFalse(fe2o3_sasl.plain_verify(None, given, identities=identities))
 
     def test_plain_logins(self) -> None:
         message = fe2o3_sasl.plain_message("user", "pencil")

@@ -64,6 +64,11 @@ impl Who {
         }
     }
 
+    /// Returns this login, but for this identity.
+    pub(crate) fn acting_for(self, identity: String) -> Self {
+        Self { acts_for: identity, ..self }
+    }
+
     /// Returns the name of the mechanism of SCRAM.
     pub(crate) fn mechanism(&self) -> &'static str {
         if self.channel.is_bound() {
@@ -217,13 +222,14 @@ impl ScramClient {
     /// # }
     /// ```
     pub fn acting_for(mut self, identity: impl Into<String>) -> Result<Self, IdentityError> {
-        self.who.acts_for = identity.into();
-        if self.who.acts_for.len() > MAX_IDENTITY_LEN {
+        let identity = identity.into();
+        if identity.len() > MAX_IDENTITY_LEN {
             return Err(IdentityError::of(sys::TOO_LONG));
         }
-        if self.who.acts_for.contains('\0') {
+        if identity.contains('\0') {
             return Err(IdentityError::of(sys::PROHIBITED_CHARACTER));
         }
+        self.who = self.who.acting_for(identity);
         Ok(self)
     }
 

@@ -230,8 +230,111 @@ fn a_client_that_names_an_identity_is_strict() {
     }
 }
 
+#[test]
+fn plain_messages() {
+    let message = plain_message_as("bob", "user", "pencil").unwrap();
+    assert_eq!(message, b"bob\0user\0pencil");
+    assert_eq!(plain_claimed_user(&message).as_deref(), Some("user"));
+    assert_eq!(plain_claimed_identity(&message).as_deref(), Some("bob"));
+    assert_eq!(plain_claimed_identity(b"user\0user\0pencil").as_deref(), Some("user"));
+    assert_eq!(plain_claimed_identity(b"\0user\0pencil"), None);
+    assert_eq!(plain_message_as("", "user", "pencil"), plain_message("user", "pencil"));
+    for (identity, username, password, error) in [
+        ("bo\0b", "user", "pencil", PlainError::ProhibitedCharacter),
+        (&"x".repeat(257), "user", "pencil", PlainError::TooLong),
+        ("bob", "", "pencil", PlainError::NamesNoUser),
+        ("bob", "user", "", PlainError::EmptyPassword),
+    ] {
+        assert_eq!(plain_message_as(identity, username, password), Err(error));
+    }
+    assert!(plain_message_as(&"x".repeat(256), "user", "pencil").is_ok());
+}
+
+#[test]
+fn plain_rights() {
+    let record = ScramRecord::from_password(VERSION, "pencil", &[3; 32], 4096).unwrap();
+    let refused = Err(ServerScramErrorKind::AuthenticationFailed);
+    for (message, identities, wanted) in [
+        (&b"bob\0user\0pencil"[..], &["bob"][..], Ok(())),
+        (b"bob\0user\0pencil", &["carol", "bob"], Ok(())),
+        (b"user\0user\0pencil", &[], Ok(())),
+        (b"\0user\0pencil", &[], Ok(())),
+        (b"bob\0user\0pencil", &[], refused),
+        (b"bob\0user\0pencil", &["carol", "Bob", "bobby", "bo"], refused),
+        (b"bob\0user\0pencils", &["bob"], refused),
+    ] {
+        let identities: Vec<String> = identities.iter().map(|name| name.to_string()).collect();
+        let verify = |record| plain_verify_with_rights(record, PlainPasswords::Typed, 4096, &identities, message);
+        assert_eq!(verify(Some(&record)), wanted, "{:?}", (text(message), &identities));
+        assert_eq!(verify(None), refused);
+        // (without rights, only the user's own name)
+        let own = plain_verify(Some(&record), PlainPasswords::Typed, 4096, message);
+        assert_eq!(own, if message.starts_with(b"bob") { refused } else { wanted });
+    }
+}
+
+#[test]
+fn profiles() {
+    let plain = || SaslProfile::Plain { username: "user".to_owned(), password: "pencil".to_owned() };
+    let with = |username: &str, password: &str| SaslProfile::Plain {
+        username: username.to_owned(),
+        password: password.to_owned(),
+    };
+    let scram = || SaslProfile::from(ScramClient::new("user", "pencil", VERSION));
+    let long = "x".repeat(257);
+    for (profile, identity, is_some) in [
+        (plain(), "bob", true),
+        (plain(), "", true),
+        (plain(), "bo\0b", false),
+        (plain(), &long, false),
+        (with("", "pencil"), "bob", false),
+        (with("user", "pen\0cil"), "bob", false),
+        (scram(), "bob", true),
+        (scram(), "bo\0b", false),
+        (scram(), &long, false),
+        (SaslProfile::External, "bob", true),
+        (SaslProfile::ExternalAs("carol".to_owned()), "bob", true),
+        (SaslProfile::External, "bo\0b", false),
+        (SaslProfile::Anonymous, "bob", false),
+        (SaslProfile::AnonymousAs("trace".to_owned()), "bob", false),
+    ] {
+        let shown = format!("{:?} {:?}", profile, identity);
+        assert_eq!(profile.acting_for(identity).is_some(), is_some, "{}", shown);
+    }
+    let again = plain().acting_for("bob").unwrap().acting_for("carol").unwrap();
+    assert!(matches!(&again, SaslProfile::PlainAs { identity, .. } if identity == "carol"));
+    let shown = format!("{:?}", again);
+    assert!(shown.contains("carol") && shown.contains("user") && !shown.contains("pencil"), "{}", shown);
+    assert!(matches!(SaslProfile::External.acting_for("bob"), Some(SaslProfile::ExternalAs(name)) if name == "bob"));
+}
+
+#[test]
+fn connections_by_plain() {
+    let rejected = Progress::Failed(ConnectionError::RefusedAuth);
+    let server = |identities: &[&str]| {
+        PasswordServer::new(store(identities)).hashes(&[VERSION]).plain_under_tls(true).accept_authzid(true)
+    };
+    let plain = |password: &str, identity: &str| {
+        let profile = SaslProfile::Plain { username: "user".to_owned(), password: password.to_owned() };
+        profile.acting_for(identity).unwrap()
+    };
+    for (profile, server, acts_for) in [
+        (plain("pencil", "bob"), server(&["bob"]), Ok(Some("bob"))),
+        (plain("pencil", "user"), server(&[]), Ok(Some("user"))),
+        (plain("pencil", ""), server(&["bob"]), Ok(None)),
+        (plain("pencil", "bob"), server(&["carol"]), Err(())),
+        (plain("pencils", "bob"), server(&["bob"]), Err(())),
+        (plain("pencil", "bob"), server(&["bob"]).accept_authzid(false), Err(())),
+    ] {
+        let progress = if acts_for.is_ok() { Progress::Authenticated } else { rejected };
+        let wanted = (progress, progress, acts_for.ok().flatten().map(str::to_owned));
+        assert_eq!(connected(profile.clone(), server.clone()), wanted);
+        assert_eq!(stepped(profile, server), wanted);
+    }
+}
+
 /// How a login over the bytes of a connection ends at both sides, and for whom.
-fn connected(client: ScramClient, server: PasswordServer<Store>) -> (Progress, Progress, Option<String>) {
+fn connected(client: impl Into<SaslProfile>, server: PasswordServer<Store>) -> (Progress, Progress, Option<String>) {
     let (mut client, mut server) = (ClientNegotiation::new(client, None), ServerNegotiation::new(server));
     let mut to_server = ClientNegotiation::open();
     while !to_server.is_empty() {
@@ -241,7 +344,7 @@ fn connected(client: ScramClient, server: PasswordServer<Store>) -> (Progress, P
 }
 
 /// How a login over frame bodies ends at both sides, and for whom.
-fn stepped(client: ScramClient, server: PasswordServer<Store>) -> (Progress, Progress, Option<String>) {
+fn stepped(client: impl Into<SaslProfile>, server: PasswordServer<Store>) -> (Progress, Progress, Option<String>) {
     let (mut client, mut server) = (ClientSteps::new(client, None), ServerSteps::new(server));
     let mut body = server.sasl_mechanisms().unwrap();
     loop {
