@@ -107,7 +107,8 @@ static int serves_init(const struct fe2o3_sasl_server_config *config, uint32_t a
 static void servers(void)
 {
     struct fe2o3_scram_record record = {0};
-    struct fe2o3_sasl_server_config config = {FE2O3_OFFER_PLAIN, 4096, TEXT("user"), &record, 1, TEXT(""), {0}};
+    struct fe2o3_sasl_server_config config = {FE2O3_OFFER_PLAIN, 4096, TEXT("user"), &record, 1, TEXT(""), {0}, 0,
+        FE2O3_NONE};
     fe2o3_scram_record_make(FE2O3_SHA_256, FE2O3_TYPED, TEXT("pencil"), salt, sizeof salt, 4096, &record);
     for (size_t at = 0; at < sizeof inits / sizeof *inits; at++) {
         told("a server that accepts extended headers", inits[at].what, serves_init(&config, 1, &inits[at]));
@@ -129,7 +130,7 @@ static void clients(void)
 {
     struct fe2o3_sasl_login login = {FE2O3_SCRAM, TEXT("host"),
         {.version = FE2O3_SHA_256, .min_iterations = 4096, .max_iterations = 100000, .username = TEXT("user"),
-            .password = TEXT("pencil"), .keys = &no_keys}};
+            .acts_for = FE2O3_NONE, .password = TEXT("pencil"), .keys = &no_keys}};
     struct fe2o3_sasl_client client = {0}, plain = {0};
     struct sent sent;
     client.connection.extended_headers = 1;
@@ -155,36 +156,54 @@ static void end_of_input(void)
         connection.progress == FE2O3_FAILED && connection.why == FE2O3_END_OF_INPUT && connection.extended_headers == 1);
 }
 
-/* The words of a client of PLAIN (RFC 4616, section 2), which only a strict one tests. */
+/* An identity of 257 bytes. */
+#define LONG_32 "aaaaaaaaaaaaaaaaaaaaaaaaaaaaaaaa"
+#define LONG_257 LONG_32 LONG_32 LONG_32 LONG_32 LONG_32 LONG_32 LONG_32 LONG_32 "a"
+
+/* The words of a client of PLAIN (RFC 4616, section 2), which only a strict one tests, and one that names an identity. */
 static void plain_words(void)
 {
     static const struct {
+        const uint8_t *acts_for;
+        size_t acts_for_len;
         const uint8_t *username;
         size_t username_len;
         const uint8_t *password;
         size_t password_len;
         uint32_t status;
     } rows[] = {
-        {TEXT("user"), TEXT("pencil"), FE2O3_OK},
-        {TEXT(""), TEXT("pencil"), FE2O3_NAMES_NO_USER},
-        {TEXT("user"), TEXT(""), FE2O3_EMPTY_PASSWORD},
-        {TEXT(""), TEXT("\0"), FE2O3_NAMES_NO_USER},
-        {TEXT("us\0er"), TEXT(""), FE2O3_EMPTY_PASSWORD},
-        {TEXT("us\0er"), TEXT("pencil"), FE2O3_PROHIBITED_CHARACTER},
-        {TEXT("user"), TEXT("pencil\0"), FE2O3_PROHIBITED_CHARACTER},
-        {TEXT("\xff"), TEXT(""), FE2O3_NOT_UTF8},
+        {TEXT(""), TEXT("user"), TEXT("pencil"), FE2O3_OK},
+        {TEXT(""), TEXT(""), TEXT("pencil"), FE2O3_NAMES_NO_USER},
+        {TEXT(""), TEXT("user"), TEXT(""), FE2O3_EMPTY_PASSWORD},
+        {TEXT(""), TEXT(""), TEXT("\0"), FE2O3_NAMES_NO_USER},
+        {TEXT(""), TEXT("us\0er"), TEXT(""), FE2O3_EMPTY_PASSWORD},
+        {TEXT(""), TEXT("us\0er"), TEXT("pencil"), FE2O3_PROHIBITED_CHARACTER},
+        {TEXT(""), TEXT("user"), TEXT("pencil\0"), FE2O3_PROHIBITED_CHARACTER},
+        {TEXT(""), TEXT("\xff"), TEXT(""), FE2O3_NOT_UTF8},
+        {TEXT("app"), TEXT("user"), TEXT("pencil"), FE2O3_OK},
+        {TEXT("app"), TEXT(""), TEXT("pencil"), FE2O3_NAMES_NO_USER},
+        {TEXT("app"), TEXT("user"), TEXT(""), FE2O3_EMPTY_PASSWORD},
+        {TEXT("app"), TEXT("us\0er"), TEXT("pencil"), FE2O3_PROHIBITED_CHARACTER},
+        {TEXT("app"), TEXT("user"), TEXT("pencil\0"), FE2O3_PROHIBITED_CHARACTER},
+        {TEXT("\0"), TEXT("user"), TEXT("pencil"), FE2O3_PROHIBITED_CHARACTER},
+        {TEXT("ap\0p"), TEXT("user"), TEXT(""), FE2O3_EMPTY_PASSWORD},
+        {TEXT(LONG_257), TEXT("user"), TEXT("pencil"), FE2O3_TOO_LONG},
+        {TEXT(LONG_257), TEXT("user"), TEXT("pencil\0"), FE2O3_PROHIBITED_CHARACTER},
+        {TEXT(LONG_257) - 1, TEXT("user"), TEXT("pencil"), FE2O3_OK},
+        {TEXT("\xff"), TEXT(""), TEXT(""), FE2O3_NOT_UTF8},
     };
     for (size_t at = 0; at < sizeof rows / sizeof *rows; at++) {
         struct fe2o3_sasl_login login = {FE2O3_PLAIN, TEXT(""),
-            {.username = rows[at].username, .username_len = rows[at].username_len, .password = rows[at].password,
+            {.username = rows[at].username, .username_len = rows[at].username_len, .acts_for = rows[at].acts_for,
+                .acts_for_len = rows[at].acts_for_len, .password = rows[at].password,
                 .password_len = rows[at].password_len, .keys = &no_keys}};
         struct sent sent;
-        int holds = fe2o3_plain_message(rows[at].username, rows[at].username_len, rows[at].password,
-            rows[at].password_len, ROOM(sent)) == rows[at].status;
+        int holds = fe2o3_plain_message(rows[at].acts_for, rows[at].acts_for_len, rows[at].username,
+            rows[at].username_len, rows[at].password, rows[at].password_len, ROOM(sent)) == rows[at].status;
         for (login.login.strict = 0; login.login.strict <= 1; login.login.strict++) {
             struct fe2o3_sasl_client client = {0};
-            uint32_t lax = rows[at].status == FE2O3_NOT_UTF8 ? FE2O3_NOT_UTF8 : FE2O3_OK;
-            holds &= hears(&login, &client, TEXT(SASL), &sent) == (login.login.strict ? rows[at].status : lax);
+            int tests = login.login.strict || rows[at].acts_for_len > 0 || rows[at].status == FE2O3_NOT_UTF8;
+            holds &= hears(&login, &client, TEXT(SASL), &sent) == (tests ? rows[at].status : FE2O3_OK);
         }
         told("PLAIN", "the words of a message, and of a client that may be strict", holds);
     }

@@ -81,7 +81,7 @@ static uint32_t prepare(uint32_t version)
     memset(all.long_password.bytes, 'x', all.long_password.len = 200);
     memset(all.salted.bytes, 5, all.salted.len = digest_len());
     all.login = (struct fe2o3_login){.version = version, .min_iterations = 1, .max_iterations = 100,
-        .username = TEXT("user"), .password = GIVEN(all.password), .keys = &all.no_keys};
+        .username = TEXT("user"), .acts_for = FE2O3_NONE, .password = GIVEN(all.password), .keys = &all.no_keys};
     failed = make_record(FE2O3_TYPED, &all.password, &all.record);
     failed |= make_record(FE2O3_PREPARED, &all.prepared, &all.prepared_record);
     failed |= make_salted_record(&all.salted_record);
@@ -93,7 +93,7 @@ static uint32_t prepare(uint32_t version)
     server = all.server;
     failed |= fe2o3_scram_client_final(&all.login, &all.answered, GIVEN(all.server_first), ROOM(all.client_final));
     failed |= fe2o3_scram_server_final(&all.record, &server, GIVEN(all.client_final), ROOM(all.server_final));
-    failed |= fe2o3_plain_message(TEXT("user"), GIVEN(all.password), ROOM(all.plain));
+    failed |= fe2o3_plain_message(FE2O3_NONE, TEXT("user"), GIVEN(all.password), ROOM(all.plain));
     return failed;
 }
 
@@ -272,7 +272,8 @@ static uint32_t record_text(void)
 static uint32_t plain_verify_right(void)
 {
     hide_keys(&all.record);
-    return fe2o3_plain_verify(&all.record, 1, FE2O3_PLAIN_PASSWORDS_TYPED, ITERATIONS, GIVEN(all.plain));
+    return fe2o3_plain_verify(&all.record, 1, FE2O3_PLAIN_PASSWORDS_TYPED, ITERATIONS, 0, FE2O3_NONE,
+        GIVEN(all.plain));
 }
 
 static uint32_t plain_verify_wrong(void)
@@ -284,14 +285,16 @@ static uint32_t plain_verify_wrong(void)
 static uint32_t plain_verify_typed(void)
 {
     (void)VALGRIND_MAKE_MEM_UNDEFINED(all.plain.bytes + all.plain.len - all.password.len, all.password.len);
-    return fe2o3_plain_verify(&all.record, 1, FE2O3_PLAIN_PASSWORDS_TYPED, ITERATIONS, GIVEN(all.plain));
+    return fe2o3_plain_verify(&all.record, 1, FE2O3_PLAIN_PASSWORDS_TYPED, ITERATIONS, 0, FE2O3_NONE,
+        GIVEN(all.plain));
 }
 
 static uint32_t plain_verify_prepared(void)
 {
-    (void)fe2o3_plain_message(TEXT("user"), GIVEN(all.prepared), ROOM(all.plain));
+    (void)fe2o3_plain_message(FE2O3_NONE, TEXT("user"), GIVEN(all.prepared), ROOM(all.plain));
     (void)VALGRIND_MAKE_MEM_UNDEFINED(all.plain.bytes + all.plain.len - all.prepared.len, all.prepared.len);
-    return fe2o3_plain_verify(&all.prepared_record, 1, FE2O3_PLAIN_PASSWORDS_PREPARED, ITERATIONS, GIVEN(all.plain));
+    return fe2o3_plain_verify(&all.prepared_record, 1, FE2O3_PLAIN_PASSWORDS_PREPARED, ITERATIONS, 0, FE2O3_NONE,
+        GIVEN(all.plain));
 }
 
 __attribute__((noinline)) static int same_whole(const uint8_t *left, const uint8_t *right, size_t len)

@@ -19,7 +19,7 @@ static void after(const char *name);
 #define CALL_VOID(name, ...) (before(#name), fe2o3_##name(__VA_ARGS__), after(#name))
 
 struct text {
-    uint8_t bytes[1024];
+    uint8_t bytes[2048];
     size_t len;
 };
 
@@ -47,6 +47,7 @@ static int differences;
 static const struct fe2o3_scram_keys no_keys;
 static const uint8_t nonce[32] = {1}, salt[16] = {4}, other_salt[16] = {5}, mock_secret[32] = {3};
 #define USER TEXT("us,er")
+#define IDENTITY TEXT("app,=x")
 #define ITERATIONS 64
 
 static uint32_t called(const char *name)
@@ -146,14 +147,19 @@ static void messages(const struct fe2o3_login *login, const struct fe2o3_scram_r
 static void plain_messages(void)
 {
     for (uint32_t form = FE2O3_PLAIN_PASSWORDS_TYPED; form <= FE2O3_PLAIN_PASSWORDS_SASLPREP; form++) {
-        expect(CALL(plain_message, USER, GIVEN(all.wrong), ROOM(all.out)), FE2O3_OK);
-        expect(CALL(plain_verify, &all.record, 1, form, ITERATIONS, GIVEN(all.out)),
+        expect(CALL(plain_message, IDENTITY, USER, GIVEN(all.wrong), ROOM(all.out)), FE2O3_OK);
+        expect(CALL(plain_verify, &all.record, 1, form, ITERATIONS, 1, IDENTITY, GIVEN(all.out)),
             FE2O3_SERVER_AUTHENTICATION_FAILED);
-        expect(CALL(plain_message, USER, GIVEN(all.password), ROOM(all.out)), FE2O3_OK);
+        expect(CALL(plain_message, IDENTITY, USER, GIVEN(all.password), ROOM(all.out)), FE2O3_OK);
         expect(CALL(plain_claimed_user, GIVEN(all.out), ROOM(all.user)), FE2O3_OK);
-        expect(CALL(plain_verify, &all.mock, 1, form, ITERATIONS, GIVEN(all.out)), FE2O3_SERVER_AUTHENTICATION_FAILED);
-        expect(CALL(plain_verify, &all.mock, 0, form, ITERATIONS, GIVEN(all.out)), FE2O3_SERVER_AUTHENTICATION_FAILED);
-        expect(CALL(plain_verify, &all.record, 1, form, ITERATIONS, GIVEN(all.out)), FE2O3_OK);
+        expect(CALL(plain_claimed_identity, GIVEN(all.out), ROOM(all.user)), FE2O3_OK);
+        expect(CALL(plain_verify, &all.mock, 1, form, ITERATIONS, 1, IDENTITY, GIVEN(all.out)),
+            FE2O3_SERVER_AUTHENTICATION_FAILED);
+        expect(CALL(plain_verify, &all.mock, 0, form, ITERATIONS, 1, IDENTITY, GIVEN(all.out)),
+            FE2O3_SERVER_AUTHENTICATION_FAILED);
+        expect(CALL(plain_verify, &all.record, 1, form, ITERATIONS, 1, FE2O3_NONE, GIVEN(all.out)),
+            FE2O3_SERVER_AUTHENTICATION_FAILED);
+        expect(CALL(plain_verify, &all.record, 1, form, ITERATIONS, 1, IDENTITY, GIVEN(all.out)), FE2O3_OK);
     }
     expect(CALL(external_verify, TEXT("peer"), FE2O3_NONE), FE2O3_OK);
 }
@@ -252,7 +258,7 @@ static void logins(uint32_t version)
     static struct fe2o3_sasl_server_config config;
     const uint32_t failed = FE2O3_SERVER_AUTHENTICATION_FAILED, rejected = FE2O3_REFUSED_AUTH;
     login = (struct fe2o3_login){.version = version, .min_iterations = 1, .max_iterations = 4096, .username = USER,
-        .password = GIVEN(all.password), .keys = &no_keys, .signature_by_challenge = 1};
+        .acts_for = FE2O3_NONE, .password = GIVEN(all.password), .keys = &no_keys, .signature_by_challenge = 1};
     wrong = by_keys = by_both = login;
     wrong.password_len = all.wrong.len;
     by_keys.secret = FE2O3_BY_KEYS;

@@ -325,7 +325,7 @@ enum fe2o3_status {
     FE2O3_NOT_UTF8 = 3,
     /* The version is none of enum fe2o3_scram_version. */
     FE2O3_NO_SUCH_VERSION = 4,
-    /* A text is longer than the array that holds it. */
+    /* A text is longer than the array that holds it, or an identity to act for has more than 256 bytes. */
     FE2O3_TOO_LONG = 5,
     /* The typed password is not printable ASCII. */
     FE2O3_NOT_PRINTABLE = 6,
@@ -455,7 +455,8 @@ enum fe2o3_status {
     FE2O3_NO_SASL_FRAME = 75,
     /* A size inside the frame exceeds 32 bits. */
     FE2O3_FRAME_TOO_LARGE = 76,
-    /* The client cannot answer this frame, or the server does not offer this mechanism. */
+    /* The client cannot answer this frame, the server does not offer this mechanism, or the login names an identity to
+     * act for and its mechanism is ANONYMOUS. */
     FE2O3_NOT_IMPLEMENTED = 77,
     /* The server rejected the login: the credentials are wrong. */
     FE2O3_REFUSED_AUTH = 81,
@@ -469,7 +470,7 @@ enum fe2o3_status {
      * `passwords` none of enum fe2o3_plain_passwords. */
     FE2O3_NO_SUCH_CHOICE = 85,
     /* The prepared text contains a character that RFC 4013, section 2.3, prohibits, or a word for a message of PLAIN
-     * contains a zero byte (RFC 4616, section 2). */
+     * (RFC 4616, section 2) or an identity to act for (RFC 4422, section 3.4.1) contains a zero byte. */
     FE2O3_PROHIBITED_CHARACTER = 86,
     /* The prepared text mixes right-to-left and left-to-right characters, or does not begin and end with a
      * right-to-left one (RFC 3454, section 6). */
@@ -736,6 +737,17 @@ struct fe2o3_login {
     /* The user name, without escapes. */
     const uint8_t *username;
     size_t username_len;
+    /* The identity that the client acts for, without escapes (RFC 4422, section 2), of 256 bytes at most. If empty, the
+     * client acts for itself. The server decides whether the user may act for it.
+     *
+     * - SCRAM sends it in the GS2 header (RFC 5802, section 7). A client that names one tests the extensions like one
+     *   that binds a channel.
+     * - PLAIN sends it as the first part of its message (RFC 4616, section 2), by `fe2o3_sasl_client_receive` and
+     *   `fe2o3_sasl_client_step`. A client that names one tests its words like a strict one.
+     * - ANONYMOUS names no identity: with one these calls return FE2O3_NOT_IMPLEMENTED.
+     * - EXTERNAL does not send it: FE2O3_EXTERNAL_AS sends `username` as the identity. */
+    const uint8_t *acts_for;
+    size_t acts_for_len;
     /* The password. */
     const uint8_t *password;
     size_t password_len;
@@ -796,7 +808,8 @@ uint32_t fe2o3_scram_client_first(
     size_t *out_len);
 
 /* Answers the server-first message with the client-final message. `out` needs 128 bytes more than the server-first
- * message has, or 256 more if the client binds a channel. This is tested before anything is hashed. */
+ * message has, or 256 more if the client binds a channel, and another 1024 if it names an identity to act for. This is
+ * tested before anything is hashed. */
 uint32_t fe2o3_scram_client_final(
     const struct fe2o3_login *login,
     struct fe2o3_scram_client *client,
@@ -906,7 +919,7 @@ struct fe2o3_scram_rules {
     size_t identities_len;
 };
 /* Its value without options. */
-#define FE2O3_SCRAM_RULES_INIT { 0, 0, 0, 0, (const uint8_t *)"", 0 }
+#define FE2O3_SCRAM_RULES_INIT { 0, 0, { 0 }, 0, (const uint8_t *)"", 0 }
 
 /* Writes the user name that a client-first message claims, without escapes. Nobody is authenticated yet: use it only
  * to look up the record. */
@@ -1088,13 +1101,16 @@ uint32_t fe2o3_scram_server_error_message(uint32_t status, uint8_t *out, size_t 
 
 /* ---- PLAIN and EXTERNAL, over messages ---- */
 
-/* Writes the message by which a client logs in with PLAIN (RFC 4616, section 2): a zero byte, the user name, a zero
- * byte and the password. The authorization identity is empty. The message has the password in clear, so send it over
- * TLS only. Prepare a non-ASCII password first (`fe2o3_saslprep`).
+/* Writes the message by which a client logs in with PLAIN (RFC 4616, section 2): the identity that the client acts for,
+ * which is empty if it acts for itself, the user name and the password, with a zero byte between them. The message has
+ * the password in clear, so send it over TLS only. Prepare a non-ASCII password first (`fe2o3_saslprep`).
  *
  * Returns FE2O3_NOT_UTF8 if a word is not UTF-8, FE2O3_NAMES_NO_USER if the user name is empty, FE2O3_EMPTY_PASSWORD if
- * the password is, and FE2O3_PROHIBITED_CHARACTER if a word contains a zero byte. */
+ * the password is, FE2O3_PROHIBITED_CHARACTER if a word contains a zero byte, and FE2O3_TOO_LONG if the identity has more
+ * than 256 bytes. */
 uint32_t fe2o3_plain_message(
+    const uint8_t *acts_for,
+    size_t acts_for_len,
     const uint8_t *username,
     size_t username_len,
     const uint8_t *password,
@@ -1106,9 +1122,8 @@ uint32_t fe2o3_plain_message(
 /* Writes the user name that a message of PLAIN claims (RFC 4616, section 2). Nobody is authenticated yet: use it only
  * to look up the record for `fe2o3_plain_verify`.
  *
- * Returns FE2O3_NAMES_NO_USER for a message that `fe2o3_plain_verify` rejects whatever the record is: one that is not
- * UTF-8 in three parts, whose authorization identity is neither empty nor the user name, whose user name is empty, or
- * whose password does not have 1 to 1024 bytes. */
+ * Returns FE2O3_NAMES_NO_USER for a message that `fe2o3_plain_verify` rejects whatever its other arguments are: one that
+ * is not UTF-8 in three parts, whose user name is empty, or whose password does not have 1 to 1024 bytes. */
 uint32_t fe2o3_plain_claimed_user(
     const uint8_t *message,
     size_t message_len,
@@ -1116,21 +1131,39 @@ uint32_t fe2o3_plain_claimed_user(
     size_t out_size,
     size_t *out_len);
 
+/* Writes the identity that a message of PLAIN asks to act for (RFC 4616, section 2), or 0 bytes if its user acts for
+ * itself. It is only claimed, like the user's name: use it only to look up whether the user may act for it. The errors are
+ * those of `fe2o3_plain_claimed_user`. */
+uint32_t fe2o3_plain_claimed_identity(
+    const uint8_t *message,
+    size_t message_len,
+    uint8_t *out,
+    size_t out_size,
+    size_t *out_len);
+
 /* Tests a message of PLAIN against the record of the user that it claims (RFC 4616). Only FE2O3_OK means that this
- * user (`fe2o3_plain_claimed_user`) is authenticated. PLAIN sends the password in clear, so use it over TLS only.
+ * user (`fe2o3_plain_claimed_user`) is authenticated, and may act for the identity that the message asks for
+ * (`fe2o3_plain_claimed_identity`). PLAIN sends the password in clear, so use it over TLS only.
  *
  * `records` are those of the claimed user, of any hashes. The first one that can be read counts, so put mock records
  * last. For an unknown user pass a mock record (`fe2o3_scram_record_mock`), or none: the password is then hashed with
  * SHA-256 and this iteration count, as often as for a known user with this count, and rejected. `passwords` is one of
  * enum fe2o3_plain_passwords.
  *
- * Returns FE2O3_NO_SUCH_CHOICE if `passwords` is none of the enum, and FE2O3_SERVER_AUTHENTICATION_FAILED for every
- * message that does not log in: a wrong password, an unknown user, or no acceptable message. */
+ * `accept_authzid` says whether a message may name an identity other than its user. 0 is no, any other value yes.
+ * `identities` are those that the user may act for besides itself (RFC 4422, section 2), with a zero byte after each.
+ *
+ * Returns FE2O3_NO_SUCH_CHOICE if `passwords` is none of the enum, FE2O3_NOT_UTF8 if the identities are not UTF-8, and
+ * FE2O3_SERVER_AUTHENTICATION_FAILED for every message that does not log in: a wrong password, an unknown user, an
+ * identity that the user may not act for, or no acceptable message. */
 uint32_t fe2o3_plain_verify(
     const struct fe2o3_scram_record *records,
     size_t records_count,
     uint32_t passwords,
     uint32_t iterations,
+    uint32_t accept_authzid,
+    const uint8_t *identities,
+    size_t identities_len,
     const uint8_t *message,
     size_t message_len);
 
@@ -1247,8 +1280,9 @@ struct fe2o3_sasl_server_config {
      * the other mechanisms. SCRAM without `-PLUS` then accepts no client that has seen no such mechanism (`y,,`; RFC
      * 5802, section 6), whatever FE2O3_ACCEPT_CBIND_FLAG_Y says. */
     struct fe2o3_server_channels channels;
-    /* Whether a client of SCRAM may name an identity to act for (RFC 5802, section 5.1), as by the field `accept_authzid` of
-     * struct fe2o3_scram_rules. 0 is no, any other value yes. */
+    /* Whether a client of SCRAM or PLAIN may name an identity to act for (RFC 5802, section 5.1; RFC 4616, section 2), as
+     * by the field `accept_authzid` of struct fe2o3_scram_rules. 0 is no, any other value yes. Without it a message of
+     * PLAIN may still name its own user. */
     uint32_t accept_authzid;
     /* The identities that the user may act for besides itself (RFC 4422, section 2), without escapes, with a zero byte
      * after each. After the login `fe2o3_scram_server_acts_for` returns the one that the user acts for. */
@@ -1261,7 +1295,7 @@ struct fe2o3_sasl_server {
     /* The connection. */
     struct fe2o3_connection connection;
     /* The SCRAM server. After a login by any mechanism it holds the authenticated user
-     * (`fe2o3_scram_server_authenticated_user`), and after one by SCRAM the identity that the user acts for
+     * (`fe2o3_scram_server_authenticated_user`), and after one by SCRAM or PLAIN the identity that the user acts for
      * (`fe2o3_scram_server_acts_for`). ANONYMOUS has no user. */
     struct fe2o3_scram_server scram;
 };

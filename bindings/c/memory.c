@@ -141,15 +141,21 @@ static uint32_t make_of_salted(void)
     return fe2o3_scram_record_of_salted(FE2O3_SHA_256, secret, 32, salt, 16, 4096, &all.read);
 }
 static uint32_t verify_salted(void) { return fe2o3_scram_record_verify_salted(&all.read, secret, 32); }
-static uint32_t plain(void) { return fe2o3_plain_message(TEXT("user"), TEXT("pencil"), ROOM(all.out)); }
+static uint32_t plain(void) { return fe2o3_plain_message(TEXT("app"), TEXT("user"), TEXT("pencil"), ROOM(all.out)); }
 static uint32_t plain_user(void) { return fe2o3_plain_claimed_user(TEXT("\0user\0pencil"), ROOM(all.user)); }
+static uint32_t plain_identity(void)
+{
+    return fe2o3_plain_claimed_identity(TEXT("app\0user\0pencil"), ROOM(all.user));
+}
 static uint32_t verify_plain(void)
 {
-    return fe2o3_plain_verify(&all.record, 1, FE2O3_PLAIN_PASSWORDS_TYPED, 4096, TEXT("\0user\0pencil"));
+    return fe2o3_plain_verify(&all.record, 1, FE2O3_PLAIN_PASSWORDS_TYPED, 4096, 1, TEXT("ap\0app\0"),
+        TEXT("app\0user\0pencil"));
 }
 static uint32_t verify_plain_by_saslprep(void)
 {
-    return fe2o3_plain_verify(&all.record, 1, FE2O3_PLAIN_PASSWORDS_SASLPREP, 4096, TEXT("\0user\0pe\xc2\xadncil"));
+    return fe2o3_plain_verify(&all.record, 1, FE2O3_PLAIN_PASSWORDS_SASLPREP, 4096, 0, FE2O3_NONE,
+        TEXT("\0user\0pe\xc2\xadncil"));
 }
 static uint32_t verify_external(void) { return fe2o3_external_verify(TEXT("pe,er"), FE2O3_NONE); }
 static uint32_t first(void) { return fe2o3_scram_client_first(&login, &all.client, nonce, ROOM(all.client_first)); }
@@ -275,7 +281,7 @@ static void late_connection(const uint8_t *init, size_t init_len, const uint8_t 
 int main(void)
 {
     login = (struct fe2o3_login){.version = FE2O3_SHA_256, .min_iterations = 4096, .max_iterations = 4096,
-        .username = TEXT("us,er"), .password = TEXT("pencil"), .keys = &no_keys};
+        .username = TEXT("us,er"), .acts_for = FE2O3_NONE, .password = TEXT("pencil"), .keys = &no_keys};
     sasl_login = (struct fe2o3_sasl_login){.hostname = TEXT("host"), .login = login};
     config = (struct fe2o3_sasl_server_config){.mechanisms = FE2O3_OFFER_SCRAM_SHA_256 | FE2O3_OFFER_PLAIN
             | FE2O3_OFFER_ANONYMOUS | FE2O3_OFFER_EXTERNAL, .iterations = 4096, .username = FE2O3_NONE,
@@ -291,6 +297,7 @@ int main(void)
     tried("record_verify_salted", verify_salted);
     tried("plain_message", plain);
     tried("plain_claimed_user", plain_user);
+    tried("plain_claimed_identity", plain_identity);
     tried("plain_verify", verify_plain);
     tried("plain_verify, SASLprep", verify_plain_by_saslprep);
     tried("external_verify", verify_external);

@@ -253,8 +253,8 @@ static uint8_t nonce[32];
 static void fitting(const struct fe2o3_scram_client *client, struct text *server_first)
 {
     static struct fe2o3_scram_keys no_keys;
-    const struct fe2o3_login who = {.version = FE2O3_SHA_1, .username = TEXT("user"), .password = TEXT("pencil"),
-        .keys = &no_keys};
+    const struct fe2o3_login who = {.version = FE2O3_SHA_1, .username = TEXT("user"), .acts_for = FE2O3_NONE,
+        .password = TEXT("pencil"), .keys = &no_keys};
     struct fe2o3_scram_client other = {0};
     struct text first = {{0}, 0};
     char count[8];
@@ -279,6 +279,8 @@ static void with_a_client(void)
     answered("client_final", fe2o3_scram_client_final(&login, &all.client, GIVEN(server_first), ROOM));
     answered("client_verify", fe2o3_scram_client_verify(&login, &all.client, GIVEN(server_final)));
     answered("client_keys", fe2o3_scram_client_get_keys(&all.client, &all.keys));
+    answered("plain_message",
+        fe2o3_plain_message(login.acts_for, login.acts_for_len, TEXT("user"), TEXT("pencil"), ROOM));
 }
 
 /* A client-final message with the nonce of a server's struct, and a proof of random bytes. */
@@ -355,7 +357,10 @@ static void with_a_record(void)
     answered("line", fe2o3_scram_line(TEXT("user"), &all.record, ROOM));
     answered("record_verify", fe2o3_scram_record_verify(&all.record, below(3), TEXT("pencil")));
     answered("record_verify_salted", fe2o3_scram_record_verify_salted(&all.record, nonce, ONE_OF(20, 31, 32)));
-    answered("plain_verify", fe2o3_plain_verify(&all.record, below(2), below(4), below(9), TEXT("\0user\0pencil")));
+    answered("plain_verify", below(2)
+            ? fe2o3_plain_verify(&all.record, below(2), below(4), below(9), 0, FE2O3_NONE, TEXT("\0user\0pencil"))
+            : fe2o3_plain_verify(&all.record, below(2), below(4), below(9), below(2), nonce, below(33),
+                TEXT("root\0user\0pencil")));
 }
 
 /* Some characters of one to four bytes, seldom with a byte among them that begins none. */
@@ -477,8 +482,21 @@ static void with_a_side_of_a_server(void)
     answered("sasl_server_receive", status);
 }
 
+/* An identity to act for, which may have bytes of any value, and may be too long. Returns its length. */
+static size_t draw_identity(uint8_t identity[260])
+{
+    size_t len = below(2) ? 0 : below(3) ? below(8) : 250 + below(10);
+    memset(identity, below(2) ? 'a' : '=', 260);
+    if (below(4) == 0)
+        fill(identity, 2);
+    if (below(8) == 0)
+        identity[0] = 0;
+    return len;
+}
+
 static void one_round(void)
 {
+    uint8_t identity[260];
     memset(&drawn, 0, sizeof drawn);
     draw_keys(&drawn.keys);
     draw_record(&drawn.record);
@@ -493,7 +511,8 @@ static void one_round(void)
     all = drawn;
     login = (struct fe2o3_login){.version = below(4) ? drawn.keys.version : ONE_OF(1, 2, 256, 512),
         .secret = below(2) ? 0 : below(4), .form = below(2) ? 0 : below(3), .min_iterations = below(3), .max_iterations = 5 + below(4),
-        .username = TEXT("user"), .password = TEXT("pencil"), .keys = &drawn.keys, .signature_by_challenge = below(2)};
+        .username = TEXT("user"), .acts_for = identity, .acts_for_len = draw_identity(identity), .password = TEXT("pencil"),
+        .keys = &drawn.keys, .signature_by_challenge = below(2)};
     with_a_client();
     with_a_server();
     with_a_record();
@@ -525,6 +544,9 @@ int main(void)
     reached("client_final", FE2O3_OK);
     reached("client_verify", FE2O3_CLIENT_SERVER_SIGNATURE_MISMATCH);
     reached("client_keys", FE2O3_OK);
+    reached("client_first", FE2O3_NOT_UTF8);
+    reached("client_first", FE2O3_PROHIBITED_CHARACTER);
+    reached("client_first", FE2O3_TOO_LONG);
     reached("client_final", FE2O3_NO_SUCH_SECRET);
     reached("client_final", FE2O3_NO_SUCH_CHOICE);
     reached("server_first", FE2O3_OK);
@@ -546,6 +568,11 @@ int main(void)
     reached("record_verify_salted", FE2O3_RECORD_KEY_LENGTH_MISMATCH);
     reached("plain_verify", FE2O3_SERVER_AUTHENTICATION_FAILED);
     reached("plain_verify", FE2O3_NO_SUCH_CHOICE);
+    reached("plain_verify", FE2O3_NOT_UTF8);
+    reached("plain_message", FE2O3_OK);
+    reached("plain_message", FE2O3_NOT_UTF8);
+    reached("plain_message", FE2O3_PROHIBITED_CHARACTER);
+    reached("plain_message", FE2O3_TOO_LONG);
     reached("saslprep", FE2O3_OK);
     reached("saslprep", FE2O3_NOT_UTF8);
     reached("saslprep", FE2O3_NO_SUCH_CHOICE);

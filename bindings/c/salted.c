@@ -105,7 +105,7 @@ static void cases(uint32_t version)
     struct fe2o3_scram_record record = {0}, made = {0}, none = {0};
     struct fe2o3_scram_keys keys = {0}, made_keys = {0};
     struct fe2o3_login login = {.version = version, .secret = FE2O3_BY_KEYS, .min_iterations = 4096,
-        .max_iterations = 4096, .username = TEXT("user"), .password = FE2O3_NONE, .keys = &keys};
+        .max_iterations = 4096, .username = TEXT("user"), .acts_for = FE2O3_NONE, .password = FE2O3_NONE, .keys = &keys};
 
     memcpy(of_record.bytes, salt, sizeof salt);
     told(version, "OpenSSL salts",

@@ -33,16 +33,19 @@ static const char prepared_512[] = "SCRAM-SHA-512$4096:W22ZaJ0SNY7soEsUEjb6gQ==$
     "KsGVSzjR/2GTgnCTFuoXTEgtTdhv1X2UYlOIB436eFfyQZSvN7Wcfc90BvtmTOMVnB4GiRHOZJJHNA85LTOSKw==:"
     "g6s6sk5II26TgxYONS1psawypQCoArOrIGmhgNDCAgMpL7vo0MABNZh1G+EXYl037K3ZabWKSRDbDdobxkbHUA==";
 
-/* The messages of a client of SCRAM-SHA-256 that could bind a channel, by the password "pencil", the nonces below and
- * this salt: its proof and the server's signature are those of Python's hashlib and hmac. */
+/* The messages of a client of SCRAM-SHA-256 that could bind a channel, and of one that acts for the identity "app,=x", by
+ * the password "pencil", the nonces below and this salt: the proofs and the server's signatures are those of Python's
+ * hashlib and hmac. */
 #define CLIENT_NONCE "AQAAAAAAAAAAAAAAAAAAAAAAAAAAAAAAAAAAAAAAAAA="
 #define BOTH_NONCES CLIENT_NONCE "AgAAAAAAAAAAAAAAAAAAAAAAAAAAAAAAAAAAAAAAAAA="
 #define CBIND_FLAG_Y_FIRST "y,,n=user,r=" CLIENT_NONCE
 #define CBIND_FLAG_Y_FINAL "c=eSws,r=" BOTH_NONCES ",p=SJ1/Pm0x+vAkhmfEkR72IPuVMVkUt0BF477aSDSc3vM="
+#define IDENTITY_FIRST "n,a=app=2C=3Dx,n=user,r=" CLIENT_NONCE
+#define IDENTITY_FINAL "c=bixhPWFwcD0yQz0zRHgs,r=" BOTH_NONCES ",p=lUV+g1XMlTmV05varqM+UoyQI4m06aNk7AMkvjp528I="
 #define PLAIN_FINAL "c=biws,r=" BOTH_NONCES ",p=MIHdNcfet0LbDJOcfcN6eFJrJahL13kbab8XbO3ku+k="
 
 struct text {
-    uint8_t bytes[512];
+    uint8_t bytes[2048];
     size_t len;
 };
 
@@ -90,7 +93,9 @@ static int rooms(const struct fe2o3_login *login, const struct exchange *whole)
     struct fe2o3_scram_client client = {0}, before = {0};
     struct text out = {{0}, 0};
     const struct text empty = {{0}, 0};
-    size_t first_len = whole->client_first.len, suffices = whole->server_first.len + 128;
+    size_t first_len = whole->client_first.len;
+    size_t suffices = whole->server_first.len + (login->channel_use == FE2O3_CHANNEL_BOUND ? 256 : 128)
+        + (login->acts_for_len ? 1024 : 0);
     int holds = fe2o3_scram_client_first(login, &client, client_nonce, out.bytes, first_len - 1, &out.len)
         == FE2O3_ROOM_TOO_SMALL;
     holds &= out.len == first_len && memcmp(out.bytes, empty.bytes, sizeof out.bytes) == 0;
@@ -112,9 +117,9 @@ static void cases(uint32_t version)
     struct fe2o3_scram_keys no_keys = {0}, keys = {0}, made = {0};
     struct fe2o3_scram_record record = {0}, read = {0}, other = {0}, mock = {0};
     struct fe2o3_login login = {.version = version, .min_iterations = 4096, .max_iterations = 100000,
-        .username = TEXT("user"), .password = TEXT("pencil"), .keys = &no_keys};
+        .username = TEXT("user"), .acts_for = FE2O3_NONE, .password = TEXT("pencil"), .keys = &no_keys};
     struct fe2o3_login by_keys = {.version = version, .secret = 1, .min_iterations = 4096, .max_iterations = 100000,
-        .username = TEXT("user"), .password = FE2O3_NONE, .keys = &keys};
+        .username = TEXT("user"), .acts_for = FE2O3_NONE, .password = FE2O3_NONE, .keys = &keys};
     struct fe2o3_login stranger = login;
     struct text text = {{0}, 0}, user = {{0}, 0};
     struct exchange one, next;
@@ -172,11 +177,14 @@ static void cases(uint32_t version)
     fe2o3_wipe(&mock, sizeof mock);
 }
 
+/* A test of a message of PLAIN by the record below. */
+#define VERIFY(...) fe2o3_plain_verify(&record, 1, FE2O3_PLAIN_PASSWORDS_TYPED, 4096, __VA_ARGS__)
+
 /* A record of its fields, and PLAIN and EXTERNAL over messages. */
 static void messages(uint32_t version)
 {
     struct fe2o3_scram_record record = {0}, made = {0}, mock = {0};
-    struct text message = {{0}, 0}, user = {{0}, 0};
+    struct text message = {{0}, 0}, named = {{0}, 0}, user = {{0}, 0};
     size_t digest = version == FE2O3_SHA_1 ? 20 : version / 8;
 
     fe2o3_scram_record_make(version, FE2O3_TYPED, TEXT("pencil"), salt, sizeof salt, 4096, &record);
@@ -189,20 +197,39 @@ static void messages(uint32_t version)
                 record.server_key, digest, &made) == FE2O3_ZERO_ITERATIONS
             && memcmp(&made, &record, sizeof made) == 0);
     told(version, "a message of PLAIN, and its user",
-        fe2o3_plain_message(TEXT("user"), TEXT("pencil"), ROOM(message)) == FE2O3_OK && message.len == 12
+        fe2o3_plain_message(FE2O3_NONE, TEXT("user"), TEXT("pencil"), ROOM(message)) == FE2O3_OK && message.len == 12
             && memcmp(message.bytes, "\0user\0pencil", 12) == 0
             && fe2o3_plain_claimed_user(GIVEN(message), ROOM(user)) == FE2O3_OK && spells(&user, "user")
-            && fe2o3_plain_claimed_user(TEXT("root\0user\0pencil"), ROOM(user)) == FE2O3_NAMES_NO_USER);
+            && fe2o3_plain_claimed_identity(GIVEN(message), ROOM(user)) == FE2O3_OK && user.len == 0
+            && fe2o3_plain_claimed_user(TEXT("\0\0pencil"), ROOM(user)) == FE2O3_NAMES_NO_USER
+            && fe2o3_plain_claimed_identity(TEXT("root\0\0pencil"), ROOM(user)) == FE2O3_NAMES_NO_USER);
+    told(version, "a message of PLAIN that asks for an identity",
+        fe2o3_plain_message(TEXT("root"), TEXT("user"), TEXT("pencil"), ROOM(named)) == FE2O3_OK && named.len == 16
+            && memcmp(named.bytes, "root\0user\0pencil", 16) == 0
+            && fe2o3_plain_claimed_user(GIVEN(named), ROOM(user)) == FE2O3_OK && spells(&user, "user")
+            && fe2o3_plain_claimed_identity(GIVEN(named), ROOM(user)) == FE2O3_OK && spells(&user, "root"));
+    told(version, "whom the user may act for",
+        VERIFY(1, TEXT("app\0root\0"), GIVEN(named)) == FE2O3_OK
+            && VERIFY(1, TEXT("app\0root"), GIVEN(named)) == FE2O3_OK
+            && VERIFY(1, TEXT("app\0roo\0rootx\0"), GIVEN(named)) == FE2O3_SERVER_AUTHENTICATION_FAILED
+            && VERIFY(1, FE2O3_NONE, GIVEN(named)) == FE2O3_SERVER_AUTHENTICATION_FAILED
+            && VERIFY(0, TEXT("root\0"), GIVEN(named)) == FE2O3_SERVER_AUTHENTICATION_FAILED
+            && VERIFY(1, TEXT("root\0"), TEXT("root\0user\0pencils")) == FE2O3_SERVER_AUTHENTICATION_FAILED
+            && VERIFY(0, FE2O3_NONE, TEXT("user\0user\0pencil")) == FE2O3_OK
+            && VERIFY(1, FE2O3_NONE, TEXT("user\0user\0pencil")) == FE2O3_OK
+            && VERIFY(1, FE2O3_NONE, GIVEN(message)) == FE2O3_OK
+            && VERIFY(1, TEXT("\xff"), GIVEN(message)) == FE2O3_NOT_UTF8
+            && fe2o3_plain_verify(&record, 1, 3, 4096, 1, TEXT("\xff"), GIVEN(named)) == FE2O3_NO_SUCH_CHOICE);
     told(version, "a login by PLAIN, a wrong password and an unknown user",
-        fe2o3_plain_verify(&record, 1, FE2O3_PLAIN_PASSWORDS_TYPED, 4096, GIVEN(message)) == FE2O3_OK
-            && fe2o3_plain_verify(&record, 1, FE2O3_PLAIN_PASSWORDS_TYPED, 4096, TEXT("\0user\0pencils"))
+        VERIFY(0, FE2O3_NONE, GIVEN(message)) == FE2O3_OK
+            && VERIFY(0, FE2O3_NONE, TEXT("\0user\0pencils"))
                 == FE2O3_SERVER_AUTHENTICATION_FAILED
-            && fe2o3_plain_verify(&record, 0, FE2O3_PLAIN_PASSWORDS_TYPED, 4096, GIVEN(message))
+            && fe2o3_plain_verify(&record, 0, FE2O3_PLAIN_PASSWORDS_TYPED, 4096, 0, FE2O3_NONE, GIVEN(message))
                 == FE2O3_SERVER_AUTHENTICATION_FAILED
             && fe2o3_scram_record_mock(version, secret, 32, TEXT("user"), sizeof salt, 4096, &mock) == FE2O3_OK
-            && fe2o3_plain_verify(&mock, 1, FE2O3_PLAIN_PASSWORDS_TYPED, 4096, GIVEN(message))
+            && fe2o3_plain_verify(&mock, 1, FE2O3_PLAIN_PASSWORDS_TYPED, 4096, 0, FE2O3_NONE, GIVEN(message))
                 == FE2O3_SERVER_AUTHENTICATION_FAILED
-            && fe2o3_plain_verify(&record, 1, 3, 4096, GIVEN(message)) == FE2O3_NO_SUCH_CHOICE);
+            && fe2o3_plain_verify(&record, 1, 3, 4096, 0, FE2O3_NONE, GIVEN(message)) == FE2O3_NO_SUCH_CHOICE);
     told(version, "EXTERNAL",
         fe2o3_external_verify(TEXT("peer"), FE2O3_NONE) == FE2O3_OK
             && fe2o3_external_verify(TEXT("peer"), TEXT("peer")) == FE2O3_OK
@@ -218,7 +245,8 @@ static void prepared(uint32_t version, const char *words)
     struct text password = {{0}, 0}, text = {{0}, 0};
     struct exchange one;
     struct fe2o3_login login = {.version = version, .form = FE2O3_PREPARED, .min_iterations = 4096,
-        .max_iterations = 4096, .username = TEXT("user"), .password = FE2O3_NONE, .keys = &no_keys};
+        .max_iterations = 4096, .username = TEXT("user"), .acts_for = FE2O3_NONE,
+        .password = FE2O3_NONE, .keys = &no_keys};
 
     told(version, "a password past ASCII is prepared",
         fe2o3_saslprep(TEXT(TYPED), FE2O3_UNASSIGNED_REFUSED, ROOM(password)) == FE2O3_OK
@@ -369,7 +397,7 @@ static void channels(uint32_t version)
     struct fe2o3_scram_keys no_keys = {0};
     struct fe2o3_scram_record record = {0};
     const struct fe2o3_login plain = {.version = version, .min_iterations = 4096, .max_iterations = 100000,
-        .username = TEXT("user"), .password = TEXT("pencil"), .keys = &no_keys};
+        .username = TEXT("user"), .acts_for = FE2O3_NONE, .password = TEXT("pencil"), .keys = &no_keys};
     const struct fe2o3_scram_rules no_rules = {0}, no_data = {.channels.binds_channel = 1}, with_y = {.accept_cbind_flag_y = 1};
     struct exchange one;
     fe2o3_scram_record_make(version, FE2O3_TYPED, TEXT("pencil"), salt, sizeof salt, 4096, &record);
@@ -416,13 +444,97 @@ static void channels(uint32_t version)
     }
 }
 
+/* A client that acts for an identity (RFC 4422, section 2; RFC 5802, section 5.1): its messages, and a server that accepts
+ * them. */
+static void identities(void)
+{
+    struct fe2o3_scram_keys no_keys = {0};
+    struct fe2o3_login login = {.version = FE2O3_SHA_256, .min_iterations = 4096, .max_iterations = 4096,
+        .username = TEXT("user"), .acts_for = TEXT("app,=x"), .password = TEXT("pencil"), .keys = &no_keys}, itself = login;
+    const struct fe2o3_scram_rules none = FE2O3_SCRAM_RULES_INIT;
+    struct fe2o3_scram_rules rules = none;
+    struct fe2o3_scram_record record = {0};
+    struct exchange one;
+    struct text name;
+    fe2o3_scram_record_make(FE2O3_SHA_256, FE2O3_TYPED, TEXT("pencil"), known_salt, sizeof known_salt, 4096, &record);
+    itself.acts_for_len = 0;
+    rules.accept_authzid = 1;
+    rules.identities = (const uint8_t *)"other\0app,=x";
+    rules.identities_len = sizeof "other\0app,=x";
+    told(FE2O3_SHA_256, "a client that acts for an identity",
+        run_by(&one, &login, &record, &rules, &rules) == FE2O3_OK && spells(&one.client_first, IDENTITY_FIRST)
+            && spells(&one.client_final, IDENTITY_FINAL)
+            && spells(&one.server_final, "v=irBN5hQX5aWK7OnluDX/OH634J++25mLKO9nCu6cu9A=")
+            && fe2o3_scram_server_claimed_identity(&rules, GIVEN(one.client_first), ROOM(name)) == FE2O3_OK
+            && spells(&name, "app,=x") && fe2o3_scram_server_acts_for(&one.server, ROOM(name)) == FE2O3_OK
+            && spells(&name, "app,=x") && rooms(&login, &one));
+    told(FE2O3_SHA_256, "a client that acts for itself",
+        run_by(&one, &itself, &record, &rules, &rules) == FE2O3_OK && spells(&one.client_final, PLAIN_FINAL)
+            && fe2o3_scram_server_acts_for(&one.server, ROOM(name)) == FE2O3_OK && name.len == 0);
+    rules.identities_len = sizeof "other" - 1;
+    told(FE2O3_SHA_256, "a user without the right, and a server that accepts no identities",
+        run_by(&one, &login, &record, &rules, &rules) == FE2O3_SERVER_AUTHENTICATION_FAILED
+            && run_by(&one, &login, &record, &none, &none) == FE2O3_SERVER_CANNOT_PARSE_GS2_HEADER);
+    for (int second = 0; second < 2; second++) {
+        memset(&one, 0, sizeof one);
+        fe2o3_scram_client_first(second ? &login : &itself, &one.client, client_nonce, ROOM(one.client_first));
+        told(FE2O3_SHA_256, "only a client that names an identity rejects an attribute without being strict",
+            fe2o3_scram_client_final(second ? &login : &itself, &one.client, TEXT("r=" BOTH_NONCES ",s=BAQ=,i=4096,c=biws"),
+                ROOM(one.client_final)) == (second ? FE2O3_CLIENT_MISPLACED_ATTRIBUTE : FE2O3_OK));
+        fe2o3_scram_client_first(second ? &login : &itself, &one.client, client_nonce, ROOM(one.client_first));
+        fe2o3_scram_client_final(second ? &login : &itself, &one.client, TEXT("r=" BOTH_NONCES ",s=BAQ=,i=4096"),
+            ROOM(one.client_final));
+        told(FE2O3_SHA_256, "and one after a signature",
+            fe2o3_scram_client_verify(second ? &login : &itself, &one.client, TEXT("v=AAAA,m=1"))
+                == (second ? FE2O3_CLIENT_MISPLACED_ATTRIBUTE : FE2O3_CLIENT_SERVER_SIGNATURE_MISMATCH));
+    }
+}
+
+/* The longest identity, each byte of which takes three, and identities that no client sends. */
+static void identities_of_each_form(void)
+{
+    static uint8_t commas[257], whole[257];
+    const uint8_t *bad = (const uint8_t *)"\xff";
+    struct fe2o3_scram_keys no_keys = {0};
+    struct fe2o3_login login = {.version = FE2O3_SHA_256, .min_iterations = 4096, .max_iterations = 4096,
+        .username = TEXT("user"), .acts_for = commas, .acts_for_len = 256, .password = TEXT("pencil"), .keys = &no_keys};
+    struct fe2o3_scram_rules rules = binding(FE2O3_TLS_SERVER_END_POINT, 64);
+    struct fe2o3_scram_record record = {0};
+    struct exchange one;
+    struct text name;
+    fe2o3_scram_record_make(FE2O3_SHA_256, FE2O3_TYPED, TEXT("pencil"), salt, sizeof salt, 4096, &record);
+    memset(commas, ',', sizeof commas);
+    memset(whole, ',', 256);
+    rules.accept_authzid = 1;
+    rules.identities = whole;
+    rules.identities_len = sizeof whole;
+    bind_channel(&login, FE2O3_TLS_SERVER_END_POINT, 64);
+    told(FE2O3_SHA_256, "an identity of 256 bytes, and the longest data of a channel",
+        run_by(&one, &login, &record, &rules, &rules) == FE2O3_OK && rooms(&login, &one)
+            && fe2o3_scram_server_acts_for(&one.server, ROOM(name)) == FE2O3_OK && name.len == 256
+            && memcmp(name.bytes, commas, 256) == 0);
+    login.acts_for_len = 257;
+    told(FE2O3_SHA_256, "an identity of 257 bytes", run_by(&one, &login, &record, &rules, &rules) == FE2O3_TOO_LONG);
+    commas[256] = 0;
+    told(FE2O3_SHA_256, "a long one with a zero byte",
+        run_by(&one, &login, &record, &rules, &rules) == FE2O3_PROHIBITED_CHARACTER);
+    login.channel_use = 3;
+    login.acts_for = bad;
+    login.acts_for_len = 1;
+    told(FE2O3_SHA_256, "one that is not UTF-8, tested before the channel",
+        run_by(&one, &login, &record, &rules, &rules) == FE2O3_NOT_UTF8);
+    login.version = 0;
+    told(FE2O3_SHA_256, "and after the version",
+        run_by(&one, &login, &record, &rules, &rules) == FE2O3_NO_SUCH_VERSION);
+}
+
 /* What the grammar of RFC 5802, section 7, does not allow, at a side of each kind that is strict and one that is not. */
 static void strict_sides(void)
 {
     const struct fe2o3_scram_rules strict = {.strict = 1}, lax = {0};
     struct fe2o3_scram_keys no_keys = {0};
     struct fe2o3_login login = {.version = FE2O3_SHA_256, .min_iterations = 4096, .max_iterations = 4096,
-        .username = TEXT("user"), .password = TEXT("pencil"), .keys = &no_keys};
+        .username = TEXT("user"), .acts_for = FE2O3_NONE, .password = TEXT("pencil"), .keys = &no_keys};
     struct fe2o3_scram_record record = {0};
     struct exchange one;
     fe2o3_scram_record_make(FE2O3_SHA_256, FE2O3_TYPED, TEXT("pencil"), salt, sizeof salt, 4096, &record);
@@ -465,6 +577,8 @@ int main(void)
     channels(FE2O3_SHA_256);
     channels(FE2O3_SHA_512);
     strict_sides();
+    identities();
+    identities_of_each_form();
     cases(FE2O3_SHA_1);
     cases(FE2O3_SHA_256);
     cases(FE2O3_SHA_512);

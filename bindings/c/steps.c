@@ -108,7 +108,7 @@ static struct fe2o3_sasl_login login_by(uint32_t mechanism, uint32_t version)
 {
     struct fe2o3_sasl_login login = {mechanism, TEXT("host"),
         {.version = version, .min_iterations = 4096, .max_iterations = 100000, .username = TEXT("user"),
-            .password = TEXT("pencil"), .keys = &no_keys}};
+            .acts_for = FE2O3_NONE, .password = TEXT("pencil"), .keys = &no_keys}};
     return login;
 }
 
@@ -133,7 +133,7 @@ static struct fe2o3_sasl_server_config config_of(const struct fe2o3_scram_record
 {
     struct fe2o3_sasl_server_config config = {
         offer_of(record->version) | FE2O3_OFFER_PLAIN | FE2O3_OFFER_ANONYMOUS | FE2O3_OFFER_EXTERNAL, 4096, TEXT("user"),
-        record, 1, TEXT("peer"), {0}};
+        record, 1, TEXT("peer"), {0}, 0, FE2O3_NONE};
     return config;
 }
 
@@ -613,6 +613,81 @@ static void initial_response_by_challenge(void)
         fe2o3_sasl_server_offer(&config, ROOM(out)) == FE2O3_NO_SUCH_MECHANISM);
 }
 
+static int acts_for(const struct fe2o3_scram_server *server, const uint8_t *name, size_t len)
+{
+    struct body identity;
+    return fe2o3_scram_server_acts_for(server, ROOM(identity)) == FE2O3_OK && spells(&identity, name, len);
+}
+
+/* Logins that ask to act for an identity (RFC 4422, section 2). */
+static void identities(const char *mechanism, uint32_t number)
+{
+    static uint8_t commas[256];
+    struct fe2o3_scram_record record = record_by(FE2O3_SHA_256);
+    struct fe2o3_sasl_login login = login_by(number, FE2O3_SHA_256), itself = login;
+    struct fe2o3_sasl_server_config config = config_of(&record), no_identities = config;
+    struct exchange one;
+    login.login.acts_for = (const uint8_t *)"app,=x";
+    login.login.acts_for_len = 6;
+    config.accept_authzid = 1;
+    config.identities = (const uint8_t *)"other\0app,=x";
+    config.identities_len = sizeof "other\0app,=x";
+    told(mechanism, "a user who may act for the identity",
+        ends(&login, &config, FE2O3_AUTHENTICATED, &one) && names(&one.server, TEXT("user"))
+            && acts_for(&one.server, TEXT("app,=x")));
+    told(mechanism, "the same without an initial response", ends_late(&login, config, FE2O3_AUTHENTICATED));
+    told(mechanism, "a user who acts for itself",
+        ends(&itself, &config, FE2O3_AUTHENTICATED, &one) && acts_for(&one.server, FE2O3_NONE));
+    told(mechanism, "a server that accepts no identities",
+        ends(&login, &no_identities, FE2O3_REFUSED_AUTH, &one) && names_no_user(&one.server));
+    config.identities_len = sizeof "other" - 1;
+    told(mechanism, "a user who may not act for it",
+        ends(&login, &config, FE2O3_REFUSED_AUTH, &one) && names_no_user(&one.server));
+    memset(commas, ',', sizeof commas);
+    login.login.acts_for = commas;
+    login.login.acts_for_len = sizeof commas;
+    config.identities = commas;
+    config.identities_len = sizeof commas;
+    if (number == FE2O3_PLAIN)
+        told(mechanism, "an identity of 256 bytes",
+            ends(&login, &config, FE2O3_AUTHENTICATED, &one) && acts_for(&one.server, commas, sizeof commas));
+    else
+        told(mechanism, "an identity of 256 bytes that has no room in a frame",
+            run(&one, &login, &config) == FE2O3_REPLY_TOO_LARGE && one.count == 1);
+}
+
+/* An init of PLAIN with an identity, and mechanisms that send none. */
+static void identities_of_others(void)
+{
+    static const struct {
+        uint32_t mechanism, number;
+    } rows[] = {
+        {FE2O3_ANONYMOUS, FE2O3_NOT_IMPLEMENTED},
+        {FE2O3_ANONYMOUS_AS, FE2O3_NOT_IMPLEMENTED},
+        {FE2O3_EXTERNAL, FE2O3_OK},
+    };
+    struct fe2o3_scram_record record = record_by(FE2O3_SHA_256);
+    struct fe2o3_sasl_server_config config = config_of(&record);
+    struct fe2o3_sasl_login login = login_by(FE2O3_PLAIN, 0);
+    struct exchange one;
+    int holds = 1;
+    login.login.acts_for = (const uint8_t *)"app,=x";
+    login.login.acts_for_len = 6;
+    told("PLAIN", "the init of a client that names an identity",
+        run(&one, &login, &config) == FE2O3_OK && spells(&one.sent[1],
+            TEXT("\2\1\0\0\0\x53\x41\xc0\x22\3\xa3\5PLAIN\xa0\x12" "app,=x\0user\0pencil\xa1\4host")));
+    for (size_t at = 0; at < sizeof rows / sizeof *rows; at++) {
+        login.mechanism = rows[at].mechanism;
+        holds &= run(&one, &login, &config) == rows[at].number;
+    }
+    told("others", "an identity that the mechanism does not send", holds);
+    login.login.acts_for_len = 0;
+    login.mechanism = FE2O3_ANONYMOUS_AS;
+    login.login.username = (const uint8_t *)"\xff";
+    login.login.username_len = 1;
+    told("ANONYMOUS", "trace information that is not UTF-8", run(&one, &login, &config) == FE2O3_NOT_UTF8);
+}
+
 /* A server that binds the channel of the connection (RFC 5802, section 6). */
 static void channels(const char *mechanism, uint32_t version)
 {
@@ -658,6 +733,9 @@ int main(void)
     channels("SCRAM-SHA-256", FE2O3_SHA_256);
     channels("SCRAM-SHA-512", FE2O3_SHA_512);
     strict();
+    identities("SCRAM-SHA-256", FE2O3_SCRAM);
+    identities("PLAIN", FE2O3_PLAIN);
+    identities_of_others();
     signature_by_challenge();
     initial_response_by_challenge();
     return differences != 0;

@@ -36,7 +36,7 @@ static void run(size_t place, struct outcome *one)
     static const uint32_t versions[VERSIONS] = {FE2O3_SHA_1, FE2O3_SHA_256, FE2O3_SHA_512};
     const struct fe2o3_scram_record *record = &records[place % VERSIONS];
     struct fe2o3_login login = {.version = versions[place % VERSIONS], .min_iterations = 1, .max_iterations = 100,
-        .username = TEXT("user"), .password = TEXT("pencil"), .keys = &no_keys};
+        .username = TEXT("user"), .acts_for = FE2O3_NONE, .password = TEXT("pencil"), .keys = &no_keys};
     struct fe2o3_scram_client client = {0};
     struct fe2o3_scram_server server = {0};
     uint8_t client_nonce[32] = {1}, server_nonce[32] = {2};

@@ -340,13 +340,13 @@ uint32_t fe2o3_scram_server_error_message(uint32_t status, uint8_t *out, size_t 
     return answer;
 }
 
-uint32_t proved_fe2o3_plain_message(const uint8_t *username, size_t username_len, const uint8_t *password,
-    size_t password_len, uint8_t *out, size_t out_size, size_t *out_len);
-uint32_t fe2o3_plain_message(const uint8_t *username, size_t username_len, const uint8_t *password, size_t password_len,
-    uint8_t *out, size_t out_size, size_t *out_len)
+uint32_t proved_fe2o3_plain_message(const uint8_t *acts_for, size_t acts_for_len, const uint8_t *username,
+    size_t username_len, const uint8_t *password, size_t password_len, uint8_t *out, size_t out_size, size_t *out_len);
+uint32_t fe2o3_plain_message(const uint8_t *acts_for, size_t acts_for_len, const uint8_t *username, size_t username_len,
+    const uint8_t *password, size_t password_len, uint8_t *out, size_t out_size, size_t *out_len)
 {
-    uint32_t answer = proved_fe2o3_plain_message(username, username_len, password, password_len, out, out_size,
-        out_len);
+    uint32_t answer = proved_fe2o3_plain_message(acts_for, acts_for_len, username, username_len, password, password_len,
+        out, out_size, out_len);
     clear_stack(depth_plain_message);
     return answer;
 }
@@ -361,12 +361,25 @@ uint32_t fe2o3_plain_claimed_user(const uint8_t *message, size_t message_len, ui
     return answer;
 }
 
-uint32_t proved_fe2o3_plain_verify(const struct fe2o3_scram_record *records, size_t records_count, uint32_t passwords,
-    uint32_t iterations, const uint8_t *message, size_t message_len);
-uint32_t fe2o3_plain_verify(const struct fe2o3_scram_record *records, size_t records_count, uint32_t passwords,
-    uint32_t iterations, const uint8_t *message, size_t message_len)
+uint32_t proved_fe2o3_plain_claimed_identity(const uint8_t *message, size_t message_len, uint8_t *out, size_t out_size,
+    size_t *out_len);
+uint32_t fe2o3_plain_claimed_identity(const uint8_t *message, size_t message_len, uint8_t *out, size_t out_size,
+    size_t *out_len)
 {
-    uint32_t answer = proved_fe2o3_plain_verify(records, records_count, passwords, iterations, message, message_len);
+    uint32_t answer = proved_fe2o3_plain_claimed_identity(message, message_len, out, out_size, out_len);
+    clear_stack(depth_plain_claimed_identity);
+    return answer;
+}
+
+uint32_t proved_fe2o3_plain_verify(const struct fe2o3_scram_record *records, size_t records_count, uint32_t passwords,
+    uint32_t iterations, uint32_t accept_authzid, const uint8_t *identities, size_t identities_len,
+    const uint8_t *message, size_t message_len);
+uint32_t fe2o3_plain_verify(const struct fe2o3_scram_record *records, size_t records_count, uint32_t passwords,
+    uint32_t iterations, uint32_t accept_authzid, const uint8_t *identities, size_t identities_len,
+    const uint8_t *message, size_t message_len)
+{
+    uint32_t answer = proved_fe2o3_plain_verify(records, records_count, passwords, iterations, accept_authzid,
+        identities, identities_len, message, message_len);
     clear_stack(depth_plain_verify);
     return answer;
 }

@@ -41,7 +41,7 @@ SECTIONS = [  # in the order of use: a title, the structs, and the functions aft
      " scram_server_authenticated_user scram_server_claimed_identity scram_server_acts_for"),
     ("Errors that a server sends in the place of a message", "",
      "scram_server_error scram_server_error_text scram_server_error_message"),
-    ("PLAIN and EXTERNAL, over messages", "", "plain_message plain_claimed_user plain_verify external_verify"),
+    ("PLAIN and EXTERNAL, over messages", "", "plain_message plain_claimed_user plain_claimed_identity plain_verify external_verify"),
     ("The client's side of a connection, over bytes", "Connection SaslLogin SaslClient",
      "sasl_client_open sasl_client_receive"),
     ("The server's side of a connection, over bytes", "SaslServerConfig SaslServer",
@@ -288,6 +288,12 @@ def c_part(part):
     return f"{kind} {part.name}[{part.count}]" if part.count else f"{kind} {'*' * (part.form != 'value')}{part.name}"
 
 
+def c_empty(part):
+    if part.form == "const":
+        return '(const uint8_t *)""'
+    return "{ 0 }" if part.count or part.kind not in C_NUMBERS else "0"
+
+
 def rust_part(part):
     kind = "core::ffi::c_void" if part.kind == "void" else part.kind
     kind = f"[{kind}; {part.count}]" if part.count else kind
@@ -314,7 +320,7 @@ def c_header(reader):
             out.append(f"\n{comment(one.doc)}struct fe2o3_{snake(one.name)} {{\n")
             out += [f"{comment(doc, '    ')}    {c_part(part)};\n" for doc, part in one.fields] + ["};\n"]
             if (one.name in written or one.name in LENT) and "const" in [part.form for _, part in one.fields]:
-                empty = ", ".join('(const uint8_t *)""' if part.form == "const" else "0" for _, part in one.fields)
+                empty = ", ".join(map(c_empty, (part for _, part in one.fields)))
                 out.append(f"/* {LENT.get(one.name, 'Its value before its first use.')} */\n"
                            f"#define FE2O3_{snake(one.name).upper()}_INIT {{ {empty} }}\n")
         for doc, name, parts, answer in exports:

@@ -15,7 +15,7 @@ pub const NOT_UTF8: u32 = 3;
 /// The version is none of the `scram_version` constants.
 pub const NO_SUCH_VERSION: u32 = 4;
 
-/// A text is longer than the array that holds it.
+/// A text is longer than the array that holds it, or an identity to act for has more than 256 bytes.
 pub const TOO_LONG: u32 = 5;
 
 /// The typed password is not printable ASCII.
@@ -205,7 +205,8 @@ pub const NO_SASL_FRAME: u32 = 75;
 /// A size inside the frame exceeds 32 bits.
 pub const FRAME_TOO_LARGE: u32 = 76;
 
-/// The client cannot answer this frame, or the server does not offer this mechanism.
+/// The client cannot answer this frame, the server does not offer this mechanism, or the login names an identity to act
+/// for and its mechanism is ANONYMOUS.
 pub const NOT_IMPLEMENTED: u32 = 77;
 
 /// The server rejected the login: the credentials are wrong.
@@ -224,8 +225,8 @@ pub const REFUSED_SYS_TEMP: u32 = 84;
 /// `passwords` none of the `plain_passwords` constants.
 pub const NO_SUCH_CHOICE: u32 = 85;
 
-/// The prepared text contains a character that RFC 4013, section 2.3, prohibits, or a word for a message of PLAIN
-/// contains a zero byte (RFC 4616, section 2).
+/// The prepared text contains a character that RFC 4013, section 2.3, prohibits, or a word for a message of PLAIN (RFC
+/// 4616, section 2) or an identity to act for (RFC 4422, section 3.4.1) contains a zero byte.
 pub const PROHIBITED_CHARACTER: u32 = 86;
 
 /// The prepared text mixes right-to-left and left-to-right characters, or does not begin and end with a right-to-left
@@ -580,6 +581,17 @@ pub struct Login {
     /// The user name, without escapes.
     pub username: *const u8,
     pub username_len: usize,
+    /// The identity that the client acts for, without escapes (RFC 4422, section 2), of 256 bytes at most. If empty,
+    /// the client acts for itself. The server decides whether the user may act for it.
+    ///
+    /// - SCRAM sends it in the GS2 header (RFC 5802, section 7). A client that names one tests the extensions like one
+    ///   that binds a channel.
+    /// - PLAIN sends it as the first part of its message (RFC 4616, section 2), by `fe2o3_sasl_client_receive` and
+    ///   `fe2o3_sasl_client_step`. A client that names one tests its words like a strict one.
+    /// - ANONYMOUS names no identity: with one these calls return NOT_IMPLEMENTED.
+    /// - EXTERNAL does not send it: EXTERNAL_AS sends `username` as the identity.
+    pub acts_for: *const u8,
+    pub acts_for_len: usize,
     /// The password.
     pub password: *const u8,
     pub password_len: usize,
@@ -801,8 +813,9 @@ pub struct SaslServerConfig {
     /// the other mechanisms. SCRAM without `-PLUS` then accepts no client that has seen no such mechanism (`y,,`; RFC
     /// 5802, section 6), whatever ACCEPT_CBIND_FLAG_Y says.
     pub channels: ServerChannels,
-    /// Whether a client of SCRAM may name an identity to act for (RFC 5802, section 5.1), as by the field
-    /// `accept_authzid` of struct fe2o3_scram_rules. 0 is no, any other value yes.
+    /// Whether a client of SCRAM or PLAIN may name an identity to act for (RFC 5802, section 5.1; RFC 4616, section 2),
+    /// as by the field `accept_authzid` of struct fe2o3_scram_rules. 0 is no, any other value yes. Without it a message
+    /// of PLAIN may still name its own user.
     pub accept_authzid: u32,
     /// The identities that the user may act for besides itself (RFC 4422, section 2), without escapes, with a zero byte
     /// after each. After the login `fe2o3_scram_server_acts_for` returns the one that the user acts for.
@@ -817,7 +830,7 @@ pub struct SaslServer {
     /// The connection.
     pub connection: Connection,
     /// The SCRAM server. After a login by any mechanism it holds the authenticated user
-    /// (`fe2o3_scram_server_authenticated_user`), and after one by SCRAM the identity that the user acts for
+    /// (`fe2o3_scram_server_authenticated_user`), and after one by SCRAM or PLAIN the identity that the user acts for
     /// (`fe2o3_scram_server_acts_for`). ANONYMOUS has no user.
     pub scram: ScramServer,
 }
@@ -1052,7 +1065,8 @@ extern "C" {
         out_len: *mut usize) -> u32;
 
     /// Answers the server-first message with the client-final message. `out` needs 128 bytes more than the server-first
-    /// message has, or 256 more if the client binds a channel. This is tested before anything is hashed.
+    /// message has, or 256 more if the client binds a channel, and another 1024 if it names an identity to act for.
+    /// This is tested before anything is hashed.
     pub fn fe2o3_scram_client_final(
         login: *const Login,
         client: *mut ScramClient,
@@ -1254,13 +1268,16 @@ extern "C" {
     /// RFC 5802 describes has `e=other-error`.
     pub fn fe2o3_scram_server_error_message(status: u32, out: *mut u8, out_size: usize, out_len: *mut usize) -> u32;
 
-    /// Writes the message by which a client logs in with PLAIN (RFC 4616, section 2): a zero byte, the user name, a
-    /// zero byte and the password. The authorization identity is empty. The message has the password in clear, so send
-    /// it over TLS only. Prepare a non-ASCII password first (`fe2o3_saslprep`).
+    /// Writes the message by which a client logs in with PLAIN (RFC 4616, section 2): the identity that the client acts
+    /// for, which is empty if it acts for itself, the user name and the password, with a zero byte between them. The
+    /// message has the password in clear, so send it over TLS only. Prepare a non-ASCII password first
+    /// (`fe2o3_saslprep`).
     ///
     /// Returns NOT_UTF8 if a word is not UTF-8, NAMES_NO_USER if the user name is empty, EMPTY_PASSWORD if the password
-    /// is, and PROHIBITED_CHARACTER if a word contains a zero byte.
+    /// is, PROHIBITED_CHARACTER if a word contains a zero byte, and TOO_LONG if the identity has more than 256 bytes.
     pub fn fe2o3_plain_message(
+        acts_for: *const u8,
+        acts_for_len: usize,
         username: *const u8,
         username_len: usize,
         password: *const u8,
@@ -1272,9 +1289,8 @@ extern "C" {
     /// Writes the user name that a message of PLAIN claims (RFC 4616, section 2). Nobody is authenticated yet: use it
     /// only to look up the record for `fe2o3_plain_verify`.
     ///
-    /// Returns NAMES_NO_USER for a message that `fe2o3_plain_verify` rejects whatever the record is: one that is not
-    /// UTF-8 in three parts, whose authorization identity is neither empty nor the user name, whose user name is empty,
-    /// or whose password does not have 1 to 1024 bytes.
+    /// Returns NAMES_NO_USER for a message that `fe2o3_plain_verify` rejects whatever its other arguments are: one that
+    /// is not UTF-8 in three parts, whose user name is empty, or whose password does not have 1 to 1024 bytes.
     pub fn fe2o3_plain_claimed_user(
         message: *const u8,
         message_len: usize,
@@ -1282,21 +1298,40 @@ extern "C" {
         out_size: usize,
         out_len: *mut usize) -> u32;
 
+    /// Writes the identity that a message of PLAIN asks to act for (RFC 4616, section 2), or 0 bytes if its user acts
+    /// for itself. It is only claimed, like the user's name: use it only to look up whether the user may act for it.
+    /// The errors are those of `fe2o3_plain_claimed_user`.
+    pub fn fe2o3_plain_claimed_identity(
+        message: *const u8,
+        message_len: usize,
+        out: *mut u8,
+        out_size: usize,
+        out_len: *mut usize) -> u32;
+
     /// Tests a message of PLAIN against the record of the user that it claims (RFC 4616). Only OK means that this user
-    /// (`fe2o3_plain_claimed_user`) is authenticated. PLAIN sends the password in clear, so use it over TLS only.
+    /// (`fe2o3_plain_claimed_user`) is authenticated, and may act for the identity that the message asks for
+    /// (`fe2o3_plain_claimed_identity`). PLAIN sends the password in clear, so use it over TLS only.
     ///
     /// `records` are those of the claimed user, of any hashes. The first one that can be read counts, so put mock
     /// records last. For an unknown user pass a mock record (`fe2o3_scram_record_mock`), or none: the password is then
     /// hashed with SHA-256 and this iteration count, as often as for a known user with this count, and rejected.
     /// `passwords` is one of the `plain_passwords` constants.
     ///
-    /// Returns NO_SUCH_CHOICE if `passwords` is none of the enum, and SERVER_AUTHENTICATION_FAILED for every message
-    /// that does not log in: a wrong password, an unknown user, or no acceptable message.
+    /// `accept_authzid` says whether a message may name an identity other than its user. 0 is no, any other value yes.
+    /// `identities` are those that the user may act for besides itself (RFC 4422, section 2), with a zero byte after
+    /// each.
+    ///
+    /// Returns NO_SUCH_CHOICE if `passwords` is none of the enum, NOT_UTF8 if the identities are not UTF-8, and
+    /// SERVER_AUTHENTICATION_FAILED for every message that does not log in: a wrong password, an unknown user, an
+    /// identity that the user may not act for, or no acceptable message.
     pub fn fe2o3_plain_verify(
         records: *const ScramRecord,
         records_count: usize,
         passwords: u32,
         iterations: u32,
+        accept_authzid: u32,
+        identities: *const u8,
+        identities_len: usize,
         message: *const u8,
         message_len: usize) -> u32;
 

@@ -11,7 +11,7 @@ use Rattle.fe2o3_sasl_core.specs.RestrictMechanisms.{Offering, offering_machine}
 use Rattle.fe2o3_sasl_core.specs.AnyMechanism.{BothStates, both_names, any_mechanism_machine, part_names}
 use Rattle.fe2o3_sasl_core.specs.AnyMechanismLaws.{Machine, Splits, PassesOn}
 use Rattle.fe2o3_sasl_core.specs.AnyMechanismUsers.{SomeEvent, AsksOffered}
-use Rattle.fe2o3_sasl_core.specs.PlainServer.{PlainState, PlainLogsIn, plain_machine}
+use Rattle.fe2o3_sasl_core.specs.PlainServer.{PlainParts, PlainState, PlainLogsIn, asked_identity, plain_machine}
 use Rattle.fe2o3_sasl_core.specs.Runs.{Runs, AcceptorSteps}
 use Rattle.fe2o3_sasl_core.specs.declared.any_mechanism.Selected.{Selected}
 use Rattle.fe2o3_sasl_core.specs.declared.any_mechanism.Selected.TheVariants.{First, Second}
@@ -149,15 +149,17 @@ ExternalServersLogIn = (state : External) (server : ServerBy external_machine st
 -- ---- PLAIN
 
 -- a server of PLAIN over records (RFC 4616) has logged its client in: the only event is an init whose message has the
--- password of its user's record, and the server names that user
+-- password of its user's record, and the server names that user, and the identity that the message asks for, which the
+-- user may act for
 pub record PlainServes (state : PlainState) (events : List Given) (last : PlainState) : Type 0 where
   pub event : Given
   pub frame : SaslFrame
-  pub user : List ℕ
+  pub message : PlainParts
   pub only : events ≡ event ∷ []
   pub spells : SpellsBody event.body (Ok frame)
-  pub logs_in : PlainLogsIn state.passwords state.provider frame user
-  pub named : last.user ≡ Some user
+  pub logs_in : PlainLogsIn state frame message
+  pub named : last.user ≡ Some message.user
+  pub acting : last.acts_for ≡ asked_identity message
 
 -- every server of PLAIN over records that has logged its client in has `PlainServes`
 abbrev pub PlainServersLogIn : Type 0

@@ -40,8 +40,9 @@ pub fn external()
 {}
 
 /// PLAIN over the bytes of a connection (RFC 4616). A server of PLAIN over records that has logged a client in got one
-/// frame only: an init whose message has the password of its user's record. The server names that user. The acceptor of
-/// a server that has not logged a client in is unchanged, so that it names nobody new.
+/// frame only: an init whose message has the password of its user's record. The server names that user, and the identity
+/// that the message asks for, which the user may act for. The acceptor of a server that has not logged a client in is
+/// unchanged, so that it names nobody new.
 pub fn plain()
     ensures logged_in { PlainServersLogIn }
     ensures stays { ServersStay plain_machine }

@@ -2,7 +2,7 @@
 //! which the check has proved.
 
 ghost use Rattle.fe2o3_sasl_core.specs.Hex.{OneBytesOfHex, HexIsReadAgain};
-ghost use Rattle.fe2o3_sasl_core.specs.MechanismLaws.{OneAcceptorReply, OneProfileReply, SomeAcceptorReply, SomeProfileReply, PlainRunsNameUsers, OffersAgree, PlainLetsIn, PlainRefuses, AnonymousLetsIn, SomethingIsOffered, NamesDiffer};
+ghost use Rattle.fe2o3_sasl_core.specs.MechanismLaws.{OneAcceptorReply, OneProfileReply, SomeAcceptorReply, SomeProfileReply, PlainRunsNameUsers, OffersAgree, PlainIdentitiesAgree, PlainLetsIn, PlainRefuses, AnonymousLetsIn, SomethingIsOffered, NamesDiffer};
 ghost use Rattle.fe2o3_sasl.specs.examples.ClientExamples.{KeysLogIn, StaleKeysLogInLater};
 ghost use Rattle.fe2o3_sasl.specs.examples.Examples.{PremisesCanBeMet, ShiftedTextsPass};
 ghost use Rattle.fe2o3_sasl.specs.examples.MemoryExamples.{AcceptorsAskForNone, AskForNone, OwnedAskForNone, ServersWantNone, ClientsWantNone};
@@ -235,14 +235,15 @@ pub fn worked_clients()
 
 /// Laws of every mechanism: each acceptor and each profile has at most one reply to a frame; a server offers what a
 /// profile asks for exactly if both are of one mechanism; PLAIN lets in the same user with the same password and
-/// rejects all others, in words without zero bytes (RFC 4616, section 2); ANONYMOUS lets in each client that asks for
-/// it; a server always offers something; and the six profiles have six names.
+/// rejects all others, in words without zero bytes (RFC 4616, section 2); a server of PLAIN over records names the user
+/// and the identity of the profile that it logs in; ANONYMOUS lets in each client that asks for it; a server always offers something; and the six profiles have six names.
 pub fn mechanisms()
     ensures one_acceptor_reply { OneAcceptorReply }
     ensures one_profile_reply { OneProfileReply }
     ensures offers_agree { OffersAgree }
     ensures plain_lets_in { PlainLetsIn }
     ensures plain_refuses { PlainRefuses }
+    ensures plain_identities { PlainIdentitiesAgree }
     ensures anonymous_lets_in { AnonymousLetsIn }
     ensures something_is_offered { SomethingIsOffered }
     ensures names_differ { NamesDiffer }

@@ -86,9 +86,9 @@ scram_by policy channel user version (Some secret) =
 
 -- the user's profile for PLAIN (RFC 4616, section 2), which sends the password
 abbrev pub plain_by : List ℕ → Secret → Option Profile
-plain_by user (Password password) = Some (PlainProfile user (password_bytes password))
+plain_by user (Password password) = Some (PlainProfile [] user (password_bytes password))
 plain_by user (Keys keys) = None
-plain_by user (Both password keys) = Some (PlainProfile user (password_bytes password))
+plain_by user (Both password keys) = Some (PlainProfile [] user (password_bytes password))
 
 -- the profile of a user with a secret by a mechanism, if the secret serves for it
 abbrev pub profile_by : ClientPolicy → List ℕ → Secret → Mechanism → Option Profile

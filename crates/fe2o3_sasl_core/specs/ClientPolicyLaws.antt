@@ -42,7 +42,7 @@ pub record SaysNotOffered (profile : Profile) : Type 0 where
 -- the profile is of EXTERNAL, PLAIN or ANONYMOUS, each of which the policy allows by its name
 abbrev pub IsAllowedByName : ClientPolicy → Profile → Type 0
 IsAllowedByName policy ExternalProfile = policy.external ≡ true
-IsAllowedByName policy (PlainProfile user password) = policy.plain ≡ true
+IsAllowedByName policy (PlainProfile identity user password) = policy.plain ≡ true
 IsAllowedByName policy AnonymousProfile = policy.anonymous ≡ true
 IsAllowedByName policy profile = ⊥
 

@@ -14,6 +14,7 @@ pub mod ExternalServer
 pub mod PasswordServer
 pub mod PlainServer
 pub mod PlainWords
+pub mod ActingProfiles
 pub mod ProfileFaults
 pub mod Profiles
 pub mod SaslProfile

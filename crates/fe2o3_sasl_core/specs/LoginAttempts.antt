@@ -46,7 +46,7 @@ NamesUser plus text name = (accept : Bool) × (first : ClientFirst)
 abbrev pub ClaimsUser : List ℕ → List ℕ → List ℕ → Type 0
 ClaimsUser mechanism text name =
     ((version : ScramVersion) × (plus : Bool) × (mechanism ≡ mechanism_of version plus) × NamesUser plus text name)
-    ⊎ ((mechanism ≡ codes "PLAIN") × ((parts : PlainParts) × SpellsPlain parts text × IsTaken parts
+    ⊎ ((mechanism ≡ codes "PLAIN") × ((parts : PlainParts) × SpellsPlain parts text × IsTaken true parts
     × (name ≡ parts.user)))
 
 -- the user name that an initial response claims, or none if it claims none

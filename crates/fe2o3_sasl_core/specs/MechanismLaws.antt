@@ -1,17 +1,20 @@
 -- Laws of every acceptor and every profile, of SCRAM and of the other mechanisms. Each is the contract of a clause of
 -- `laws::mechanisms`, `laws::replies` or `laws::users`.
-use Rattle.std.specs.Prelude.{◌≡◌, ◌≢◌, ◌⊎◌, ℕ, Bool, true, false, Option, Some, None, List, [], ◌∷◌, ◌++◌, is_some, map, slice_get, Result, Ok}
+use Rattle.std.specs.Prelude.{◌≡◌, ◌≢◌, ◌⊎◌, ℕ, Bool, true, false, Option, Some, None, List, [], ◌∷◌, ◌++◌, codes, is_some, map, slice_get, Result, Ok}
 use Rattle.std.specs.List.{AllByRecursion, Contains}
 use Rattle.fe2o3_sasl_wire.specs.declared.amqp_types.SaslCode.{SaslCode}
 use Rattle.fe2o3_sasl_wire.specs.declared.amqp_types.SaslCode.TheVariants as outcomes
 use Rattle.fe2o3_sasl_wire.specs.SaslFrames as frames
 use Rattle.fe2o3_sasl_wire.specs.SaslFrames.{SaslFrame}
 use Rattle.fe2o3_scram.specs.ChannelBinding.{is_bound}
+use Rattle.fe2o3_scram.specs.ScramClient.{identity_named}
 use Rattle.fe2o3_scram.specs.declared.hmac.ScramVersion.TheVariants.{Sha1, Sha256, Sha512}
+use Rattle.fe2o3_sasl_core.specs.ActingProfiles.{CanActFor}
 use Rattle.fe2o3_sasl_core.specs.Events.{Given, Login, ServerSays, Concluded}
 use Rattle.fe2o3_sasl_core.specs.Runs.{Runs, AcceptorSteps}
 use Rattle.fe2o3_sasl_core.specs.SaslAcceptor.{Acceptor, ScramAcceptor, PlainAcceptor, AnonymousAcceptor, acceptor_machine, acceptor_names, acceptor_user, offered, ends_with, NoZero}
-use Rattle.fe2o3_sasl_core.specs.Profiles.{Profile, ScramProfile, PlainProfile, AnonymousProfile, ExternalProfile, MessageProfile, AnonymousMessage, profile_machine, profile_name, scram_profile}
+use Rattle.fe2o3_sasl_core.specs.PlainServer.{PlainState, plain_machine}
+use Rattle.fe2o3_sasl_core.specs.Profiles.{Profile, ScramProfile, PlainProfile, AnonymousProfile, ExternalProfile, MessageProfile, AnonymousMessage, initial_response, profile_machine, profile_name, scram_profile}
 use Rattle.fe2o3_sasl_core.specs.declared.sasl_profile.error.ProfileError.{ProfileError}
 
 -- an acceptor has at most one reply to each frame, and one acceptor after it
@@ -67,15 +70,25 @@ EndsWith acceptor profile code next = (hostname : Option (List ℕ)) (client_non
 -- PLAIN lets in the same user with the same password, in words without zero bytes (RFC 4616, section 2)
 abbrev pub PlainLetsIn : Type 0
 PlainLetsIn = (user password : List ℕ) (accepted : Bool) → NoZero user → NoZero password
-    → EndsWith (PlainAcceptor user password accepted) (PlainProfile user password) outcomes.Ok
+    → EndsWith (PlainAcceptor user password accepted) (PlainProfile [] user password) outcomes.Ok
     (PlainAcceptor user password true)
 
 -- PLAIN rejects every other user and password, in words without zero bytes (RFC 4616, section 2)
 abbrev pub PlainRefuses : Type 0
 PlainRefuses = (user password other secret : List ℕ) (accepted : Bool) → NoZero other → NoZero secret
     → ¬ ((user ≡ other) × (password ≡ secret))
-    → EndsWith (PlainAcceptor user password accepted) (PlainProfile other secret) outcomes.Auth
+    → EndsWith (PlainAcceptor user password accepted) (PlainProfile [] other secret) outcomes.Auth
     (PlainAcceptor user password accepted)
+
+-- a server of PLAIN over records that answers Ok to the init of a profile names the profile's user and identity, in words
+-- that a message can have (RFC 4616, section 2)
+abbrev pub PlainIdentitiesAgree : Type 0
+PlainIdentitiesAgree = (server next : PlainState) (identity user password client_nonce server_nonce : List ℕ)
+    (hostname : Option (List ℕ)) → CanActFor (PlainProfile [] user password) identity
+    → plain_machine server server_nonce
+    (frames.Init (codes "PLAIN") (initial_response (PlainProfile identity user password) client_nonce) hostname)
+    (ends_with outcomes.Ok) next
+    → (next.user ≡ Some user) × (next.acts_for ≡ identity_named (Some identity))
 
 -- ANONYMOUS lets in every client that asks for it (RFC 4505, section 2)
 abbrev pub AnonymousLetsIn : Type 0
@@ -85,7 +98,7 @@ AnonymousLetsIn = EndsWith AnonymousAcceptor AnonymousProfile outcomes.Ok Anonym
 abbrev pub AreOfOneMechanism : Acceptor → Profile → Type 0
 AreOfOneMechanism (ScramAcceptor provider state) (ScramProfile client) =
     (client.version ≡ provider.version) × (is_bound client.channel ≡ is_some provider.rules.channels)
-AreOfOneMechanism (PlainAcceptor user password accepted) (PlainProfile other secret) = Unit {0}
+AreOfOneMechanism (PlainAcceptor user password accepted) (PlainProfile identity other secret) = Unit {0}
 AreOfOneMechanism AnonymousAcceptor AnonymousProfile = Unit {0}
 AreOfOneMechanism AnonymousAcceptor (MessageProfile AnonymousMessage message is_due) = Unit {0}
 AreOfOneMechanism acceptor profile = ⊥
@@ -109,7 +122,7 @@ Differ (name ∷ names) = AllByRecursion (λ other. name ≢ other) names × Dif
 abbrev pub six_profiles : Login → List ℕ → List Profile
 six_profiles login password =
     map (λ version. scram_profile (record login { version = version })) (Sha1 ∷ Sha256 ∷ Sha512 ∷ [])
-    ++ PlainProfile login.user password ∷ AnonymousProfile ∷ ExternalProfile ∷ []
+    ++ PlainProfile [] login.user password ∷ AnonymousProfile ∷ ExternalProfile ∷ []
 
 -- the names of the six profiles differ
 abbrev pub NamesDiffer : Type 0

@@ -201,7 +201,7 @@ abbrev pub all_scrams_acting : AllScramStates → Option (List ℕ)
 all_scrams_acting parts = part_names parts.selected (scrams_acting parts.first) (scrams_acting parts.second)
 
 abbrev pub others_acting : OtherStates → Option (List ℕ)
-others_acting parts = part_names parts.selected None (part_names parts.second.selected None None)
+others_acting parts = part_names parts.selected parts.first.acts_for (part_names parts.second.selected None None)
 
 abbrev pub password_acting : PasswordState → Option (List ℕ)
 password_acting server = let parts = server.inner in
@@ -246,9 +246,10 @@ pub record SavedExchange : Type 0 where
   pub state : ServerState
 
 -- what a server offers and knows: the records; the settings of mock authentication, if any; the hashes of SCRAM, and
--- what it accepts in a client's messages; who may act as whom in SCRAM; whether PLAIN is offered, the hash of its records, the iteration count for an
--- unknown user, if one is set, and the form of its passwords; whether ANONYMOUS is; the name of EXTERNAL, which is not
--- offered if the name is empty; and the exchange of SCRAM that the server continues, if any
+-- what it accepts in a client's messages; who may act as whom, in SCRAM and PLAIN; whether PLAIN is offered, the hash of
+-- its records, the iteration count for an unknown user, if one is set, and the form of its passwords; whether ANONYMOUS is;
+-- the name of EXTERNAL, which is not offered if the name is empty; and the exchange of SCRAM that the server continues, if
+-- any
 pub record PasswordSettings : Type 0 where
   pub records : MultiRecords
   pub mock : Option MockChoice
@@ -350,7 +351,10 @@ others_of settings = record {
     provider = provider_for settings.plain_version settings.records;
     count = count_of_unknown settings.plain_count settings.mock;
     passwords = settings.plain_passwords;
+    accept_authzid = settings.rules.accept_authzid;
+    rights = settings.rights;
     user = None;
+    acts_for = None;
   };
   second = record {
     first = AnonymousAcceptor;

@@ -33,7 +33,7 @@ IsMessageOf user password message = (message.user ≡ user) × (message.password
 -- the frame logs this user in: it is an init of PLAIN with a message that is accepted for a test, of this user, with this
 -- password
 abbrev pub LogsOneIn : List ℕ → List ℕ → SaslFrame → Type 0
-LogsOneIn user password frame = (message : PlainParts) × AsksPlain frame message × IsMessageOf user password message
+LogsOneIn user password frame = (message : PlainParts) × AsksPlain false frame message × IsMessageOf user password message
 
 -- the machine of the acceptor: a frame that logs the user in is answered by Ok, and every other by Auth
 abbrev pub strict_plain_machine : StrictPlain → List ℕ → SaslFrame → SaslFrame → StrictPlain → Type 0
@@ -43,8 +43,8 @@ strict_plain_machine plain nonce frame reply next = (LogsOneIn plain.user plain.
 
 -- a message is rejected that is not accepted for a test, and every other that is not of the user with the password
 abbrev pub OneRejected : List ℕ → List ℕ → List ℕ → Rejection → Type 0
-OneRejected user password text reasons.InvalidMessage = (message : PlainParts) → SpellsPlain message text → ¬ IsTaken message
-OneRejected user password text reasons.WrongPassword = (message : PlainParts) × SpellsPlain message text × IsTaken message
+OneRejected user password text reasons.InvalidMessage = (message : PlainParts) → SpellsPlain message text → ¬ IsTaken false message
+OneRejected user password text reasons.WrongPassword = (message : PlainParts) × SpellsPlain message text × IsTaken false message
     × ¬ IsMessageOf user password message
 OneRejected user password text reason = ⊥
 

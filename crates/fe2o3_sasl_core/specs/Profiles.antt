@@ -23,12 +23,13 @@ pub data MessageMechanism : Type 0 where
   AnonymousMessage : MessageMechanism
   ExternalMessage : MessageMechanism
 
--- the profiles: SCRAM of the three versions, PLAIN, ANONYMOUS and EXTERNAL; and the last two with an initial response. A
--- server that wants that response by a challenge sends an empty one first (RFC 4422, section 5), which is due after the
--- init until it is answered
+-- the profiles: SCRAM of the three versions; PLAIN with the identity that it asks to act for, which is empty if the user
+-- acts for itself (RFC 4616, section 2); ANONYMOUS and EXTERNAL; and the last two with an initial response. A server that
+-- wants that response by a challenge sends an empty one first (RFC 4422, section 5), which is due after the init until it
+-- is answered
 pub data Profile : Type 0 where
   ScramProfile : (client : ClientSide) → Profile
-  PlainProfile : (user password : List ℕ) → Profile
+  PlainProfile : (identity user password : List ℕ) → Profile
   AnonymousProfile : Profile
   ExternalProfile : Profile
   MessageProfile : (mechanism : MessageMechanism) (message : List ℕ) (is_due : Bool) → Profile
@@ -46,7 +47,7 @@ message_name ExternalMessage = codes "EXTERNAL"
 -- the name of a profile's mechanism
 abbrev pub profile_name : Profile → List ℕ
 profile_name (ScramProfile client) = mechanism_of client.version (is_bound client.channel)
-profile_name (PlainProfile user password) = codes "PLAIN"
+profile_name (PlainProfile identity user password) = codes "PLAIN"
 profile_name AnonymousProfile = codes "ANONYMOUS"
 profile_name ExternalProfile = codes "EXTERNAL"
 profile_name (MessageProfile mechanism message is_due) = message_name mechanism
@@ -55,7 +56,7 @@ profile_name (MessageProfile mechanism message is_due) = message_name mechanism
 abbrev pub initial_response : Profile → List ℕ → Option (List ℕ)
 initial_response (ScramProfile client) nonce =
     Some (client_first_with (header_of (header_in client)) client.user (base64_text nonce))
-initial_response (PlainProfile user password) nonce = Some (0 ∷ user ++ 0 ∷ password)
+initial_response (PlainProfile identity user password) nonce = Some (identity ++ 0 ∷ user ++ 0 ∷ password)
 initial_response (MessageProfile mechanism message is_due) nonce = Some message
 initial_response profile nonce = None
 

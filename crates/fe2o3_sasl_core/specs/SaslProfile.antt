@@ -21,7 +21,9 @@ message_profile mechanism single = MessageProfile mechanism (string_bytes single
 -- the profile that a value is
 abbrev pub profile_of : SaslProfile → Profile
 profile_of profiles.Anonymous = AnonymousProfile
-profile_of (profiles.Plain username password) = PlainProfile (string_bytes username) password
+profile_of (profiles.Plain username password) = PlainProfile [] (string_bytes username) password
+profile_of (profiles.PlainAs identity username password) =
+    PlainProfile (string_bytes identity) (string_bytes username) password
 profile_of profiles.External = ExternalProfile
 profile_of (profiles.AnonymousAs single) = message_profile AnonymousMessage single
 profile_of (profiles.ExternalAs single) = message_profile ExternalMessage single

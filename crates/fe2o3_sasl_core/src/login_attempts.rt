@@ -76,7 +76,7 @@ impl Clone for LoginAttempt {
 /// - For SCRAM-SHA-1-PLUS, SCRAM-SHA-256-PLUS and SCRAM-SHA-512-PLUS it is the unescaped name of the client-first
 ///   message, whose GS2 header is `p=tls-unique,,`, `p=tls-server-end-point,,` or `p=tls-exporter,,` (RFC 5802, sections
 ///   6 and 7), also if it names an identity to act for.
-/// - For PLAIN it is the name that `plain_user` returns (RFC 4616, section 2).
+/// - For PLAIN it is the name that `plain_user` returns (RFC 4616, section 2), also if the message names an identity.
 /// - A message that binds a channel or names an identity is read strictly, like by every server that accepts one
 ///   ([`ServerRules::strict`]).
 /// - For every other mechanism, and for a message that cannot be parsed, it is `None`.
@@ -117,8 +117,8 @@ fn binds_channel(mechanism: &str) -> Option<bool>
 }
 
 /// Returns the user name of a client-first message of SCRAM, with `-PLUS` or without it, or `None` if it cannot be parsed.
-/// It is read like by a server that accepts no identity, and if that fails, like by one that does, which tests extensions
-/// like a strict one.
+/// The message is read by the rules of a server that accepts no identity, and if that fails, by those of a server that
+/// accepts one, which tests extensions like a strict server.
 fn named_user(alloc: Global, message: &[u8], plus: bool) -> Result<Option<String>, OutOfMemory>
     ensures ok { IfOk result (λ user. MatchOption (option_map string_bytes user)
         ((name : List ℕ) → ¬ NamesUser plus message.now name) (NamesUser plus message.now)) }

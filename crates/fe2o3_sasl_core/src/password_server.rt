@@ -104,7 +104,10 @@ impl SaslAcceptor for PasswordServer {
             provider = same.0.1.0.0 i;
             count = same.0.1.0.1 i;
             passwords = same.0.1.0.2 i;
-            user = same.0.1.0.3 i;
+            accept_authzid = same.0.1.0.3 i;
+            rights = same.0.1.0.4 i;
+            user = same.0.1.0.5 i;
+            acts_for = same.0.1.0.6 i;
           };
           second = record { first = AnonymousAcceptor; second = same.0.1.1.1 i; selected = same.0.1.1.2 i };
           selected = same.0.1.2 i;

@@ -1,14 +1,16 @@
 //! The server's side of PLAIN over the records of SCRAM (RFC 4616).
 
-ghost use Rattle.std.specs.Prelude.{◌≡◌, ◌≤◌, ◌+◌, ◌^◌, ◌↔◌, ℕ, List, [], ◌∷◌, None, Some, IsTrue, IfOk, IfErr, MatchOption, OnErr, OnOk, codes, option_map, string_bytes};
+ghost use Rattle.std.specs.Prelude.{◌≡◌, ◌≤◌, ◌+◌, ◌^◌, ◌↔◌, ℕ, true, false, List, [], ◌∷◌, None, Some, IsTrue, IfOk, IfErr, MatchOption, OnErr, OnOk, codes, option_map, string_bytes};
 ghost use Rattle.std.specs.Str.{IsAscii};
-ghost use Rattle.std.proofs.Common.{ap, refl};
+ghost use Rattle.std.specs.Arc.{arc_value};
+ghost use Rattle.std.proofs.Common.{ap};
 ghost use Rattle.fe2o3_sasl_wire.specs.AmqpTypes.{init_frame, response_frame};
+ghost use Rattle.fe2o3_scram.specs.ActingRights.{may_act, some_rights};
 ghost use Rattle.fe2o3_scram.specs.Credentials.{CheckingCosts, record_at};
 ghost use Rattle.fe2o3_scram.specs.Passwords.{password_of};
-ghost use Rattle.fe2o3_scram.specs.Texts.{Cut};
+ghost use Rattle.fe2o3_scram.specs.Texts.{Cut, Without};
 ghost use Rattle.fe2o3_sasl_core.specs.Costs.{CostsAtMost};
-ghost use Rattle.fe2o3_sasl_core.specs.PlainServer.{AsksPlain, HasPassword, IsTaken, MeetsUser, PlainLogsIn, PlainParts, PlainState, PreparesPassword, SpellsPlain, TestingCosts, count_or, parts_of, plain_allocates, plain_hmacs, plain_machine, plain_reasons, plain_state};
+ghost use Rattle.fe2o3_sasl_core.specs.PlainServer.{AsksPlain, HasPassword, IsTaken, MeetsUser, PlainLogsIn, PlainParts, PlainState, PreparesPassword, SpellsPlain, TestingCosts, asked_identity, count_or, parts_of, plain_allocates, plain_hmacs, plain_machine, plain_reasons, plain_state};
 ghost use Rattle.fe2o3_sasl_core.specs.PlainWords.{IsPlainWord};
 ghost use Rattle.fe2o3_sasl_core.specs.SaslAcceptor.{HasReason, sent_frame};
 ghost use Rattle.fe2o3_sasl_core.specs.declared.plain_server.passwords.PlainPasswords.TheVariants.{Typed as FormTyped, Saslprep as FormSaslprep};
@@ -23,12 +25,14 @@ use crate::plain_server::passwords::prepare;
 use crate::rejection::Rejection;
 use crate::sasl_acceptor::{AuthenticatedUser, SaslAcceptor, SaslServerFrame, one_name, outcome};
 use fe2o3_sasl_wire::{Array, SaslCode, SaslInit, SaslResponse, Symbol};
+use fe2o3_scram::ActingRights;
 use fe2o3_scram::credentials::ScramCredentialProvider;
 use fe2o3_scram::hmac::Meter;
 use fe2o3_scram::passwords::Password;
 use fe2o3_scram::provider::StoredPassword;
 use std::alloc::{AllocError, Global};
 use std::fmt;
+use std::sync::Arc;
 
 /// The maximum length of a password that is tested, in bytes as received. RFC 4616 asks a server to accept at least 255.
 pub const MAX_PASSWORD_LEN: usize = 1024;
@@ -41,7 +45,8 @@ const NO_SALT: [u8; 16] = [0; 16];
 ///
 /// An init logs a user in if
 /// - its message is UTF-8 in three parts with zero bytes between them;
-/// - the first part, the identity to act as, is empty or the user's name;
+/// - the first part, the identity to act for, is empty or the user's name, or with `accept_authzid` one that the user may
+///   act for (RFC 4616, section 2);
 /// - the password is that of the user's record and has 1 to 1024 bytes of printable ASCII. [`PlainPasswords`] has the
 ///   forms of other passwords.
 ///
@@ -53,20 +58,34 @@ pub struct PlainServer<C: ScramCredentialProvider> {
     credentials: C,
     iterations: u32,
     passwords: PlainPasswords,
+    accept_authzid: bool,
+    rights: Option<Arc<ActingRights>>,
     user: Option<String>,
+    acts_for: Option<String>,
 }
 
 impl<C: ScramCredentialProvider> PlainServer<C> {
     /// Makes an acceptor for the users of this store, whose records have this iteration count.
     pub fn new(credentials: C, iterations: u32) -> Self
         ensures { plain_state C.meaning result
-            ≡ record { provider = C.meaning credentials; count = iterations; passwords = FormTyped; user = None } }
+            ≡ record {
+              provider = C.meaning credentials;
+              count = iterations;
+              passwords = FormTyped;
+              accept_authzid = false;
+              rights = [];
+              user = None;
+              acts_for = None;
+            } }
     {
         Self {
             credentials,
             iterations,
             passwords: PlainPasswords::Typed,
+            accept_authzid: false,
+            rights: None,
             user: None,
+            acts_for: None,
         }
     }
 
@@ -75,12 +94,33 @@ impl<C: ScramCredentialProvider> PlainServer<C> {
         ensures { plain_state C.meaning result
             ≡ record (plain_state C.meaning self) { passwords = passwords } }
     {
-        Self {
-            credentials: self.credentials,
-            iterations: self.iterations,
-            passwords,
-            user: self.user,
-        }
+        let mut server = self;
+        server.passwords = passwords;
+        server
+    }
+
+    /// Returns this acceptor, but with `accept` a client may name an identity to act for (RFC 4616, section 2). By itself the
+    /// option lets each user name only itself, which is allowed without it too: `with_acting_rights` lets users act for
+    /// others.
+    pub fn accept_authzid(self, accept: bool) -> Self
+        ensures { plain_state C.meaning result
+            ≡ record (plain_state C.meaning self) { accept_authzid = accept } }
+    {
+        let mut server = self;
+        server.accept_authzid = accept;
+        server
+    }
+
+    /// Returns this acceptor, but users may act for other identities by these rights. A client names one only with
+    /// `accept_authzid`. The right is tested after the password: a user without it is rejected like one with a wrong
+    /// password.
+    pub fn with_acting_rights(self, rights: Arc<ActingRights>) -> Self
+        ensures { plain_state C.meaning result
+            ≡ record (plain_state C.meaning self) { rights = rights.value } }
+    {
+        let mut server = self;
+        server.rights = Some(rights);
+        server
     }
 
     /// Returns the store of credentials.
@@ -90,47 +130,71 @@ impl<C: ScramCredentialProvider> PlainServer<C> {
         &self.credentials
     }
 
-    /// Returns this acceptor in the state after a login of this user, whom it then names. The caller vouches for the
-    /// name, since no message is checked. Pass the name that `authenticated_user` returned when the server was saved.
-    /// No password and no record is needed.
+    /// Returns this acceptor in the state after a login of this user, who acts for this identity. The caller vouches for
+    /// both, since no message is checked. Pass what `authenticated_user` and `acts_for` returned when the server was
+    /// saved. No password and no record is needed.
     ///
     /// The only error is `OutOfMemory`.
-    pub fn restore_authenticated(self, alloc: Global, username: &str) -> Result<Self, OutOfMemory>
-        ensures { IfOk result (λ plain. plain_state C.meaning plain
-            ≡ record (plain_state C.meaning self) { user = Some username.now }) }
+    pub fn restore_authenticated(
+        self,
+        alloc: Global,
+        username: &str,
+        acts_for: Option<&str>,
+    ) -> Result<Self, OutOfMemory>
+        ensures { IfOk result (λ plain. plain_state C.meaning plain ≡ record (plain_state C.meaning self) {
+          user = Some username.now;
+          acts_for = option_map (λ name. name.now) acts_for.entry;
+        }) }
     {
-        Ok(Self {
-            credentials: self.credentials,
-            iterations: self.iterations,
-            passwords: self.passwords,
-            user: Some(username.to_string(alloc)?),
-        })
+        let user = username.to_string(alloc)?;
+        let acts_for = owned(alloc, acts_for)?;
+        let mut server = self;
+        server.user = Some(user);
+        server.acts_for = acts_for;
+        Ok(server)
     }
 
-    /// Returns the user whom the init logs in. The meter counts the HMAC values. The only error is `OutOfMemory`.
+    /// Returns the message of the user whom the init logs in. The meter counts the HMAC values. The only error is
+    /// `OutOfMemory`.
     fn logged_in<'a>(
         &self,
         alloc: Global,
         init: &'a SaslInit,
         meter: &mut Meter,
-    ) -> Result<Option<&'a str>, OutOfMemory>
+    ) -> Result<Option<PlainMessage<'a>>, OutOfMemory>
         requires { meter.old ≤ 2 ^ 63 }
-        ensures user { IfOk result (λ user. MatchOption user
-            ((user : List ℕ) → ¬ PlainLogsIn self.now.passwords (C.meaning self.now.credentials) (init_frame init.now) user)
-            (λ user. PlainLogsIn self.now.passwords (C.meaning self.now.credentials) (init_frame init.now) user.now)) }
-        ensures memory { IfErr result (λ _. PreparesPassword self.now.passwords (init_frame init.now)) }
+        ensures user { IfOk result (λ found. MatchOption found
+            ((parts : PlainParts) → ¬ PlainLogsIn (plain_state C.meaning self.now) (init_frame init.now) parts)
+            (λ message. PlainLogsIn (plain_state C.meaning self.now) (init_frame init.now) (parts_of message))) }
+        ensures memory { IfErr result (λ _. PreparesPassword (plain_state C.meaning self.now) (init_frame init.now)) }
         ensures cost { CostsAtMost plain_hmacs (plain_state C.meaning self.now) (init_frame init.now)
             meter.old meter.new }
         ensures exactly { IfOk result (λ _. (n : ℕ) → plain_hmacs (plain_state C.meaning self.now) (init_frame init.now) n
             → meter.new ≡ meter.old + n) }
     {
-        let Some(message) = asked(init) else {
+        let Some(message) = asked(self.accept_authzid, init) else {
             return Ok(None);
         };
-        if self.has_password(alloc, &message, meter)? {
-            Ok(Some(message.username))
+        // The right is tested after the password, so that a client learns it only by the password.
+        if self.has_password(alloc, &message, meter)? && self.may_act(&message) {
+            Ok(Some(message))
         } else {
             Ok(None)
+        }
+    }
+
+    /// Returns whether the user of the message may act for the identity that it asks for.
+    fn may_act(&self, message: &PlainMessage<'_>) -> bool
+        ensures { result ≡ may_act (plain_state C.meaning self.now).rights (parts_of message.now).user
+            (asked_identity (parts_of message.now)) }
+    {
+        let identity = message.asked_identity();
+        match &self.rights {
+            Some(rights) => rights.may_act(message.username, identity),
+            None => match identity {
+                Some(name) => message.username == name,
+                None => true,
+            },
         }
     }
 
@@ -187,9 +251,9 @@ impl<C: ScramCredentialProvider> PlainServer<C> {
 
 /// Returns the message by which an init asks to log in, or `None` if it is of another mechanism, or carries none that
 /// is accepted.
-fn asked(init: &SaslInit) -> Option<PlainMessage<'_>>
-    ensures { MatchOption result ((parts : PlainParts) → ¬ AsksPlain (init_frame init.now) parts)
-        (λ message. AsksPlain (init_frame init.now) (parts_of message)) }
+fn asked(accepts: bool, init: &SaslInit) -> Option<PlainMessage<'_>>
+    ensures { MatchOption result ((parts : PlainParts) → ¬ AsksPlain accepts (init_frame init.now) parts)
+        (λ message. AsksPlain accepts (init_frame init.now) (parts_of message)) }
 {
     if PLAIN != init.mechanism.as_str() {
         return None;
@@ -197,14 +261,14 @@ fn asked(init: &SaslInit) -> Option<PlainMessage<'_>>
     let Some(response) = &init.initial_response else {
         return None;
     };
-    PlainMessage::read_taken(&response.0)
+    PlainMessage::read_taken(accepts, &response.0)
 }
 
 /// Returns why an init that logs nobody in is rejected. The message is parsed again, so that the proofs of a login name
 /// no reason.
-fn rejection_of(init: &SaslInit) -> Rejection
-    ensures { (server : PlainState)
-        → ((user : List ℕ) → ¬ PlainLogsIn server.passwords server.provider (init_frame init.now) user)
+fn rejection_of(accepts: bool, init: &SaslInit) -> Rejection
+    ensures { (server : PlainState) → server.accept_authzid ≡ accepts
+        → ((parts : PlainParts) → ¬ PlainLogsIn server (init_frame init.now) parts)
         → plain_reasons server (init_frame init.now) result }
 {
     if init.mechanism.as_str() != PLAIN {
@@ -213,21 +277,45 @@ fn rejection_of(init: &SaslInit) -> Rejection
     let Some(response) = &init.initial_response else {
         return Rejection::NoInitialResponse;
     };
-    match plain_user(&response.0) {
+    match PlainMessage::read_taken(accepts, &response.0) {
         None => Rejection::InvalidMessage,
         Some(_) => Rejection::WrongPassword,
     }
 }
 
 /// Returns the user of a message of PLAIN (RFC 4616, section 2), whose record you fetch, or `None` if the bytes are no
-/// acceptable message. The name is only claimed: the password is not tested yet.
+/// acceptable message. The name is only claimed: the password is not tested yet, nor the identity to act for.
 pub fn plain_user(message: &[u8]) -> Option<&str>
-    ensures { MatchOption result ((parts : PlainParts) → SpellsPlain parts message.now → ¬ IsTaken parts)
-        (λ user. (parts : PlainParts) × SpellsPlain parts message.now × IsTaken parts × (user.now ≡ parts.user)) }
+    ensures { MatchOption result ((parts : PlainParts) → SpellsPlain parts message.now → ¬ IsTaken true parts)
+        (λ user. (parts : PlainParts) × SpellsPlain parts message.now × IsTaken true parts × (user.now ≡ parts.user)) }
 {
-    match PlainMessage::read_taken(message) {
+    match PlainMessage::read_taken(true, message) {
         Some(message) => Some(message.username),
         None => None,
+    }
+}
+
+/// Returns the identity to act for that a message of PLAIN names (RFC 4616, section 2), or `None` if it names none, or if
+/// the bytes are no acceptable message. It is only claimed: neither the password nor the right is tested yet.
+pub fn plain_identity(message: &[u8]) -> Option<&str>
+    ensures { MatchOption result
+        ((parts : PlainParts) → SpellsPlain parts message.now → IsTaken true parts → asked_identity parts ≡ None)
+        (λ identity. (parts : PlainParts) × SpellsPlain parts message.now × IsTaken true parts
+        × (asked_identity parts ≡ Some identity.now)) }
+{
+    match PlainMessage::read_taken(true, message) {
+        Some(message) => message.asked_identity(),
+        None => None,
+    }
+}
+
+/// Returns an owned copy of the name.
+fn owned(alloc: Global, name: Option<&str>) -> Result<Option<String>, OutOfMemory>
+    ensures { IfOk result (λ copy. option_map string_bytes copy ≡ option_map (λ name. name.now) name.entry) }
+{
+    match name {
+        Some(name) => Ok(Some(name.to_string(alloc)?)),
+        None => Ok(None),
     }
 }
 
@@ -253,13 +341,14 @@ pub(crate) struct PlainMessage<'a> {
 }
 
 impl<'a> PlainMessage<'a> {
-    /// Reads the message, or returns `None` if the bytes are none that is accepted.
-    pub(crate) fn read_taken(bytes: &'a [u8]) -> Option<PlainMessage<'a>>
-        ensures { MatchOption result ((parts : PlainParts) → SpellsPlain parts bytes.now → ¬ IsTaken parts)
-            (λ message. SpellsPlain (parts_of message) bytes.now × IsTaken (parts_of message)) }
+    /// Reads the message, or returns `None` if the bytes are none that is accepted for a test. `accepts` says whether it may
+    /// name any identity.
+    pub(crate) fn read_taken(accepts: bool, bytes: &'a [u8]) -> Option<PlainMessage<'a>>
+        ensures { MatchOption result ((parts : PlainParts) → SpellsPlain parts bytes.now → ¬ IsTaken accepts parts)
+            (λ message. SpellsPlain (parts_of message) bytes.now × IsTaken accepts (parts_of message)) }
     {
         let message = PlainMessage::read(bytes)?;
-        if message.is_taken() {
+        if message.is_taken(accepts) {
             Some(message)
         } else {
             None
@@ -294,9 +383,9 @@ impl<'a> PlainMessage<'a> {
         }
     }
 
-    /// Returns whether the message names a user, with a password, and nobody else to act as.
-    fn is_taken(&self) -> bool
-        ensures { IsTrue result ↔ IsTaken (parts_of self.now) }
+    /// Returns whether the message names a user, with a password, and an identity that is accepted for a test.
+    fn is_taken(&self, accepts: bool) -> bool
+        ensures { IsTrue result ↔ IsTaken accepts (parts_of self.now) }
     {
         if self.username.is_empty() || self.password.is_empty() {
             return false;
@@ -304,7 +393,18 @@ impl<'a> PlainMessage<'a> {
         if self.password.len() > MAX_PASSWORD_LEN {
             return false;
         }
-        self.identity.is_empty() || self.identity == self.username
+        accepts || self.identity.is_empty() || self.identity == self.username
+    }
+
+    /// Returns the identity that the message asks to act for, or `None` if its user acts for itself.
+    fn asked_identity(&self) -> Option<&'a str>
+        ensures { option_map (λ name. name.now) result ≡ asked_identity (parts_of self.now) }
+    {
+        if self.identity.is_empty() {
+            None
+        } else {
+            Some(self.identity)
+        }
     }
 }
 
@@ -313,10 +413,15 @@ impl<'a> PlainMessage<'a> {
 pub(crate) fn is_plain_word(word: &str) -> bool
     ensures { IsTrue result ↔ IsPlainWord word.now }
 {
-    if word.is_empty() {
-        return false;
-    }
-    match cut_at_zero(word) {
+    !word.is_empty() && lacks_zero(word)
+}
+
+/// Returns whether the text has no zero byte.
+#[tactic(auto, using(crate::proofs::lemmas::machines::PlainMessageLemmas::plain_word))]
+pub(crate) fn lacks_zero(text: &str) -> bool
+    ensures { IsTrue result ↔ Without 0 text.now }
+{
+    match cut_at_zero(text) {
         Some(_) => false,
         None => true,
     }
@@ -345,14 +450,20 @@ impl<C: ScramCredentialProvider> Clone for PlainServer<C> {
     ghost is_clone = { λ plain copy. C.is_clone plain.credentials copy.credentials
         × (copy.iterations ≡ plain.iterations)
         × (copy.passwords ≡ plain.passwords)
-        × (option_map string_bytes copy.user ≡ option_map string_bytes plain.user) };
+        × (copy.accept_authzid ≡ plain.accept_authzid)
+        × (some_rights (option_map arc_value copy.rights) ≡ some_rights (option_map arc_value plain.rights))
+        × (option_map string_bytes copy.user ≡ option_map string_bytes plain.user)
+        × (option_map string_bytes copy.acts_for ≡ option_map string_bytes plain.acts_for) };
 
     fn clone(&self) -> Result<Self, AllocError> {
         Ok(Self {
             credentials: self.credentials.clone()?,
             iterations: self.iterations,
             passwords: self.passwords,
+            accept_authzid: self.accept_authzid,
+            rights: self.rights.clone()?,
             user: self.user.clone()?,
+            acts_for: self.acts_for.clone()?,
         })
     }
 }
@@ -374,7 +485,15 @@ impl<C: ScramCredentialProvider> SaslAcceptor for PlainServer<C> {
 
     ghost clone_keeps = { λ acceptor copy same.
         let kept = C.clone_keeps acceptor.credentials copy.credentials same.0 in
-        λ i. record { provider = kept i; count = same.1 i; passwords = same.2 i; user = same.3 i } };
+        λ i. record {
+          provider = kept i;
+          count = same.1 i;
+          passwords = same.2 i;
+          accept_authzid = same.3 i;
+          rights = same.4 i;
+          user = same.5 i;
+          acts_for = same.6 i;
+        } };
 
     fn mechanisms(&self, alloc: Global) -> Result<Array<Symbol>, OutOfMemory> {
         one_name(alloc, PLAIN)
@@ -416,13 +535,15 @@ impl<C: ScramCredentialProvider> SaslAcceptor for PlainServer<C> {
             meter.old meter.new }
         ensures exactly { IfOk result (λ _. (n : ℕ) → plain_hmacs (plain_state C.meaning self.old) (init_frame init) n
             → meter.new ≡ meter.old + n) }
-        ensures unprepared { ¬ PreparesPassword self.old.passwords (init_frame init) → (n : ℕ)
+        ensures unprepared { ¬ PreparesPassword (plain_state C.meaning self.old) (init_frame init) → (n : ℕ)
             → plain_hmacs (plain_state C.meaning self.old) (init_frame init) n → meter.new ≡ meter.old + n }
     {
-        let Some(username) = self.logged_in(alloc, &init, meter)? else {
-            return Ok(SaslServerFrame::Rejected(rejection_of(&init)));
+        let Some(message) = self.logged_in(alloc, &init, meter)? else {
+            return Ok(SaslServerFrame::Rejected(rejection_of(self.accept_authzid, &init)));
         };
-        self.user = Some(username.to_string(alloc)?);
+        let user = message.username.to_string(alloc)?;
+        self.acts_for = owned(alloc, message.asked_identity())?;
+        self.user = Some(user);
         Ok(outcome(SaslCode::Ok))
     }
 }
@@ -430,18 +551,18 @@ impl<C: ScramCredentialProvider> SaslAcceptor for PlainServer<C> {
 impl<C: ScramCredentialProvider> AuthenticatedUser for PlainServer<C> {
     ghost named = { λ plain. (plain_state C.meaning plain).user };
 
-    ghost acting = { λ _. None };
+    ghost acting = { λ plain. (plain_state C.meaning plain).acts_for };
 
     ghost named_by_state = { λ acceptor other same. ap (λ (server : PlainState). server.user) same };
 
-    ghost acting_by_state = { λ acceptor other same. refl };
+    ghost acting_by_state = { λ acceptor other same. ap (λ (server : PlainState). server.acts_for) same };
 
     fn authenticated_user(&self) -> Option<&str> {
         self.user.as_deref()
     }
 
     fn acts_for(&self) -> Option<&str> {
-        None
+        self.acts_for.as_deref()
     }
 }
 

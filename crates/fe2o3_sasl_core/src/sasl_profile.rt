@@ -1,12 +1,13 @@
 //! The client's side of a negotiation: what it answers to the frames of a server (AMQP 1.0, part 5, section 5.3.2).
 
-ghost use Rattle.std.specs.Prelude.{◌≡◌, ◌++◌, ◌∷◌, false, IfOk, IfErr, OnOk, OnErr, MatchOption, IsAscii, option_map, string_bytes};
+ghost use Rattle.std.specs.Prelude.{◌≡◌, ◌++◌, ◌∷◌, [], false, IfOk, IfErr, OnOk, OnErr, MatchOption, IsAscii, option_map, string_bytes};
 ghost use Rattle.fe2o3_sasl_wire.specs.AmqpTypes.{binary_bytes};
 ghost use Rattle.fe2o3_sasl_core.specs.Profiles.{ScramProfile, PlainProfile, MessageProfile, AnonymousMessage, ExternalMessage, scram_profile, profile_name, initial_response, after_init};
 ghost use Rattle.fe2o3_sasl_core.specs.PlainWords.{ArePlainWords};
 ghost use Rattle.fe2o3_sasl_core.specs.Runs.{login_with};
 ghost use Rattle.fe2o3_sasl_core.specs.SaslProfile.{RefusesUrl, HasCredentials, profile_of};
 
+mod acting;
 mod error;
 mod frames;
 mod saved;
@@ -39,6 +40,18 @@ pub enum SaslProfile {
 
     /// PLAIN (RFC 4616).
     Plain {
+        /// The user name.
+        username: String,
+
+        /// The password, which is overwritten before its memory is freed.
+        password: SecretText,
+    },
+
+    /// PLAIN that asks to act for an identity, made by [`SaslProfile::acting_for`].
+    PlainAs {
+        /// The identity.
+        identity: String,
+
         /// The user name.
         username: String,
 
@@ -82,7 +95,7 @@ impl SaslProfile {
     /// Makes a PLAIN profile for this user with this password. The words are sent unchanged: an empty word is not
     /// rejected, nor a zero byte, at which the reader splits the message (RFC 4616, section 2, allows neither).
     pub fn plain(username: String, password: String) -> SaslProfile
-        ensures { profile_of result ≡ PlainProfile (string_bytes username) (string_bytes password) }
+        ensures { profile_of result ≡ PlainProfile [] (string_bytes username) (string_bytes password) }
     {
         SaslProfile::Plain {
             username,
@@ -95,7 +108,7 @@ impl SaslProfile {
     pub fn plain_checked(username: String, password: String) -> Option<SaslProfile>
         ensures { MatchOption result (¬ ArePlainWords (string_bytes username) (string_bytes password))
             (λ profile. ArePlainWords (string_bytes username) (string_bytes password)
-            × (profile_of profile ≡ PlainProfile (string_bytes username) (string_bytes password))) }
+            × (profile_of profile ≡ PlainProfile [] (string_bytes username) (string_bytes password))) }
     {
         if is_plain_word(&username) && is_plain_word(&password) {
             Some(SaslProfile::plain(username, password))
@@ -128,7 +141,7 @@ impl SaslProfile {
     /// blanks, controls, some signs and non-ASCII with percent signs, and no escape is decoded. The scheme is ignored,
     /// so `amqp` sends the password like `amqps` does. NoCredentials if one of the two is empty or absent.
     pub fn from_url(alloc: Global, url: &Url) -> Result<SaslProfile, UrlError>
-        ensures ok { IfOk result (λ profile. profile_of profile ≡ PlainProfile url.now.username url.now.password) }
+        ensures ok { IfOk result (λ profile. profile_of profile ≡ PlainProfile [] url.now.username url.now.password) }
         ensures both { IfOk result (λ _. HasCredentials url.now) }
         ensures err { IfErr result (λ fault. RefusesUrl url.now fault) }
     {
@@ -171,7 +184,7 @@ impl SaslProfile {
     {
         match self {
             SaslProfile::Anonymous => ANONYMOUS,
-            SaslProfile::Plain { .. } => PLAIN,
+            SaslProfile::Plain { .. } | SaslProfile::PlainAs { .. } => PLAIN,
             SaslProfile::External => EXTERNAL,
             SaslProfile::AnonymousAs(_) => ANONYMOUS,
             SaslProfile::ExternalAs(_) => EXTERNAL,
@@ -204,8 +217,13 @@ impl SaslProfile {
         match self {
             SaslProfile::Anonymous | SaslProfile::External => Ok(None),
             SaslProfile::Plain { username, password } => {
-                Ok(Some(plain_message(alloc, username, password.as_str())?))
+                Ok(Some(plain_message(alloc, "", username, password.as_str())?))
             }
+            SaslProfile::PlainAs {
+                identity,
+                username,
+                password,
+            } => Ok(Some(plain_message(alloc, identity, username, password.as_str())?)),
             SaslProfile::AnonymousAs(single) => Ok(Some(single.start(alloc)?)),
             SaslProfile::ExternalAs(single) => Ok(Some(single.start(alloc)?)),
             SaslProfile::ScramSha1(scram) => {
@@ -228,6 +246,15 @@ impl Clone for SaslProfile {
         Ok(match self {
             SaslProfile::Anonymous => SaslProfile::Anonymous,
             SaslProfile::Plain { username, password } => SaslProfile::Plain {
+                username: username.clone()?,
+                password: password.clone()?,
+            },
+            SaslProfile::PlainAs {
+                identity,
+                username,
+                password,
+            } => SaslProfile::PlainAs {
+                identity: identity.clone()?,
                 username: username.clone()?,
                 password: password.clone()?,
             },
@@ -274,12 +301,22 @@ impl From<SaslScramSha512> for SaslProfile {
 }
 
 impl fmt::Debug for SaslProfile {
-    /// Writes the mechanism and the user name, without the password.
+    /// Writes the mechanism, the user name and the identity, without the password.
     fn fmt<W: fmt::Write>(&self, f: &mut fmt::Formatter<W>) -> fmt::Result {
         match self {
             SaslProfile::Anonymous => f.write_str("Anonymous"),
             SaslProfile::Plain { username, .. } => {
                 write!(f, "Plain {{ username: {username:?}, .. }}")
+            }
+            SaslProfile::PlainAs {
+                identity,
+                username,
+                ..
+            } => {
+                write!(
+                    f,
+                    "PlainAs {{ identity: {identity:?}, username: {username:?}, .. }}"
+                )
             }
             SaslProfile::External => f.write_str("External"),
             SaslProfile::AnonymousAs(single) => write!(f, "AnonymousAs({single:?})"),
@@ -308,16 +345,23 @@ impl fmt::Debug for Negotiation {
     }
 }
 
-/// Returns the message of PLAIN: no authorization identity, a zero byte, the user name, a zero byte and the password
-/// (RFC 4616, section 2).
-fn plain_message(alloc: Global, username: &str, password: &str) -> Result<Binary, OutOfMemory>
-    ensures { IfOk result (λ message. binary_bytes message ≡ 0 ∷ username.now ++ 0 ∷ password.now) }
+/// Returns the message of PLAIN: the identity to act for, which is empty for the user's own, a zero byte, the user name, a
+/// zero byte and the password (RFC 4616, section 2).
+fn plain_message(
+    alloc: Global,
+    identity: &str,
+    username: &str,
+    password: &str,
+) -> Result<Binary, OutOfMemory>
+    ensures { IfOk result (λ message. binary_bytes message ≡ identity.now ++ 0 ∷ username.now ++ 0 ∷ password.now) }
 {
-    let room = username
+    let room = identity
         .len()
+        .saturating_add(username.len())
         .saturating_add(password.len())
         .saturating_add(2);
     let mut message = Vec::with_capacity(alloc, room)?;
+    message.extend_from_slice(identity.as_bytes())?;
     message.push(0)?;
     message.extend_from_slice(username.as_bytes())?;
     message.push(0)?;

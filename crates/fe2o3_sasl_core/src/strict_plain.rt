@@ -1,6 +1,6 @@
 //! The strict acceptor of PLAIN for one user (RFC 4616, section 2).
 
-ghost use Rattle.std.specs.Prelude.{◌≡◌, ◌≢◌, ◌↔◌, IsTrue, ◌∷◌, [], IfOk, IsOk, MatchOption, ℕ, List, Some, codes, option_map, string_bytes, None};
+ghost use Rattle.std.specs.Prelude.{◌≡◌, ◌≢◌, ◌↔◌, false, IsTrue, ◌∷◌, [], IfOk, IsOk, MatchOption, ℕ, List, Some, codes, option_map, string_bytes, None};
 ghost use Rattle.std.proofs.Common.{ap, refl};
 ghost use Rattle.fe2o3_sasl_wire.specs.AmqpTypes.{init_frame, response_frame};
 ghost use Rattle.fe2o3_sasl_core.specs.PlainServer.{IsTaken, PlainParts, SpellsPlain, parts_of};
@@ -53,11 +53,11 @@ impl StrictPlainMechanism {
     #[tactic(auto, using(crate::proofs::lemmas::machines::StrictPlainLemmas::messages))]
     fn rejection_of(&self, text: &[u8]) -> Option<Rejection>
         ensures { MatchOption result
-            ((message : PlainParts) × SpellsPlain message text.now × IsTaken message
+            ((message : PlainParts) × SpellsPlain message text.now × IsTaken false message
             × IsMessageOf (strict_plain_of self.now).user (strict_plain_of self.now).password message)
             (λ reason. OneRejected (strict_plain_of self.now).user (strict_plain_of self.now).password text.now reason) }
     {
-        let Some(message) = PlainMessage::read_taken(text) else {
+        let Some(message) = PlainMessage::read_taken(false, text) else {
             return Some(Rejection::InvalidMessage);
         };
         if self.is_named_by(&message) {

@@ -6,6 +6,7 @@ use Rattle.fe2o3_sasl_wire.specs.SaslFrames as frames
 use Rattle.fe2o3_sasl_wire.specs.SaslFrames.{SaslFrame}
 use Rattle.fe2o3_sasl_wire.specs.declared.sasl_frames.error.Error.{Error}
 use Rattle.fe2o3_scram.specs.ClientSecret.{Secret, secret_of}
+use Rattle.fe2o3_sasl_core.specs.ActingProfiles.{CanActFor, acting_profile}
 use Rattle.fe2o3_sasl_core.specs.Bodies.{SpellsBody}
 use Rattle.fe2o3_sasl_core.specs.ClientPolicy.{CanTake, SelectsProfile, by_strength}
 use Rattle.fe2o3_sasl_core.specs.Events.{Given}
@@ -26,24 +27,38 @@ use Rattle.fe2o3_sasl_negotiation.specs.declared.progress.Expected.TheVariants.{
 use Rattle.fe2o3_sasl_negotiation.specs.declared.progress.FrameKind.{FrameKind}
 use Rattle.fe2o3_sasl_negotiation.specs.declared.side.ConnectionSide.{ConnectionSide}
 
--- what a client selects by: the user and the secret, which mechanisms it may log in by, and the hostname that its init
--- carries, if any
+-- what a client selects by: the user and the secret, which mechanisms it may log in by, the identity that it asks to act
+-- for, if any, and the hostname that its init carries, if any
 pub record Selection : Type 0 where
   pub user : List ℕ
   pub secret : Secret
   pub policy : ClientPolicy
+  pub acts_for : Option (List ℕ)
   pub hostname : Option (List ℕ)
 
--- the profile that is selected of these mechanisms: that of the strongest that is offered, that the policy allows and
--- for which the secret serves
-abbrev pub IsSelected : Selection → List (List ℕ) → Profile → Type 0
-IsSelected selection names profile =
-    SelectsProfile selection.policy selection.user selection.secret names profile
+-- a chosen profile asks to act for this identity, if one is named (RFC 4422, section 2)
+abbrev pub IsActing : Option (List ℕ) → Profile → Profile → Type 0
+IsActing None chosen profile = profile ≡ chosen
+IsActing (Some identity) chosen profile = CanActFor chosen identity × (profile ≡ acting_profile chosen identity)
 
--- none of these mechanisms can be selected
+-- a chosen profile cannot ask to act for this identity
+abbrev pub CannotAct : Option (List ℕ) → Profile → Type 0
+CannotAct None chosen = ⊥
+CannotAct (Some identity) chosen = ¬ CanActFor chosen identity
+
+-- the profile that is selected of these mechanisms: that of the strongest that is offered, that the policy allows and
+-- for which the secret serves; it asks to act for the client's identity
+abbrev pub IsSelected : Selection → List (List ℕ) → Profile → Type 0
+IsSelected selection names profile = (chosen : Profile)
+    × SelectsProfile selection.policy selection.user selection.secret names chosen
+    × IsActing selection.acts_for chosen profile
+
+-- none of these mechanisms can be selected, or the selected one cannot ask to act for the client's identity
 abbrev pub NoneIsSelected : Selection → List (List ℕ) → Type 0
 NoneIsSelected selection names =
     AllByRecursion (λ mechanism. ¬ CanTake selection.policy selection.user selection.secret names mechanism) by_strength
+    ⊎ ((chosen : Profile) × SelectsProfile selection.policy selection.user selection.secret names chosen
+    × CannotAct selection.acts_for chosen)
 
 -- what a client answers to an offer of these mechanisms, before it has a profile: what a client of the selected profile
 -- does; or, if there is none, it closes like a client whose mechanism is not offered
@@ -101,6 +116,7 @@ selection_of login = record {
   user = login.username.now;
   secret = secret_of login.secret;
   policy = login.policy;
+  acts_for = option_map (λ name. name.now) login.acts_for;
   hostname = option_map string_bytes login.hostname;
 }
 

@@ -1,6 +1,6 @@
 //! A client that selects its mechanism from the server's offer (AMQP 1.0, part 5, section 5.3.3.2).
 
-ghost use Rattle.std.specs.Prelude.{◌≡◌, ◌≤◌, ◌^◌, ℕ, false, List, Option, None, [], IfOk, OnErr, option_map, string_bytes, length, drop, min, refl};
+ghost use Rattle.std.specs.Prelude.{◌≡◌, ◌≤◌, ◌^◌, ℕ, false, List, Option, None, [], IfOk, OnErr, MatchOption, option_map, string_bytes, length, drop, min, refl};
 ghost use Rattle.std.proofs.Common.{inl};
 ghost use Rattle.fe2o3_scram.specs.ClientSecret.{secret_of};
 ghost use Rattle.fe2o3_sasl_core.specs.Profiles.{Profile};
@@ -8,7 +8,7 @@ ghost use Rattle.fe2o3_sasl_core.specs.SaslProfile.{profile_of};
 ghost use Rattle.fe2o3_sasl_negotiation.specs.Connections.{SpellsTurn};
 ghost use Rattle.fe2o3_sasl_negotiation.specs.Memory.{ClientAsks};
 ghost use Rattle.fe2o3_sasl_negotiation.specs.Nonces.{client_uses_nonce};
-ghost use Rattle.fe2o3_sasl_negotiation.specs.PolicyClient.{PolicyCosts, PolicyReplies, PolicySideAnswers, Selection, endpoint_selection, selected_profile, selection_of};
+ghost use Rattle.fe2o3_sasl_negotiation.specs.PolicyClient.{IsSelected, NoneIsSelected, PolicyCosts, PolicyReplies, PolicySideAnswers, Selection, endpoint_selection, selected_profile, selection_of};
 ghost use Rattle.fe2o3_sasl_negotiation.specs.private.Units.{Appends};
 ghost use Rattle.fe2o3_sasl_negotiation.specs.declared.progress.Expected.TheVariants.{Header};
 ghost use Rattle.fe2o3_sasl_negotiation.specs.declared.progress.Progress.TheVariants.{InProgress};
@@ -21,7 +21,7 @@ use bytes::BytesMut;
 use fe2o3_sasl_core::{
     ChoiceError, ClientPolicy, OutOfMemory, ProfileError, SaslProfile, select_mechanism,
 };
-use fe2o3_sasl_wire::FrameView;
+use fe2o3_sasl_wire::{FrameView, SymbolsView};
 use fe2o3_scram::{ClientSecret, Meter};
 use std::alloc::Global;
 
@@ -37,6 +37,10 @@ pub struct PolicyLogin<'a> {
     /// Which mechanisms the client may log in by.
     pub policy: ClientPolicy,
 
+    /// The identity that the client asks to act for, or `None` if the user acts for itself
+    /// ([`SaslProfile::acting_for`]).
+    pub acts_for: Option<&'a str>,
+
     /// The hostname that the init carries, if any.
     pub hostname: Option<String>,
 }
@@ -50,9 +54,33 @@ pub struct PolicyEndpoint<'a> {
 
 /// The client's side of one connection, which selects its mechanism from the server's offer. When the list of mechanisms
 /// is complete, it selects a profile like [`select_mechanism`], and goes on like a
-/// [`ClientNegotiation`](crate::ClientNegotiation) of this profile. If no offered mechanism can be selected, it sends
-/// nothing and fails with `Mechanism(NotImplemented)`.
+/// [`ClientNegotiation`](crate::ClientNegotiation) of this profile. If no offered mechanism can be selected, or the
+/// selected one cannot ask to act for the client's identity, it sends nothing and fails with `Mechanism(NotImplemented)`.
 pub type PolicyClient<'a> = ConnectionSide<PolicyEndpoint<'a>, ClientRole>;
+
+/// Returns the profile for this offer, which asks to act for the client's identity, or `None` if there is none.
+fn selected(
+    alloc: Global,
+    login: &PolicyLogin<'_>,
+    names: &SymbolsView<'_>,
+) -> Result<Option<SaslProfile>, OutOfMemory>
+    ensures { IfOk result (λ selected. MatchOption selected (NoneIsSelected (selection_of login.now) names.now)
+        (λ profile. IsSelected (selection_of login.now) names.now (profile_of profile))) }
+{
+    let chosen =
+        match select_mechanism(alloc, names, login.username, &login.secret, login.policy) {
+            Ok(chosen) => chosen,
+            Err(ChoiceError::NoAcceptableMechanism) => return Ok(None),
+            Err(ChoiceError::OutOfMemory) => return Err(OutOfMemory),
+        };
+    match login.acts_for {
+        Some(identity) => {
+            let identity = String::from_str(alloc, identity)?;
+            Ok(chosen.acting_for(identity))
+        }
+        None => Ok(Some(chosen)),
+    }
+}
 
 /// Selects a profile for the list of mechanisms, which begins with its size, and answers by this profile.
 fn answer_offer(
@@ -84,8 +112,8 @@ fn answer_offer(
     let FrameView::Mechanisms(names) = view else {
         return Ok(Step::closed(CloseReason::UnexpectedFrame, expected));
     };
-    match select_mechanism(alloc, &names, login.username, &login.secret, login.policy) {
-        Ok(mut selected) => {
+    match selected(alloc, login, &names)? {
+        Some(mut selected) => {
             let hostname = shown_name(&login.hostname);
             let step = reply(
                 alloc,
@@ -100,11 +128,10 @@ fn answer_offer(
             *profile = Some(selected);
             Ok(step)
         }
-        Err(ChoiceError::NoAcceptableMechanism) => Ok(Step::closed(
+        None => Ok(Step::closed(
             CloseReason::Mechanism(ProfileError::NotImplemented),
             expected,
         )),
-        Err(ChoiceError::OutOfMemory) => Err(OutOfMemory),
     }
 }
 

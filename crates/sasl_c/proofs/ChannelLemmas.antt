@@ -1,5 +1,5 @@
 -- Why numbers and bytes say nothing of a channel.
-use Rattle.std.proofs.Common.{arith, refl, inl, inr, sym, ◌≡◌, ◌≢◌, ◌<◌, ◌≤◌, ◌⊎◌, ◌∷◌, [], ℕ, List, length}
+use Rattle.std.proofs.Common.{arith, refl, inl, inr, ◌≡◌, ◌≢◌, ◌<◌, ◌≤◌, ◌⊎◌, ℕ, List}
 use Rattle.std.specs.Prelude.{true, false}
 use Rattle.std.proofs.Math.Dec.{eqb}
 use Rattle.std.proofs.lemmas.Bool.{cases_lt}
@@ -10,7 +10,6 @@ use Rattle.fe2o3_scram.specs.declared.scram_messages.client_channel.ClientChanne
 use Rattle.fe2o3_scram.specs.Readings.{IsFirst, NoneHolds}
 use Rattle.fe2o3_scram.specs.declared.channel_binding.ChannelKind.{ChannelKind}
 use Rattle.sasl_c.specs.Channels.{HasNoChannelData, IsChannel, NamesNoChannel, channel_tests, kind_number}
-use Rattle.sasl_c.specs.declared.status.Status.{Status}
 use Rattle.sasl_c.specs.declared.status.Status.TheVariants as statuses
 
 -- a client that binds no channel

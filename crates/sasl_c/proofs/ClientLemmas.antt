@@ -1,21 +1,22 @@
 -- That what a client answers has room: its message within a bound by the length of the challenge, its signature in a struct.
-use Rattle.std.proofs.Common.{true, false, rules, arith, refl, sym, inl, inr, ap, ◌≢◌, ◌∙◌, ◌≡◌, ◌≤◌, ◌<◌, ◌+◌, ◌++◌, ◌∷◌, ◌⊎◌, [], ℕ, List, length, take}
+use Rattle.std.proofs.Common.{true, false, rules, arith, refl, sym, inl, inr, ap, ◌≢◌, ◌∙◌, ◌≡◌, ◌≤◌, ◌<◌, ◌+◌, ◌*◌, ◌++◌, ◌∷◌, ◌⊎◌, [], ℕ, List, length, take}
 use Rattle.std.proofs.Math.Dec.{eqb}
 use Rattle.std.proofs.lemmas.Bool.{cases_lt}
 use Rattle.std.proofs.lemmas.Bool.Decides.{eqb_tells}
 use Rattle.fe2o3_scram.specs.Readings.{IsFirst, NoneHolds}
 use Rattle.fe2o3_scram.proofs.lemmas.messages.TestListLemmas.{first_or_none}
-use Rattle.std.specs.Prelude.{Option, Some, None, Result, Ok, Err, IfOk, IfErr, codes, slice_get, bit_xor, ◌||◌}
+use Rattle.std.specs.Prelude.{Bool, Option, Some, None, Result, Ok, Err, IfOk, IfErr, codes, slice_get, bit_xor, ◌||◌, ◌==◌, if◌then◌else◌}
 use Rattle.std.specs.List.{zip}
 use Rattle.base64.proofs.ReadLemmas.{take-shorter}
 use Rattle.std.proofs.lemmas.List.{length-append, length-map}
 use Rattle.std.proofs.lemmas.Slice.Zip.{length-zip}
 use Rattle.fe2o3_scram.specs.declared.scram_messages.client_channel.ClientChannel.{ClientChannel}
 use Rattle.fe2o3_scram.specs.declared.scram_messages.client_channel.ClientChannel.TheVariants.{Absent, NotOffered, Bound}
-use Rattle.fe2o3_scram.specs.declared.scram_messages.channel_binding_flag.ChannelBindingFlag.{ChannelBindingFlag}
-use Rattle.fe2o3_scram.specs.declared.scram_messages.channel_binding_flag.ChannelBindingFlag.TheVariants.{NotSupported, ClientSupports, Required}
+use Rattle.fe2o3_scram.specs.declared.scram_messages.channel_binding_flag.ChannelBindingFlag.TheVariants.{Required}
+use Rattle.fe2o3_scram.specs.declared.channel_binding.ChannelKind.{ChannelKind}
 use Rattle.fe2o3_scram.specs.declared.channel_binding.ChannelKind.TheVariants.{TlsUnique, TlsServerEndPoint, TlsExporter}
-use Rattle.fe2o3_scram.specs.ChannelBinding.{cbind_input, data_bytes, header_text, ClientHeader, needs_strict, own_header}
+use Rattle.fe2o3_scram.specs.ChannelBinding.{authzid_text, cbind_data, cbind_input, data_bytes, flag_of, flag_text, ClientHeader, needs_strict}
+use Rattle.fe2o3_scram.specs.Escape.{escaped, escaped_byte}
 use Rattle.fe2o3_scram.specs.declared.hmac.ScramVersion.{ScramVersion}
 use Rattle.fe2o3_scram.specs.declared.hmac.ScramVersion.TheVariants as versions
 use Rattle.fe2o3_scram.specs.ClientFinal.{Answer, client_final_of, keys_for, without_proof_with}
@@ -24,7 +25,7 @@ use Rattle.fe2o3_scram.specs.ClientKeys.{ClientKeys}
 use Rattle.fe2o3_scram.specs.ClientSecret.{Secret}
 use Rattle.fe2o3_scram.specs.Hmac.{exclusive_or}
 use Rattle.fe2o3_scram.specs.Keys.{client_proof, client_signature, server_signature, stored_key, auth_message}
-use Rattle.fe2o3_scram.specs.ScramClient.{AnswersIn, VerifiesIn, ClientSide, ClientState, ClientInitial, ClientFirstSent, ClientFinalSent, SignatureVerified, Complete, ChecksSignatureIn, ConcludesIn, with_state, header_in}
+use Rattle.fe2o3_scram.specs.ScramClient.{AnswersIn, VerifiesIn, ClientSide, ClientState, ClientInitial, ClientFirstSent, ClientFinalSent, SignatureVerified, Complete, ChecksSignatureIn, ConcludesIn, with_state, header_in, identity_named}
 use Rattle.fe2o3_scram.specs.ServerFirst.{Client, NamesServerFirst, ReadsServerFirst, ServerFirst, client_of}
 use Rattle.fe2o3_scram.specs.ServerFinal.{ReadsServerFinal}
 use Rattle.fe2o3_scram.specs.ServerFirstAnswers.{AnswersServerFirst}
@@ -39,13 +40,13 @@ use Rattle.sasl_c.specs.declared.status.Status.{Status}
 use Rattle.sasl_c.specs.declared.status.Status.TheVariants as statuses
 use Rattle.sasl_c.specs.declared.login.Login.{Login}
 use Rattle.sasl_c.specs.declared.client.ScramClient.{ScramClient as Struct}
-use Rattle.sasl_c.specs.Client.{AnswersByMessage, AwaitsSignature, Verifies, HasSecret, Holds, IsAnswer, IsChannelOf, IsClientOf, IsTestedLogin, IsNoLogin, IsNoSecret, IsReached, IsSecretOf, IsSide, IsState, IsVerifyStatus, NotAnswered, Responds, WritesClient, complete_struct, name_tests, is_set}
+use Rattle.sasl_c.specs.Client.{answer_more, AnswersByMessage, AwaitsSignature, CanBeNamed, Verifies, HasSecret, Holds, IsAnswer, IsChannelOf, IsClientOf, IsHeaderOf, IsTestedLogin, IsNoLogin, IsNoSecret, IsReached, IsSecretOf, IsSide, IsState, IsVerifyStatus, NotAnswered, Responds, WritesClient, complete_struct, header_tests, name_tests, is_set}
 use Rattle.sasl_c.specs.declared.keys.ScramKeys.{ScramKeys as KeysStruct}
 use Rattle.sasl_c.specs.Keys.{shown_keys}
 use Rattle.sasl_c.specs.Records.{IsVersion}
-use Rattle.sasl_c.specs.Channels.{answer_more, channel_tests, header_with}
+use Rattle.sasl_c.specs.Channels.{channel_more, identity_more}
 use Rattle.sasl_c.proofs.ChannelLemmas.{some_channel}
-use Rattle.sasl_c.proofs.LoginLemmas.{no_secrets}
+use Rattle.sasl_c.proofs.LoginLemmas.{can_be_named, no_secrets}
 use Rattle.sasl_c.proofs.StatusLemmas.{carried}
 use Rattle.sasl_c.proofs.TextLemmas.{short, short_text, text_length}
 use Rattle.sasl_c.specs.Status.{client_status}
@@ -76,30 +77,27 @@ part_short text part held = go held.0 held.1.whole held.2 where
     same : length part ≡ length first
     same = search rules
 
--- a GS2 header has at most 24 bytes, and that of a client that binds no channel has 3
-short_header : (flag : ChannelBindingFlag) → length (header_text (own_header flag)) ≤ 24
-short_header NotSupported = omega arith
-short_header ClientSupports = omega arith
-short_header (Required TlsUnique) = omega arith
-short_header (Required TlsServerEndPoint) = omega arith
-short_header (Required TlsExporter) = omega arith
+-- an identity takes three bytes for each of its own at most
+escape_fits : (comma equals : Bool) (byte : ℕ)
+    → length (if comma then codes "=2C" else (if equals then codes "=3D" else byte ∷ [])) ≤ 3
+escape_fits true equals byte = omega arith
+escape_fits false true byte = omega arith
+escape_fits false false byte = omega arith
 
--- the first part of a client-final message, where no channel is bound, and where one is
-no_data_binding : (header : ClientHeader) → length (cbind_input header) ≤ 3
-    → length (codes "c=" ++ base64_text (cbind_input header)) ≤ 6
-no_data_binding header fits =
-    let two : length (codes "c=") ≡ 2 = refl in
-    omega (
-      arith,
-      fits,
-      two,
-      text_length (cbind_input header),
-      length-append (codes "c=") (base64_text (cbind_input header)),
-    )
+escaped_fits : (name : List ℕ) → length (escaped name) ≤ 3 * length name
+unfolding escaped
+escaped_fits [] = omega arith
+escaped_fits (byte ∷ name) = omega (
+  arith,
+  length-append (escaped_byte byte) (escaped name),
+  escape_fits (byte == 44) (byte == 61) byte,
+  escaped_fits name,
+)
 
-data_binding : (header : ClientHeader) → length (cbind_input header) ≤ 88
-    → length (codes "c=" ++ base64_text (cbind_input header)) ≤ 122
-data_binding header fits =
+-- the first part of a client-final message, by the length of the header with the data of the channel
+coded_fits : (header : ClientHeader) (k : ℕ) → length (cbind_input header) ≤ 3 * k
+    → length (codes "c=" ++ base64_text (cbind_input header)) ≤ 4 * k + 2
+coded_fits header k fits =
     let two : length (codes "c=") ≡ 2 = refl in
     omega (
       arith,
@@ -161,21 +159,68 @@ answer_fits (ClientFinalSent signature keys) side next text message held = absur
 answer_fits (SignatureVerified keys) side next text message held = absurd held
 answer_fits (Complete keys) side next text message held = absurd held
 
+-- what a client of a login says of its channel in its header, with the data
+abbrev said_of : ClientChannel → ℕ
+said_of channel = length (flag_text (flag_of channel)) + length (cbind_data channel)
+
+channel_fits : (login : Login) (channel : ClientChannel) → IsChannelOf login channel
+    → ((channel_more login.channel_use ≡ 128) × (said_of channel ≤ 1))
+    ⊎ ((channel_more login.channel_use ≡ 256) × (said_of channel ≤ 86))
+channel_fits login Absent is = inl (ap channel_more is, omega arith)
+channel_fits login NotOffered is = inl (ap channel_more is, omega arith)
+channel_fits login (Bound binding) is = inr (ap channel_more is.0, omega (arith, few, short_flag binding.kind)) where
+  short_flag : (kind : ChannelKind) → length (flag_text (Required kind)) ≤ 22
+  short_flag TlsUnique = omega arith
+  short_flag TlsServerEndPoint = omega arith
+  short_flag TlsExporter = omega arith
+
+  few : length (data_bytes binding.cbind_data) ≤ 64
+  few = omega (arith, ap length is.2, is.4, take-shorter login.channel_data_len login.channel_data)
+
+-- and of its identity
+identity_fits : (name : List ℕ) (acts_for : Option (List ℕ)) → acts_for ≡ identity_named (Some name) → CanBeNamed name
+    → ((identity_more name ≡ 0) × (length (authzid_text acts_for) ≡ 0))
+    ⊎ ((identity_more name ≡ 1024) × (length (authzid_text acts_for) ≤ 770))
+identity_fits [] acts_for same can = inl (refl, ap (λ (a : Option (List ℕ)). length (authzid_text a)) same)
+identity_fits (byte ∷ name) acts_for same can =
+    let two : length (codes "a=") ≡ 2 = refl in
+    let is = ap (λ (a : Option (List ℕ)). length (authzid_text a)) same in
+    let whole = length-append (codes "a=") (escaped (byte ∷ name)) in
+    inr (refl, omega (arith, is, whole, two, escaped_fits (byte ∷ name), can.1))
+
 -- the first part of the answer of a client of a login
-binding_fits : (login : Login) (channel : ClientChannel) → IsChannelOf login channel
-    → length (codes "c=" ++ base64_text (cbind_input (header_with channel))) + 92 ≤ answer_more login.channel_use
-binding_fits login Absent is = rw is (omega (arith, no_data_binding (header_with Absent) (omega arith)))
-binding_fits login NotOffered is = rw is (omega (arith, no_data_binding (header_with NotOffered) (omega arith)))
-binding_fits login (Bound binding) is =
-    let few : length (data_bytes binding.cbind_data) ≤ 64 = omega (
-      arith,
-      ap length is.2,
-      is.4,
-      take-shorter login.channel_data_len login.channel_data,
-    ) in
-    let whole = length-append (header_text (own_header (Required binding.kind))) (data_bytes binding.cbind_data) in
-    let fits = data_binding (header_with (Bound binding)) (omega (arith, few, whole, short_header (Required binding.kind))) in
-    rw is.0 (omega (arith, fits))
+binding_fits : (login : Login) (header : ClientHeader) → IsHeaderOf login header
+    → length (codes "c=" ++ base64_text (cbind_input header)) + 92 ≤ answer_more login
+binding_fits login header is = go (channel_fits login header.channel is.0)
+    (identity_fits login.acts_for.now header.acts_for is.1 is.2) where
+      one : length (codes ",") ≡ 1
+      one = refl
+
+      flag : List ℕ
+      flag = flag_text (flag_of header.channel)
+
+      named : List ℕ
+      named = authzid_text header.acts_for
+
+      whole : length (cbind_input header) ≡ said_of header.channel + length named + 2
+      whole = omega (
+        arith,
+        one,
+        length-append (flag ++ (codes "," ++ (named ++ codes ","))) (cbind_data header.channel),
+        length-append flag (codes "," ++ (named ++ codes ",")),
+        length-append (codes ",") (named ++ codes ","),
+        length-append named (codes ","),
+      )
+
+      go : ((channel_more login.channel_use ≡ 128) × (said_of header.channel ≤ 1))
+          ⊎ ((channel_more login.channel_use ≡ 256) × (said_of header.channel ≤ 86))
+          → ((identity_more login.acts_for.now ≡ 0) × (length named ≡ 0))
+          ⊎ ((identity_more login.acts_for.now ≡ 1024) × (length named ≤ 770))
+          → length (codes "c=" ++ base64_text (cbind_input header)) + 92 ≤ answer_more login
+      go (inl few) (inl none) = omega (arith, few.0, none.0, coded_fits header 1 (omega (arith, whole, few.1, none.1)))
+      go (inl few) (inr some) = omega (arith, few.0, some.0, coded_fits header 258 (omega (arith, whole, few.1, some.1)))
+      go (inr more) (inl none) = omega (arith, more.0, none.0, coded_fits header 30 (omega (arith, whole, more.1, none.1)))
+      go (inr more) (inr some) = omega (arith, more.0, some.0, coded_fits header 286 (omega (arith, whole, more.1, some.1)))
 
 -- the client is of the same login in another state
 pub moved_login : (login : Login) (side : ClientSide) (state : ClientState) → IsClientOf login side
@@ -186,8 +231,7 @@ moved_login login side state is = record {
   secret = is.secret;
   least = is.least;
   most = is.most;
-  channel = is.channel;
-  own = is.own;
+  header = is.header;
   strict = is.strict;
   signed = is.signed;
 }
@@ -206,32 +250,31 @@ answering_login login (Complete keys) side next text message held is = absurd he
 abbrev limits_of : Login → IterationLimits
 limits_of login = record { min_iterations = login.min_iterations; max_iterations = login.max_iterations }
 
-abbrev first_side : Login → Struct → ScramVersion → Secret → ClientChannel → ClientSide
-first_side login before version secret channel = record {
+abbrev first_side : Login → Struct → ScramVersion → Secret → ClientHeader → ClientSide
+first_side login before version secret header = record {
   user = login.username.now;
   secret = secret;
   version = version;
   limits = limits_of login;
-  channel = channel;
-  acts_for = None;
+  channel = header.channel;
+  acts_for = header.acts_for;
   strict = is_set login.strict;
   signature_by_challenge = is_set login.signature_by_challenge;
   state =
       ClientFirstSent (base64_text before.nonce) (client_first_bare login.username.now (base64_text before.nonce));
 }
 
-is_first_side : (login : Login) (before : Struct) (version : ScramVersion) (secret : Secret) (channel : ClientChannel)
-    → IsVersion login.version version → IsSecretOf login secret → IsChannelOf login channel → before.state ≡ 1
-    → IsSide login before (first_side login before version secret channel)
-is_first_side login before version secret channel known has binds sent = (
+is_first_side : (login : Login) (before : Struct) (version : ScramVersion) (secret : Secret) (header : ClientHeader)
+    → IsVersion login.version version → IsSecretOf login secret → IsHeaderOf login header → before.state ≡ 1
+    → IsSide login before (first_side login before version secret header)
+is_first_side login before version secret header known has binds sent = (
   record {
     version = known;
     user = refl;
     secret = has;
     least = refl;
     most = refl;
-    channel = binds;
-    own = refl;
+    header = binds;
     strict = refl;
     signed = refl;
   },
@@ -239,62 +282,62 @@ is_first_side login before version secret channel known has binds sent = (
 )
 
 -- what such a client knows
-abbrev client_by : Login → Secret → ClientChannel → List ℕ → Client
-client_by login secret channel nonce = client_of nonce secret (limits_of login) (header_with channel) (is_set login.strict)
+abbrev client_by : Login → Secret → ClientHeader → List ℕ → Client
+client_by login secret header nonce = client_of nonce secret (limits_of login) header (is_set login.strict)
 
 -- what is held against a text is what that client holds
-as_sent : (login : Login) (before : Struct) (version : ScramVersion) (secret : Secret) (channel : ClientChannel)
+as_sent : (login : Login) (before : Struct) (version : ScramVersion) (secret : Secret) (header : ClientHeader)
     (nonce bare text : List ℕ)
     (answer : Result Answer ScramErrorKind) → nonce ≡ base64_text before.nonce
     → bare ≡ client_first_bare login.username.now nonce
-    → AnswersServerFirst version (client_by login secret channel nonce) bare text answer
-    → AnswersServerFirst version (client_by login secret channel (base64_text before.nonce))
+    → AnswersServerFirst version (client_by login secret header nonce) bare text answer
+    → AnswersServerFirst version (client_by login secret header (base64_text before.nonce))
     (client_first_bare login.username.now (base64_text before.nonce)) text answer
-as_sent login before version secret channel nonce bare text answer spelled first held =
+as_sent login before version secret header nonce bare text answer spelled first held =
     let user = login.username.now in
     let whole = first ∙ ap (client_first_bare user) spelled in
-    carried (λ given. AnswersServerFirst version (client_by login secret channel (base64_text before.nonce)) given text
+    carried (λ given. AnswersServerFirst version (client_by login secret header (base64_text before.nonce)) given text
     answer) bare (client_first_bare user (base64_text before.nonce)) whole
-    (carried (λ given. AnswersServerFirst version (client_by login secret channel given) bare text answer) nonce
+    (carried (λ given. AnswersServerFirst version (client_by login secret header given) bare text answer) nonce
     (base64_text before.nonce) spelled held)
 
 -- what it answers by a secret, and what it rejects
-pub answered_by : (login : Login) (before : Struct) (version : ScramVersion) (secret : Secret) (channel : ClientChannel)
+pub answered_by : (login : Login) (before : Struct) (version : ScramVersion) (secret : Secret) (header : ClientHeader)
     (nonce bare text : List ℕ)
-    (answer : Answer) → IsVersion login.version version → IsSecretOf login secret → IsChannelOf login channel
+    (answer : Answer) → IsVersion login.version version → IsSecretOf login secret → IsHeaderOf login header
     → before.state ≡ 1
     → nonce ≡ base64_text before.nonce → bare ≡ client_first_bare login.username.now nonce
     → AnswersServerFirst version
     (client_of nonce secret (record { min_iterations = login.min_iterations; max_iterations = login.max_iterations })
-    (header_with channel) (is_set login.strict)) bare text (Ok answer)
+    header (is_set login.strict)) bare text (Ok answer)
     → IsAnswer login before text answer
 unfolding AnswersByMessage
-answered_by login before version secret channel nonce bare text answer known has binds sent spelled first held =
-    let side = first_side login before version secret channel in (
+answered_by login before version secret header nonce bare text answer known has binds sent spelled first held =
+    let side = first_side login before version secret header in (
       with_state side (ClientFinalSent answer.signature (Some answer.keys)),
       (
         side,
-        is_first_side login before version secret channel known has binds sent,
-        (answer, as_sent login before version secret channel nonce bare text (Ok answer) spelled first held, refl, refl),
+        is_first_side login before version secret header known has binds sent,
+        (answer, as_sent login before version secret header nonce bare text (Ok answer) spelled first held, refl, refl),
       ),
       refl,
     )
 
-pub refused_by : (login : Login) (before : Struct) (version : ScramVersion) (secret : Secret) (channel : ClientChannel)
+pub refused_by : (login : Login) (before : Struct) (version : ScramVersion) (secret : Secret) (header : ClientHeader)
     (nonce bare text : List ℕ)
     (why : ScramErrorKind) (status : Status) → IsVersion login.version version → IsSecretOf login secret
-    → IsChannelOf login channel
+    → IsHeaderOf login header
     → before.state ≡ 1 → nonce ≡ base64_text before.nonce → bare ≡ client_first_bare login.username.now nonce
     → (why ≢ NoMemory → AnswersServerFirst version
     (client_of nonce secret (record { min_iterations = login.min_iterations; max_iterations = login.max_iterations })
-    (header_with channel) (is_set login.strict)) bare text (Err why)) → status ≡ client_status why → status ≢ statuses.OutOfMemory
+    header (is_set login.strict)) bare text (Err why)) → status ≡ client_status why → status ≢ statuses.OutOfMemory
     → NotAnswered login before text status
 unfolding NotAnswered
-refused_by login before version secret channel nonce bare text why status known has binds sent spelled first held gives other =
+refused_by login before version secret header nonce bare text why status known has binds sent spelled first held gives other =
     let told : why ≢ NoMemory = λ same. other (gives ∙ ap client_status same) in
-    let refuses = as_sent login before version secret channel nonce bare text (Err why) spelled first (held told) in
-    let side = first_side login before version secret channel in
-    inr (why, gives, (side, is_first_side login before version secret channel known has binds sent, (refuses, refl)))
+    let refuses = as_sent login before version secret header nonce bare text (Err why) spelled first (held told) in
+    let side = first_side login before version secret header in
+    inr (why, gives, (side, is_first_side login before version secret header known has binds sent, (refuses, refl)))
 
 -- a client that has sent another message last
 not_due_in : (user : List ℕ) (before : Struct) (state : ClientState) (side : ClientSide) (text : List ℕ)
@@ -355,31 +398,30 @@ state_by user before other = state_of user before other (equal_or before.state 2
     (cases_lt 64 before.signature_len)
 
 -- a client of the login in this state
-abbrev side_with : Login → ScramVersion → Secret → ClientChannel → ClientState → ClientSide
-side_with login version secret channel state = record {
+abbrev side_with : Login → ScramVersion → Secret → ClientHeader → ClientState → ClientSide
+side_with login version secret header state = record {
   user = login.username.now;
   secret = secret;
   version = version;
   limits = limits_of login;
-  channel = channel;
-  acts_for = None;
+  channel = header.channel;
+  acts_for = header.acts_for;
   strict = is_set login.strict;
   signature_by_challenge = is_set login.signature_by_challenge;
   state = state;
 }
 
-is_side_with : (login : Login) (before : Struct) (version : ScramVersion) (secret : Secret) (channel : ClientChannel)
-    (state : ClientState) → IsVersion login.version version → IsSecretOf login secret → IsChannelOf login channel
-    → IsState login.username.now before state → IsSide login before (side_with login version secret channel state)
-is_side_with login before version secret channel state known has binds is = (
+is_side_with : (login : Login) (before : Struct) (version : ScramVersion) (secret : Secret) (header : ClientHeader)
+    (state : ClientState) → IsVersion login.version version → IsSecretOf login secret → IsHeaderOf login header
+    → IsState login.username.now before state → IsSide login before (side_with login version secret header state)
+is_side_with login before version secret header state known has binds is = (
   record {
     version = known;
     user = refl;
     secret = has;
     least = refl;
     most = refl;
-    channel = binds;
-    own = refl;
+    header = binds;
     strict = refl;
     signed = refl;
   },
@@ -390,9 +432,14 @@ secret_of_login : (login : Login) → HasSecret login → (secret : Secret) × I
 unfolding HasSecret
 secret_of_login login held = held.0
 
--- a tested login says something of its channel
-channel_of : (login : Login) → NoneHolds (name_tests login) → (channel : ClientChannel) × IsChannelOf login channel
-channel_of login none = some_channel login.channel_use login.channel_kind login.channel_data_len login.channel_data none.1.1
+-- a tested login has a header
+header_of_login : (login : Login) → NoneHolds (name_tests login) → (header : ClientHeader) × IsHeaderOf login header
+header_of_login login none =
+    let name = login.acts_for.now in
+    let channel = some_channel login.channel_use login.channel_kind login.channel_data_len login.channel_data
+    none.1.1.1.1.1 in
+    let can = can_be_named name none.1.1.1.0 none.1.1.1.1.0 in
+    (record { channel = channel.0; acts_for = identity_named (Some name) }, (channel.1, refl, can))
 
 pub not_due : (login : Login) (before : Struct) (text : List ℕ) (version : ScramVersion)
     → IsVersion login.version version → IsTestedLogin login → before.state ≢ 1
@@ -401,14 +448,14 @@ unfolding NotAnswered
 not_due login before text version known is other =
     let secret = secret_of_login login is.1 in
     let state = state_by login.username.now before other in
-    let channel = channel_of login is.0 in
-    let side = side_with login version secret.0 channel.0 state.0 in
+    let header = header_of_login login is.0 in
+    let side = side_with login version secret.0 header.0 state.0 in
     inr (
       IllegalClientState,
       refl,
       (
         side,
-        is_side_with login before version secret.0 channel.0 state.0 known secret.1 channel.1 state.1,
+        is_side_with login before version secret.0 header.0 state.0 known secret.1 header.1 state.1,
         not_due_in login.username.now before state.0 side text state.1 other,
       ),
     )
@@ -417,17 +464,14 @@ not_due login before text version known is other =
 pub answer_has_room : (login : Login) (before : Struct) (text message signature : List ℕ) (keys : ClientKeys)
     → (next : ClientSide) × AnswersByMessage login before text message next
     × (next.state ≡ ClientFinalSent signature (Some keys))
-    → length message ≤ length text + answer_more login.channel_use
+    → length message ≤ length text + answer_more login
 unfolding AnswersByMessage
 answer_has_room login before text message signature keys held =
     let given = held.1.0 in
-    let own : header_in given ≡ header_with given.channel =
-    λ i. record { channel = given.channel; acts_for = held.1.1.0.own i } in
     omega (
       arith,
-      carried (λ (header : ClientHeader). length message ≤ length text + length (codes "c=" ++ base64_text (cbind_input header)) + 92)
-          (header_in given) (header_with given.channel) own (answer_fits given.state given held.0 text message held.1.2).0,
-      binding_fits login given.channel held.1.1.0.channel,
+      (answer_fits given.state given held.0 text message held.1.2).0,
+      binding_fits login (header_in given) held.1.1.0.header,
     )
 
 -- the struct of a client that waits is that of the client after the answer
@@ -538,16 +582,16 @@ verifies login before after side next text verified is held written = (
 )
 
 pub server_verified : (login : Login) (before after : Struct) (text signature : List ℕ) (version : ScramVersion)
-    (channel : ClientChannel) (verified : Unit {0}) → IsVersion login.version version → IsTestedLogin login
-    → IsChannelOf login channel → AwaitsSignature before → signature ≡ take before.signature_len before.signature
-    → ReadsServerFinal (needs_strict (header_with channel) || is_set login.strict) signature text (Ok verified)
+    (header : ClientHeader) (verified : Unit {0}) → IsVersion login.version version → IsTestedLogin login
+    → IsHeaderOf login header → AwaitsSignature before → signature ≡ take before.signature_len before.signature
+    → ReadsServerFinal (needs_strict header || is_set login.strict) signature text (Ok verified)
     → after ≡ complete_struct before.keys → Verifies login text before after (Ok tt)
-server_verified login before after text signature version channel verified known is binds waits same reads written =
+server_verified login before after text signature version header verified known is binds waits same reads written =
     let secret = secret_of_login login is.1 in
     let keys = holds before.keys in
-    let side = side_with login version secret.0 channel (ClientFinalSent signature keys.0) in
+    let side = side_with login version secret.0 header (ClientFinalSent signature keys.0) in
     verifies login before after side (with_state side (Complete keys.0)) text verified
-    (is_side_with login before version secret.0 channel (ClientFinalSent signature keys.0) known secret.1 binds
+    (is_side_with login before version secret.0 header (ClientFinalSent signature keys.0) known secret.1 binds
     (waits.0, waits.1, same, keys.1))
     (reads, refl)
     written
@@ -558,31 +602,29 @@ verify_memory : (text : List ℕ) (why : ScramErrorKind) (status : Status) → I
 verify_memory text why status is other same =
     other (carried (λ (kind : ScramErrorKind). IsVerifyStatus text kind status) why NoMemory same is)
 
--- the channel of a tested login is one
-pub tested_channel : (login : Login) (status : Status) → IsTestedLogin login
-    → IsFirst (channel_tests login.channel_use login.channel_kind login.channel_data_len) status → ⊥
-tested_channel login status is first =
-    first_or_none (channel_tests login.channel_use login.channel_kind login.channel_data_len) status first is.0.1.1
+-- the header of a tested login is one
+pub tested_header : (login : Login) (status : Status) → IsTestedLogin login → IsFirst (header_tests login) status → ⊥
+tested_header login status is first = first_or_none (header_tests login) status first is.0.1.1
 
 pub unverified : (login : Login) (before : Struct) (text signature : List ℕ) (version : ScramVersion)
-    (channel : ClientChannel) (why : ScramErrorKind) (status : Status) → IsVersion login.version version
-    → IsTestedLogin login → IsChannelOf login channel → AwaitsSignature before → signature ≡ take before.signature_len before.signature
-    → (why ≢ NoMemory → ReadsServerFinal (needs_strict (header_with channel) || is_set login.strict) signature text (Err why)) → IsVerifyStatus text why status
+    (header : ClientHeader) (why : ScramErrorKind) (status : Status) → IsVersion login.version version
+    → IsTestedLogin login → IsHeaderOf login header → AwaitsSignature before → signature ≡ take before.signature_len before.signature
+    → (why ≢ NoMemory → ReadsServerFinal (needs_strict header || is_set login.strict) signature text (Err why)) → IsVerifyStatus text why status
     → Verifies login text before before (Err status)
 unfolding Verifies
-unverified login before text signature version channel why status known is binds waits same held gives = (
+unverified login before text signature version header why status known is binds waits same held gives = (
   refl,
   λ other.
       let told : why ≢ NoMemory = verify_memory text why status gives other in
       let secret = secret_of_login login is.1 in
       let keys = holds before.keys in
-      let side = side_with login version secret.0 channel (ClientFinalSent signature keys.0) in
+      let side = side_with login version secret.0 header (ClientFinalSent signature keys.0) in
       inr (
         why,
         gives,
         (
           side,
-          is_side_with login before version secret.0 channel (ClientFinalSent signature keys.0) known secret.1 binds
+          is_side_with login before version secret.0 header (ClientFinalSent signature keys.0) known secret.1 binds
               (waits.0, waits.1, same, keys.1),
           (held told, refl),
         ),
@@ -626,14 +668,14 @@ not_waiting login before text version known is other = (
   λ memory.
       let secret = secret_of_login login is.1 in
       let state = any_state login.username.now before (equal_or before.state 1) in
-      let channel = channel_of login is.0 in
-      let side = side_with login version secret.0 channel.0 state.0 in
+      let header = header_of_login login is.0 in
+      let side = side_with login version secret.0 header.0 state.0 in
       inr (
         IllegalClientState,
         refl,
         (
           side,
-          is_side_with login before version secret.0 channel.0 state.0 known secret.1 channel.1 state.1,
+          is_side_with login before version secret.0 header.0 state.0 known secret.1 header.1 state.1,
           not_waiting_in login.username.now before state.0 side text state.1 other,
         ),
       ),

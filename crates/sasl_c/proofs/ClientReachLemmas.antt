@@ -151,16 +151,16 @@ scram_moves words client hostname nonce (frames.Init mechanism response host) re
 scram_moves words client hostname nonce (frames.Response text) reply moved is stands = (client, is.1, stands)
 
 -- a profile that is not of SCRAM stays as it is
-plain_stays : (user password : List ℕ) (hostname : Option (List ℕ)) (nonce : List ℕ) (frame : SaslFrame)
+plain_stays : (identity user password : List ℕ) (hostname : Option (List ℕ)) (nonce : List ℕ) (frame : SaslFrame)
     (reply : Result SaslFrame ProfileError) (moved : Profile)
-    → profile_machine (PlainProfile user password) hostname nonce frame reply moved
-    → moved ≡ PlainProfile user password
-plain_stays user password hostname nonce (frames.Mechanisms names) reply moved (inl is) = is.2
-plain_stays user password hostname nonce (frames.Mechanisms names) reply moved (inr is) = is.2
-plain_stays user password hostname nonce (frames.Challenge text) reply moved is = is.1
-plain_stays user password hostname nonce (frames.Outcome code more) reply moved is = is.1
-plain_stays user password hostname nonce (frames.Init mechanism response host) reply moved is = is.1
-plain_stays user password hostname nonce (frames.Response text) reply moved is = is.1
+    → profile_machine (PlainProfile identity user password) hostname nonce frame reply moved
+    → moved ≡ PlainProfile identity user password
+plain_stays identity user password hostname nonce (frames.Mechanisms names) reply moved (inl is) = is.2
+plain_stays identity user password hostname nonce (frames.Mechanisms names) reply moved (inr is) = is.2
+plain_stays identity user password hostname nonce (frames.Challenge text) reply moved is = is.1
+plain_stays identity user password hostname nonce (frames.Outcome code more) reply moved is = is.1
+plain_stays identity user password hostname nonce (frames.Init mechanism response host) reply moved is = is.1
+plain_stays identity user password hostname nonce (frames.Response text) reply moved is = is.1
 
 anonymous_stays : (hostname : Option (List ℕ)) (nonce : List ℕ) (frame : SaslFrame)
     (reply : Result SaslFrame ProfileError) (moved : Profile)
@@ -205,8 +205,8 @@ machine_comes : (login : Login) (profile : Profile) (hostname : Option (List ℕ
 machine_comes login (ScramProfile client) hostname nonce frame reply moved is comes =
     let moves = scram_moves login.login client hostname nonce frame reply moved is comes.1 in
     same_comes login (ScramProfile moves.0) moved moves.1 (comes.0, moves.2)
-machine_comes login (PlainProfile user password) hostname nonce frame reply moved is comes =
-    same_comes login _ moved (plain_stays user password hostname nonce frame reply moved is) comes
+machine_comes login (PlainProfile identity user password) hostname nonce frame reply moved is comes =
+    same_comes login _ moved (plain_stays identity user password hostname nonce frame reply moved is) comes
 machine_comes login AnonymousProfile hostname nonce frame reply moved is comes =
     same_comes login _ moved (anonymous_stays hostname nonce frame reply moved is) comes
 machine_comes login ExternalProfile hostname nonce frame reply moved is comes =
@@ -263,7 +263,7 @@ answers_comes login hostname (Frame turn) profile next nonce unit answer
 pub profile_comes : (login : Login) (scram : ScramStruct) (profile : Profile) → IsProfile login scram profile
     → ProfileIsReached login profile
 profile_comes login scram (ScramProfile side) is = (is.0, (is.1.0, reached side.user scram side.state is.1.1))
-profile_comes login scram (PlainProfile user password) is = is
+profile_comes login scram (PlainProfile identity user password) is = is
 profile_comes login scram AnonymousProfile is = is
 profile_comes login scram ExternalProfile is = is
-profile_comes login scram (MessageProfile mechanism message is_due) is = (is.0, is.1)
+profile_comes login scram (MessageProfile mechanism message is_due) is = (is.0, is.1, is.3)

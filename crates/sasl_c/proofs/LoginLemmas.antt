@@ -1,5 +1,6 @@
 -- Why a login is none.
-use Rattle.std.proofs.Common.{arith, inl, inr, refl, List, [], ◌∷◌, ◌≡◌, ◌≢◌, ◌≤◌, ◌<◌}
+use Rattle.std.proofs.Common.{arith, inl, inr, refl, ℕ, List, [], ◌∷◌, ◌≡◌, ◌≢◌, ◌≤◌, ◌<◌, ◌⊎◌, length}
+use Rattle.std.specs.Prelude.{None, Some}
 use Rattle.std.specs.Str.{IsUtf8}
 use Rattle.fe2o3_scram.specs.declared.hmac.ScramVersion.{ScramVersion}
 use Rattle.sasl_c.specs.declared.login.Login.{Login}
@@ -7,28 +8,88 @@ use Rattle.sasl_c.specs.declared.status.Status.{Status}
 use Rattle.sasl_c.specs.declared.status.Status.TheVariants as statuses
 use Rattle.fe2o3_scram.specs.ClientSecret.{Password, Keys, Both}
 use Rattle.fe2o3_scram.specs.Passwords.{PasswordText}
+use Rattle.fe2o3_scram.specs.ScramClient.{identity_named}
+use Rattle.fe2o3_scram.specs.Texts.{Without}
+use Rattle.fe2o3_scram.proofs.lemmas.texts.CutLemmas.{cut_or, not_without}
 use Rattle.fe2o3_scram.specs.Readings.{IsFirst, NoneHolds}
 use Rattle.sasl_c.specs.declared.keys.ScramKeys.{ScramKeys as KeysStruct}
-use Rattle.sasl_c.specs.Client.{HasSecret, HoldsNone, IsNoLogin, IsNoSecret, keys_tests, name_tests}
-use Rattle.sasl_c.specs.Channels.{HasNoChannelData, NamesNoChannel, channel_tests}
+use Rattle.sasl_c.specs.Client.{CanBeNamed, HasSecret, HoldsNone, IsNoLogin, IsNoSecret, header_tests, identity_tests, keys_tests, name_tests}
+use Rattle.sasl_c.specs.Channels.{channel_tests}
 use Rattle.sasl_c.specs.Keys.{ShowsSomeKeys, shown_keys}
 use Rattle.sasl_c.specs.Passwords.{IsPassword, password_tests}
 use Rattle.sasl_c.specs.Records.{IsVersion}
 
--- ---- its version, its user and its channel
+-- ---- its identity
+
+-- whether a text has no zero byte
+without_or : (name : List ℕ) → Without 0 name ⊎ ¬ Without 0 name
+without_or name = elim (cut_or 0 name) [
+  | inl (before, rest, cut) ↦ inr (not_without 0 name before rest cut)
+  | inr plain ↦ inl plain
+]
+
+pub can_be_named : (name : List ℕ) → ¬ ¬ Without 0 name → ¬ (256 < length name) → CanBeNamed name
+can_be_named name plain few = elim (without_or name) [
+  | inl without ↦ (without, omega (arith, few))
+  | inr with_zero ↦ absurd (plain with_zero)
+]
+
+pub all_pass : (name : List ℕ) → IsUtf8 name → Without 0 name → length name ≤ 256 → NoneHolds (identity_tests name)
+all_pass name utf8 plain few =
+    ((λ wrong. wrong utf8), ((λ wrong. wrong plain), ((λ long. absurd (omega (arith, long, few))), tt)))
+
+pub with_zero : (name : List ℕ) → IsUtf8 name → ¬ Without 0 name
+    → IsFirst (identity_tests name) statuses.ProhibitedCharacter
+with_zero name utf8 wrong = inr ((λ other. other utf8), inl (wrong, refl))
+
+pub too_long : (name : List ℕ) → IsUtf8 name → Without 0 name → 256 < length name
+    → IsFirst (identity_tests name) statuses.TooLong
+too_long name utf8 plain long = inr ((λ other. other utf8), inr ((λ wrong. wrong plain), inl (long, refl)))
+
+pub ruleset identities = (all_pass, with_zero, too_long)
+
+-- ---- what it says in its header
 
 abbrev pub channel_tests_of : Login → List (Status × Type 0)
 channel_tests_of login = channel_tests login.channel_use login.channel_kind login.channel_data_len
 
+pub has_header : (login : Login) → NoneHolds (identity_tests login.acts_for.now) → NoneHolds (channel_tests_of login)
+    → NoneHolds (header_tests login)
+has_header login named none = (named.0, (named.1.0, (named.1.1.0, none)))
+
+pub no_identity : (login : Login) (status : Status) → IsFirst (identity_tests login.acts_for.now) status
+    → IsFirst (header_tests login) status
+no_identity login status (inl wrong) = inl wrong
+no_identity login status (inr (utf8, inl wrong)) = inr (utf8, inl wrong)
+no_identity login status (inr (utf8, inr (plain, inl wrong))) = inr (utf8, inr (plain, inl wrong))
+no_identity login status (inr (utf8, inr (plain, inr (few, none)))) = absurd none
+
+pub no_channel : (login : Login) (status : Status) → NoneHolds (identity_tests login.acts_for.now)
+    → IsFirst (channel_tests_of login) status → IsFirst (header_tests login) status
+no_channel login status named first = inr (named.0, inr (named.1.0, inr (named.1.1.0, first)))
+
+-- an identity that is named, or none
+pub names_none : (name : List ℕ) → length name ≡ 0 → identity_named (Some name) ≡ None
+names_none [] none = refl
+names_none (byte ∷ name) none = absurd (omega (arith, none))
+
+pub names_some : (name : List ℕ) → length name ≢ 0 → identity_named (Some name) ≡ Some name
+names_some [] some = absurd (some refl)
+names_some (byte ∷ name) some = refl
+
+pub ruleset headers = (has_header, no_identity, no_channel)
+
+-- ---- its version, its user, its identity and its channel
+
 pub has_names : (login : Login) (known : ScramVersion) → IsVersion login.version known → IsUtf8 login.username.now
-    → NoneHolds (channel_tests_of login) → NoneHolds (name_tests login)
+    → NoneHolds (header_tests login) → NoneHolds (name_tests login)
 has_names login known is utf8 none = ((λ wrong. wrong known is), ((λ other. other utf8), none))
 
-pub no_channel : (login : Login) (known : ScramVersion) (status : Status) → IsVersion login.version known
-    → IsUtf8 login.username.now → IsFirst (channel_tests_of login) status → IsFirst (name_tests login) status
-no_channel login known status is utf8 first = inr ((λ wrong. wrong known is), inr ((λ other. other utf8), first))
+pub no_header : (login : Login) (known : ScramVersion) (status : Status) → IsVersion login.version known
+    → IsUtf8 login.username.now → IsFirst (header_tests login) status → IsFirst (name_tests login) status
+no_header login known status is utf8 first = inr ((λ wrong. wrong known is), inr ((λ other. other utf8), first))
 
-pub ruleset names = (has_names, no_channel)
+pub ruleset names = (has_names, no_header)
 
 -- why its secret is none
 pub no_password : (login : Login) (status : Status) → login.secret ≡ 0
@@ -151,12 +212,19 @@ pub has_no_secret : (login : Login) (status : Status) → NoneHolds (name_tests 
     → IsNoLogin login status
 has_no_secret login status none wrong = inr (none, wrong)
 
+header_not_memory : (login : Login) (status : Status) → IsFirst (header_tests login) status
+    → status ≢ statuses.OutOfMemory
+header_not_memory login status (inl (wrong, same)) = λ other. absurd (cc)
+header_not_memory login status (inr (utf8, inl (wrong, same))) = λ other. absurd (cc)
+header_not_memory login status (inr (utf8, inr (plain, inl (long, same)))) = λ other. absurd (cc)
+header_not_memory login status (inr (utf8, inr (plain, inr (few, inl (none, same))))) = λ other. absurd (cc)
+header_not_memory login status (inr (utf8, inr (plain, inr (few, inr (known, inl (long, same)))))) = λ other. absurd (cc)
+header_not_memory login status (inr (utf8, inr (plain, inr (few, inr (known, inr (sized, none)))))) = absurd none
+
 pub name_not_memory : (login : Login) (status : Status) → IsFirst (name_tests login) status
     → status ≢ statuses.OutOfMemory
 name_not_memory login status (inl (none, same)) = λ other. absurd (cc)
 name_not_memory login status (inr (some, inl (wrong, same))) = λ other. absurd (cc)
-name_not_memory login status (inr (some, inr (right, inl (none, same)))) = λ other. absurd (cc)
-name_not_memory login status (inr (some, inr (right, inr (known, inl (long, same))))) = λ other. absurd (cc)
-name_not_memory login status (inr (some, inr (right, inr (known, inr (few, none))))) = absurd none
+name_not_memory login status (inr (some, inr (right, first))) = header_not_memory login status first
 
 pub ruleset login_tests = (no_name, has_no_secret, name_not_memory)

@@ -1,6 +1,6 @@
 -- Messages of PLAIN, and whom they log in (RFC 4616, section 2).
 use Rattle.std.proofs.Common.{arith, true, false, inl, inr, refl, sym, ap, ◌∙◌, ◌+◌, cond, ◌≡◌, ◌≢◌, ◌∷◌, ℕ, List, []}
-use Rattle.std.specs.Prelude.{Bool, Err, Option, None, Some, IsTrue, ◌↔◌, nat_eq}
+use Rattle.std.specs.Prelude.{Bool, Err, Ok, Option, None, Some, IsTrue, ◌↔◌, nat_eq}
 use Rattle.std.specs.Cmp.Lexicographic.{pointwise}
 use Rattle.std.proofs.lemmas.Slice.Eq.{bytes_eq-Decides}
 use Rattle.std.specs.Str.{IsUtf8}
@@ -9,29 +9,37 @@ use Rattle.fe2o3_scram.proofs.lemmas.texts.CutLemmas.{not_without, without-uncut
 use Rattle.sasl_c.specs.declared.status.Status.TheVariants as statuses
 use Rattle.sasl_c.specs.declared.records.ScramRecord.{ScramRecord as Struct}
 use Rattle.fe2o3_scram.specs.declared.scram_messages.error.ServerScramErrorKind.TheVariants.{AuthenticationFailed}
-use Rattle.fe2o3_scram.specs.Credentials.{MeetsRecord, Record, Store, VersionedRecord}
-use Rattle.fe2o3_sasl_core.specs.PlainServer.{IsTaken, PlainLogsIn, PlainParts, PlainState, SpellsPlain, plain_hmacs, plain_machine}
+use Rattle.fe2o3_scram.specs.ActingRights.{may_act}
+use Rattle.fe2o3_scram.specs.ScramClient.{identity_named}
+use Rattle.fe2o3_scram.specs.Credentials.{MeetsRecord, Record, VersionedRecord}
+use Rattle.fe2o3_sasl_core.specs.PlainServer.{IsTaken, PlainLogsIn, PlainParts, PlainState, SpellsPlain, asked_identity, plain_hmacs, plain_machine}
 use Rattle.fe2o3_sasl_core.specs.SaslAcceptor.{ends_with}
 use Rattle.fe2o3_sasl_wire.specs.SaslFrames.{SaslFrame}
 use Rattle.fe2o3_sasl_wire.specs.declared.amqp_types.SaslCode.TheVariants as outcomes
 use Rattle.fe2o3_sasl_core.specs.declared.plain_server.passwords.PlainPasswords.{PlainPasswords}
 use Rattle.fe2o3_sasl_core.specs.declared.plain_server.passwords.PlainPasswords.TheVariants as forms
 use Rattle.fe2o3_sasl_core.proofs.lemmas.machines.PlainMessageLemmas.{one_message}
-use Rattle.sasl_c.specs.Plain.{FirstShown, HasUsersPassword, VerifiesPlain, VerifyingCosts, form_number, plain_init, plain_server_of, store_of, word_tests}
+use Rattle.sasl_c.specs.Acting.{rights_for}
+use Rattle.sasl_c.specs.Plain.{AreTerms, ClaimsPlainIdentity, FirstShown, HasUsersPassword, PlainTerms, VerifiesPlain, VerifyingCosts, form_number, plain_init, plain_server_of, store_of, word_tests}
 use Rattle.sasl_c.specs.Records.{ShowsRecord, stored_of}
 use Rattle.sasl_c.proofs.FieldLemmas.{one_number}
 use Rattle.sasl_c.proofs.StatusLemmas.{carried}
 
 -- ---- the words of a message
 
-pub no_user_text : (user password : List ℕ) → ¬ IsUtf8 user → IsFirst (word_tests user password) statuses.NotUtf8
-no_user_text user password wrong = inl (inl wrong, refl)
+pub no_identity_text : (identity user password : List ℕ) → ¬ IsUtf8 identity
+    → IsFirst (word_tests identity user password) statuses.NotUtf8
+no_identity_text identity user password wrong = inl (inl wrong, refl)
 
-pub no_password_text : (user password : List ℕ) → ¬ IsUtf8 password
-    → IsFirst (word_tests user password) statuses.NotUtf8
-no_password_text user password wrong = inl (inr wrong, refl)
+pub no_user_text : (identity user password : List ℕ) → ¬ IsUtf8 user
+    → IsFirst (word_tests identity user password) statuses.NotUtf8
+no_user_text identity user password wrong = inl (inr (inl wrong), refl)
 
-pub ruleset words = (no_user_text, no_password_text)
+pub no_password_text : (identity user password : List ℕ) → ¬ IsUtf8 password
+    → IsFirst (word_tests identity user password) statuses.NotUtf8
+no_password_text identity user password wrong = inl (inr (inr wrong), refl)
+
+pub ruleset words = (no_identity_text, no_user_text, no_password_text)
 
 pub ruleset zeros = (not_without, without-uncut)
 
@@ -57,108 +65,145 @@ one_first (kept ∷ rest) found other (inr (none, later)) (inr (also, too)) = on
 -- ---- whom a message logs in
 
 -- the answer of the server
-pub answers : (passwords : PlainPasswords) (count : ℕ) (store : Store) (message nonce : List ℕ) (server : PlainState)
-    (frame reply : SaslFrame) (next : PlainState) (is : Bool) → server ≡ plain_server_of passwords count store
+pub answers : (server : PlainState) (message nonce : List ℕ) (frame reply : SaslFrame) (next : PlainState) (is : Bool)
     → frame ≡ plain_init message → plain_machine server nonce frame reply next
     → (reply ≡ ends_with outcomes.Ok → IsTrue is) → (reply ≡ ends_with outcomes.Auth → ¬ IsTrue is)
-    → IsTrue is ↔ ((user : List ℕ) × PlainLogsIn passwords store (plain_init message) user)
-answers passwords count store message nonce server frame reply next is same given machine accepted refused = go (
-    carried (λ (f : SaslFrame). plain_machine (plain_server_of passwords count store) nonce f reply next) frame
-    (plain_init message) given
-    (carried (λ (s : PlainState). plain_machine s nonce frame reply next) server
-    (plain_server_of passwords count store) same machine)
-    ) where
-      go : plain_machine (plain_server_of passwords count store) nonce (plain_init message) reply next
-          → IsTrue is ↔ ((user : List ℕ) × PlainLogsIn passwords store (plain_init message) user)
-      go (inl (user, logs, ok, then)) = ((λ held. (user, logs)), (λ logs. accepted ok))
-      go (inr (none, auth, then)) = ((λ held. absurd (refused auth held)), (λ (user, logs). absurd (none user logs)))
+    → IsTrue is ↔ ((parts : PlainParts) × PlainLogsIn server (plain_init message) parts)
+answers server message nonce frame reply next is given machine accepted refused =
+    go (carried (λ (f : SaslFrame). plain_machine server nonce f reply next) frame (plain_init message) given machine)
+  where
+    go : plain_machine server nonce (plain_init message) reply next
+        → IsTrue is ↔ ((parts : PlainParts) × PlainLogsIn server (plain_init message) parts)
+    go (inl (parts, logs, ok, then)) = ((λ held. (parts, logs)), (λ logs. accepted ok))
+    go (inr (none, auth, then)) = ((λ held. absurd (refused auth held)), (λ (parts, logs). absurd (none parts logs)))
 
-pub answer_costs : (passwords : PlainPasswords) (count : ℕ) (store : Store) (message : List ℕ) (server : PlainState)
-    (frame : SaslFrame) (n : ℕ) → server ≡ plain_server_of passwords count store → frame ≡ plain_init message
-    → plain_hmacs (plain_server_of passwords count store) (plain_init message) n → plain_hmacs server frame n
-answer_costs passwords count store message server frame n same given makes =
-    carried (λ (f : SaslFrame). plain_hmacs server f n) (plain_init message) frame (sym given)
-    (carried (λ (s : PlainState). plain_hmacs s (plain_init message) n) (plain_server_of passwords count store) server
-    (sym same) makes)
+pub answer_costs : (server : PlainState) (message : List ℕ) (frame : SaslFrame) (n : ℕ) → frame ≡ plain_init message
+    → plain_hmacs server (plain_init message) n → plain_hmacs server frame n
+answer_costs server message frame n given makes =
+    carried (λ (f : SaslFrame). plain_hmacs server f n) (plain_init message) frame (sym given) makes
 
 found_in : (test : Bool) (mine stored : Record) → cond test (Some mine) None ≡ Some stored → stored ≡ mine
 found_in true mine stored is = cc
 found_in false mine stored is = absurd (cc)
 
+-- the user by whose name the rights are
+one_user : (message user : List ℕ) (parts other : PlainParts) → SpellsPlain parts message → user ≡ parts.user
+    → SpellsPlain other message → user ≡ other.user
+one_user message user parts other is named spells =
+    named ∙ ap (λ (p : PlainParts). p.user) (one_message message parts other is spells)
+
+abbrev MayAct : PlainTerms → PlainParts → List ℕ → Type 0
+MayAct terms parts user = may_act (rights_for user terms.identities) parts.user (asked_identity parts) ≡ true
+
 -- a message that logs in has its user's password
-pub has_password : (passwords : PlainPasswords) (records : List Struct) (message user : List ℕ)
-    (found : Option VersionedRecord) (store : Store) → FirstShown records found → store ≡ store_of user found
-    → ((name : List ℕ) × PlainLogsIn passwords store (plain_init message) name)
-    → HasUsersPassword passwords records message
-has_password passwords records message user found store first same logs =
-    go found first (carried (λ (s : Store). (name : List ℕ) × PlainLogsIn passwords s (plain_init message) name) store
-    (store_of user found) same logs)
+pub has_password : (terms : PlainTerms) (records : List Struct) (message user : List ℕ) (parts : PlainParts)
+    (found : Option VersionedRecord) (server : PlainState) → SpellsPlain parts message → user ≡ parts.user
+    → FirstShown records found → server ≡ plain_server_of terms user (store_of user found)
+    → ((other : PlainParts) × PlainLogsIn server (plain_init message) other) → HasUsersPassword terms records message
+has_password terms records message user parts found server is named first same logs =
+    go found first (carried (λ (s : PlainState). (other : PlainParts) × PlainLogsIn s (plain_init message) other) server
+    (plain_server_of terms user (store_of user found)) same logs)
   where
     go : (found : Option VersionedRecord) → FirstShown records found
-        → ((name : List ℕ) × PlainLogsIn passwords (store_of user found) (plain_init message) name)
-        → HasUsersPassword passwords records message
-    go None first (name, (other, asks, (password, tested, (stored, at, meets)), named)) = absurd (cc)
-    go (Some shown) first (name, (other, asks, (password, tested, (stored, at, meets)), named)) = (
-      other,
-      shown,
-      asks.1,
-      asks.2,
-      first,
-      (
-        password,
-        tested,
-        carried (λ (s : Record). MeetsRecord shown.version password s) stored shown.stored
-            (found_in (pointwise nat_eq user other.user) shown.stored stored at) meets,
-      ),
-    )
+        → ((other : PlainParts) × PlainLogsIn (plain_server_of terms user (store_of user found)) (plain_init message) other)
+        → HasUsersPassword terms records message
+    go None first (other, logs) = let at = logs.1.0.2.1 in absurd (cc)
+    go (Some shown) first (other, logs) =
+        let asks = logs.0 in
+        let has = logs.1.0 in (
+          other,
+          shown,
+          asks.1,
+          asks.2,
+          first,
+          (
+            has.0,
+            has.1,
+            carried (λ (s : Record). MeetsRecord shown.version has.0 s) has.2.0 shown.stored
+                (found_in (pointwise nat_eq user other.user) shown.stored has.2.0 has.2.1) has.2.2,
+          ),
+          carried (MayAct terms other) user other.user (one_user message user parts other is named asks.1) logs.1.1,
+        )
 
 -- and one that has it logs in
-pub password_logs_in : (passwords : PlainPasswords) (records : List Struct) (message user : List ℕ) (parts : PlainParts)
-    (found : Option VersionedRecord) (store : Store) → SpellsPlain parts message → user ≡ parts.user
-    → FirstShown records found → store ≡ store_of user found → HasUsersPassword passwords records message
-    → (name : List ℕ) × PlainLogsIn passwords store (plain_init message) name
-password_logs_in passwords records message user parts found store is named first same
-    (other, shown, spells, taken, found_first, (password, tested, meets)) =
+pub password_logs_in : (terms : PlainTerms) (records : List Struct) (message user : List ℕ) (parts : PlainParts)
+    (found : Option VersionedRecord) (server : PlainState) → SpellsPlain parts message → user ≡ parts.user
+    → FirstShown records found → server ≡ plain_server_of terms user (store_of user found)
+    → HasUsersPassword terms records message → (other : PlainParts) × PlainLogsIn server (plain_init message) other
+password_logs_in terms records message user parts found server is named first same
+    (other, shown, spells, taken, found_first, (password, tested, meets), may) =
     let one = one_first records found (Some shown) first found_first in
-    let own : user ≡ other.user =
-    named ∙ ap (λ (p : PlainParts). p.user) (one_message message parts other is spells) in
+    let own : user ≡ other.user = one_user message user parts other is named spells in
     let here : pointwise nat_eq user other.user ≡ true = (bytes_eq-Decides user other.user).1 own in
     let at = carried (λ test. cond test (Some shown.stored) None ≡ Some shown.stored) true
     (pointwise nat_eq user other.user) (sym here) refl in
-    carried (λ (s : Store). (name : List ℕ) × PlainLogsIn passwords s (plain_init message) name)
-    (store_of user (Some shown)) store (sym (same ∙ ap (store_of user) one))
-    (other.user, (other, (refl, spells, taken), (password, tested, (shown.stored, at, meets)), refl))
+    carried (λ (s : PlainState). (other : PlainParts) × PlainLogsIn s (plain_init message) other)
+    (plain_server_of terms user (store_of user (Some shown))) server
+    (sym (same ∙ ap (λ (f : Option VersionedRecord). plain_server_of terms user (store_of user f)) one)) (
+      other,
+      (
+        (refl, spells, taken),
+        ((password, tested, (shown.stored, at, meets)), carried (MayAct terms other) other.user user (sym own) may),
+      ),
+    )
 
 -- what the test costs
-pub costs : (passwords : PlainPasswords) (records : List Struct) (count : ℕ) (message user : List ℕ)
-    (parts : PlainParts) (found : Option VersionedRecord) (store : Store) (before after : ℕ) → SpellsPlain parts message
-    → IsTaken parts → user ≡ parts.user → FirstShown records found → store ≡ store_of user found
-    → ((n : ℕ) → plain_hmacs (plain_server_of passwords count store) (plain_init message) n → after ≡ before + n)
-    → VerifyingCosts passwords records count message before after
-costs passwords records count message user parts found store before after is taken named first same cost = (
+pub costs : (terms : PlainTerms) (records : List Struct) (message user : List ℕ) (parts : PlainParts)
+    (found : Option VersionedRecord) (server : PlainState) (before after : ℕ) → SpellsPlain parts message
+    → IsTaken true parts → user ≡ parts.user → FirstShown records found
+    → server ≡ plain_server_of terms user (store_of user found)
+    → ((n : ℕ) → plain_hmacs server (plain_init message) n → after ≡ before + n)
+    → VerifyingCosts terms records message before after
+costs terms records message user parts found server before after is taken named first same cost = (
   λ name other n (parts2, spells, taken2, called) first2 makes.
       let one = one_first records other found first2 first in
       let own : name ≡ user =
       called ∙ (ap (λ (p : PlainParts). p.user) (one_message message parts2 parts spells is) ∙ sym named) in
-      cost n (carried (λ (s : Store). plain_hmacs (plain_server_of passwords count s) (plain_init message) n)
-      (store_of name other) store
-      (ap (λ (u : List ℕ). store_of u other) own ∙ (ap (store_of user) one ∙ sym same)) makes),
+      cost n (carried (λ (s : PlainState). plain_hmacs s (plain_init message) n)
+      (plain_server_of terms name (store_of name other)) server
+      (ap (λ (u : List ℕ). plain_server_of terms u (store_of u other)) own
+      ∙ (ap (λ (f : Option VersionedRecord). plain_server_of terms user (store_of user f)) one ∙ sym same)) makes),
   λ none. absurd (none user (parts, is, taken, named)),
 )
 
 -- a message that claims no user has no password
-pub no_user : (passwords : PlainPasswords) (records : List Struct) (message : List ℕ)
-    → ((parts : PlainParts) → SpellsPlain parts message → ¬ IsTaken parts)
-    → ¬ HasUsersPassword passwords records message
-no_user passwords records message none (parts, shown, spells, taken, first, tested) = none parts spells taken
+pub no_user : (terms : PlainTerms) (records : List Struct) (message : List ℕ)
+    → ((parts : PlainParts) → SpellsPlain parts message → ¬ IsTaken true parts)
+    → ¬ HasUsersPassword terms records message
+no_user terms records message none (parts, shown, spells, taken, first, tested, may) = none parts spells
+    (tt, taken.1, taken.2, taken.3)
 
-pub costs_nothing : (passwords : PlainPasswords) (records : List Struct) (count : ℕ) (message : List ℕ) (before : ℕ)
-    → ((parts : PlainParts) → SpellsPlain parts message → ¬ IsTaken parts)
-    → VerifyingCosts passwords records count message before before
-costs_nothing passwords records count message before none = (
+pub costs_nothing : (terms : PlainTerms) (records : List Struct) (message : List ℕ) (before : ℕ)
+    → ((parts : PlainParts) → SpellsPlain parts message → ¬ IsTaken true parts)
+    → VerifyingCosts terms records message before before
+costs_nothing terms records message before none = (
   λ name other n (parts, spells, taken, called) first makes. absurd (none parts spells taken),
   λ none. refl,
 )
+
+-- ---- the identity that a message asks for
+
+asked_some : (identity name : List ℕ) → identity_named (Some identity) ≡ Some name → name ≡ identity
+asked_some [] name same = absurd (cc)
+asked_some (byte ∷ rest) name same = cc
+
+asked_none : (identity : List ℕ) → identity_named (Some identity) ≡ None → [] ≡ identity
+asked_none [] same = refl
+asked_none (byte ∷ rest) same = absurd (cc)
+
+pub claims_identity : (message name : List ℕ) (parts : PlainParts) → SpellsPlain parts message → IsTaken true parts
+    → asked_identity parts ≡ Some name → ClaimsPlainIdentity message (Ok name)
+claims_identity message name parts spells taken same =
+    (parts, spells, taken, asked_some parts.identity name same)
+
+pub claims_itself : (message user : List ℕ)
+    → ((parts : PlainParts) → SpellsPlain parts message → IsTaken true parts → asked_identity parts ≡ None)
+    → ((parts : PlainParts) × SpellsPlain parts message × IsTaken true parts × (user ≡ parts.user))
+    → ClaimsPlainIdentity message (Ok [])
+claims_itself message user none (parts, spells, taken, named) =
+    (parts, spells, taken, asked_none parts.identity (none parts spells taken))
+
+pub ruleset claims = (claims_identity, claims_itself)
 
 -- ---- the answer
 
@@ -174,21 +219,40 @@ one_form forms.Saslprep forms.Typed same = absurd (omega (arith, same))
 one_form forms.Saslprep forms.Prepared same = absurd (omega (arith, same))
 one_form forms.Saslprep forms.Saslprep same = refl
 
-pub no_form : (number : ℕ) (records : List Struct) (message : List ℕ)
-    → ((passwords : PlainPasswords) → form_number passwords ≢ number)
-    → VerifiesPlain number records message (Err statuses.NoSuchChoice)
-no_form number records message none = inl (none, refl)
+one_terms : (number count accepts : ℕ) (identities : List ℕ) (terms other : PlainTerms)
+    → AreTerms number count accepts identities terms → AreTerms number count accepts identities other → terms ≡ other
+one_terms number count accepts identities terms other is too =
+    let form : terms.passwords ≡ other.passwords = one_form terms.passwords other.passwords (is.0 ∙ sym too.0) in
+    let rounds : terms.count ≡ other.count = is.1 ∙ sym too.1 in
+    let flag : terms.accepts ≡ other.accepts = is.2 ∙ sym too.2 in
+    let names : terms.identities ≡ other.identities = is.3 ∙ sym too.3 in
+    λ i. record { passwords = form i; count = rounds i; accepts = flag i; identities = names i }
 
-pub rejected : (number : ℕ) (records : List Struct) (message : List ℕ) (passwords : PlainPasswords)
-    → form_number passwords ≡ number → ¬ HasUsersPassword passwords records message
-    → VerifiesPlain number records message (Err (statuses.Server AuthenticationFailed))
-rejected number records message passwords is none = inr (
-  (λ unknown. unknown passwords is),
-  inl (
-    (λ other same has. none (carried (λ p. HasUsersPassword p records message) other passwords
-        (one_form other passwords (same ∙ sym is)) has)),
-    refl,
+pub no_form : (number count accepts : ℕ) (identities : List ℕ) (records : List Struct) (message : List ℕ)
+    → ((passwords : PlainPasswords) → form_number passwords ≢ number)
+    → VerifiesPlain number count accepts identities records message (Err statuses.NoSuchChoice)
+no_form number count accepts identities records message none = inl (none, refl)
+
+pub no_identities : (number count accepts : ℕ) (identities : List ℕ) (records : List Struct) (message : List ℕ)
+    (passwords : PlainPasswords) → form_number passwords ≡ number → ¬ IsUtf8 identities
+    → VerifiesPlain number count accepts identities records message (Err statuses.NotUtf8)
+no_identities number count accepts identities records message passwords is wrong =
+    inr ((λ unknown. unknown passwords is), inl (wrong, refl))
+
+pub rejected : (number count accepts : ℕ) (identities : List ℕ) (records : List Struct) (message : List ℕ)
+    (terms : PlainTerms) → AreTerms number count accepts identities terms → IsUtf8 identities
+    → ¬ HasUsersPassword terms records message
+    → VerifiesPlain number count accepts identities records message (Err (statuses.Server AuthenticationFailed))
+rejected number count accepts identities records message terms is utf8 none = inr (
+  (λ unknown. unknown terms.passwords is.0),
+  inr (
+    (λ wrong. wrong utf8),
+    inl (
+      (λ other same has. none (carried (λ (t : PlainTerms). HasUsersPassword t records message) other terms
+          (one_terms number count accepts identities other terms same is) has)),
+      refl,
+    ),
   ),
 )
 
-pub ruleset verifies = (no_form, rejected)
+pub ruleset verifies = (no_form, no_identities, rejected)

@@ -1,5 +1,5 @@
 -- What a struct of rules means.
-use Rattle.std.proofs.Common.{arith, refl, ap, sym, ◌∙◌, ◌≡◌, ◌≢◌, ℕ, List}
+use Rattle.std.proofs.Common.{refl, ap, sym, ◌∙◌, ◌≡◌, ◌≢◌, ℕ, List}
 use Rattle.std.specs.Prelude.{Some, None, Option, Result, Ok, Err, Bool, true, false, nat_eq, if◌then◌else◌, take}
 use Rattle.std.proofs.lemmas.Bool.Decides.{Decides-eqb}
 use Rattle.fe2o3_scram.specs.Hmac.{zero_filled}

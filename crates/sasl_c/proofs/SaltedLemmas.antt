@@ -1,6 +1,6 @@
 -- What is made of a SaltedPassword, and tested against a record (RFC 5802, section 3).
 use Rattle.std.proofs.Common.{arith, refl, sym, ap, inl, inr, ◌∙◌, ◌≡◌, ◌≢◌, ◌<◌, ◌≤◌, ◌∷◌, [], ℕ, zero, suc, List, length}
-use Rattle.std.specs.Prelude.{Result, Ok, Err}
+use Rattle.std.specs.Prelude.{Ok, Err}
 use Rattle.fe2o3_scram.specs.declared.credentials.record_text.RecordTextError.TheVariants.{KeyLengthMismatch}
 use Rattle.fe2o3_scram.specs.declared.hmac.ScramVersion.{ScramVersion}
 use Rattle.fe2o3_scram.specs.declared.hmac.ScramVersion.TheVariants as versions
@@ -8,18 +8,16 @@ use Rattle.fe2o3_scram.specs.ClientKeys.{keys_with}
 use Rattle.fe2o3_scram.specs.Credentials.{MeetsRecord, Record, VersionedRecord, record_of, record_of_salted, versioned}
 use Rattle.fe2o3_scram.specs.Hmac.{digest, digest_len, hmac_of}
 use Rattle.fe2o3_scram.specs.Keys.{client_key, server_key}
-use Rattle.fe2o3_scram.specs.Passwords.{IsNormal, PasswordText, password_bytes}
+use Rattle.fe2o3_scram.specs.Passwords.{password_bytes}
 use Rattle.fe2o3_scram.specs.Pbkdf2Hi.{round_of, salted_of}
 use Rattle.fe2o3_scram.specs.Readings.{IsFirst, NoneHolds}
 use Rattle.fe2o3_scram.proofs.lemmas.hashes.DigestLemmas.{length-digest, length-hmac_of}
 use Rattle.fe2o3_scram.proofs.lemmas.messages.ExchangeLemmas.{length-exclusive_or}
 use Rattle.sasl_c.specs.declared.keys.ScramKeys.{ScramKeys}
 use Rattle.sasl_c.specs.declared.records.ScramRecord.{ScramRecord}
-use Rattle.sasl_c.specs.declared.status.Status.{Status}
 use Rattle.sasl_c.specs.declared.status.Status.TheVariants as statuses
-use Rattle.sasl_c.specs.Keys.{MakesKeysStruct, keys_struct}
-use Rattle.sasl_c.specs.Passwords.{IsPassword}
-use Rattle.sasl_c.specs.Records.{IsVersion, MakesRecordStruct, ShowsRecord, VerifiesPassword, record_struct, stored_of, struct_making_tests}
+use Rattle.sasl_c.specs.Keys.{keys_struct}
+use Rattle.sasl_c.specs.Records.{IsVersion, ShowsRecord, record_struct, stored_of, struct_making_tests}
 use Rattle.sasl_c.specs.Salted.{IsSaltedOf, KeysAreOfPassword, MakesKeysOfSalted, MakesRecordOfSalted, MeetsSalted, RecordIsOfPassword, SaltedVerifiesAsPassword, VerifiesSalted, salted_tests}
 use Rattle.sasl_c.proofs.FieldLemmas.{one_number}
 use Rattle.sasl_c.proofs.RecordLemmas.{bytes_of}

@@ -1,10 +1,11 @@
 -- The structs of a client's side, and why there is none (AMQP 1.0, part 5, section 5.3.2).
-use Rattle.std.proofs.Common.{arith, refl, sym, ap, inl, inr, ◌∙◌, ◌≡◌, ◌≢◌, ◌≤◌, ◌<◌, ◌⊎◌, ℕ, List, length, IsTrue, true}
-use Rattle.std.specs.Prelude.{Bool, Option, Some, None, false, replicate, IfSome, MatchOption, Ok, Err, nat_eq, if◌then◌else◌}
+use Rattle.std.proofs.Common.{arith, refl, sym, ap, inl, inr, ◌∙◌, ◌≡◌, ◌≢◌, ◌≤◌, ◌<◌, ◌⊎◌, ℕ, List, [], ◌∷◌, length, IsTrue, true}
+use Rattle.std.specs.Prelude.{Bool, ◌||◌, is_some, Option, Some, None, false, replicate, IfSome, MatchOption, Ok, Err, nat_eq, if◌then◌else◌}
 use Rattle.std.specs.Str.{IsUtf8}
 use Rattle.fe2o3_sasl_wire.specs.FrameView.{shown}
 use Rattle.fe2o3_scram.specs.Readings.{IsFirst, NoneHolds}
-use Rattle.fe2o3_scram.specs.ScramClient.{ClientSide}
+use Rattle.fe2o3_scram.specs.ScramClient.{ClientSide, identity_named}
+use Rattle.fe2o3_sasl_core.specs.PlainWords.{ArePlainWords}
 use Rattle.fe2o3_scram.proofs.lemmas.texts.DecisionLemmas.{same_number_or}
 use Rattle.fe2o3_sasl_core.specs.Profiles.{Profile, ScramProfile, PlainProfile, AnonymousProfile, ExternalProfile, MessageProfile, MessageMechanism, AnonymousMessage, ExternalMessage, after_init, answers_empty_challenge, is_scram}
 use Rattle.fe2o3_sasl_negotiation.specs.declared.snapshot.Snapshot.{Snapshot}
@@ -16,15 +17,17 @@ use Rattle.fe2o3_sasl_negotiation.specs.declared.progress.FrameKind.TheVariants 
 use Rattle.fe2o3_sasl_negotiation.specs.Framing.{IsPart}
 use Rattle.fe2o3_sasl_negotiation.specs.Negotiations.{Side}
 use Rattle.fe2o3_sasl_negotiation.specs.Snapshot.{client_fits, client_due, IsClientKept, NamesNone, side_of}
+use Rattle.sasl_c.specs.declared.login.Login.{Login as Words}
 use Rattle.sasl_c.specs.declared.client.ScramClient.{ScramClient as ScramStruct}
 use Rattle.sasl_c.specs.declared.connection.Connection.{Connection as Kept}
 use Rattle.sasl_c.specs.declared.sasl_client.SaslClient.{SaslClient as Struct}
 use Rattle.sasl_c.specs.declared.sasl_client.SaslLogin.{SaslLogin as Login}
 use Rattle.sasl_c.specs.declared.status.Status.{Status}
 use Rattle.sasl_c.specs.declared.status.Status.TheVariants as statuses
-use Rattle.sasl_c.specs.Client.{IsNoLogin, IsReached, IsState, WritesClient, fresh_client_struct, started_struct}
+use Rattle.sasl_c.specs.Client.{CanBeNamed, IsNoLogin, IsReached, IsState, WritesClient, fresh_client_struct, is_set, started_struct}
+use Rattle.sasl_c.specs.Plain.{word_tests}
 use Rattle.sasl_c.specs.Connection.{Keeps, KeepsNoPartOf, accepts_extended, expected_number, side_tests, connection_struct}
-use Rattle.sasl_c.specs.SaslClient.{ClientTakes, ProfileIsReached, HasNoHostname, HasNoClientWords, HasNoMessage, IsClient, IsDueIn, message_number, IsHostname, IsNoClient, IsNoProfile, IsProfile, client_word_tests, ReadsClient, ReceivesAsClient, WritesProfile, WritesSide}
+use Rattle.sasl_c.specs.SaslClient.{ClientTakes, ProfileIsReached, HasNoHostname, CanSendMessage, CanSendWords, HasNoClientWords, IsClient, IsDueIn, IsPlainOf, message_number, message_tests, IsHostname, IsNoClient, IsNoProfile, IsProfile, client_word_tests, is_strict_plain, ReadsClient, ReceivesAsClient, WritesProfile, WritesSide}
 use Rattle.sasl_c.proofs.StatusLemmas.{carried}
 use Rattle.fe2o3_sasl_core.specs.declared.sasl_profile.error.ProfileError.TheVariants.{OutOfMemory}
 
@@ -46,10 +49,10 @@ shows_scram login profile machine (Some scram) is comes held =
 pub shows_other : (login : Login) (profile : Profile) (scram : ScramStruct) → is_scram profile ≡ false
     → IsDueIn scram (answers_empty_challenge profile) → ProfileIsReached login profile → IsProfile login scram profile
 shows_other login (ScramProfile side) scram other due comes = absurd (cc)
-shows_other login (PlainProfile user password) scram other due comes = comes
+shows_other login (PlainProfile identity user password) scram other due comes = comes
 shows_other login AnonymousProfile scram other due comes = comes
 shows_other login ExternalProfile scram other due comes = comes
-shows_other login (MessageProfile mechanism message is_due) scram other due comes = (comes.0, comes.1, due)
+shows_other login (MessageProfile mechanism message is_due) scram other due comes = (comes.0, comes.1, due, comes.2)
 
 -- the struct that is written for a profile
 pub writes_scram : (profile : Profile) (machine : ClientSide) (answer : Option ScramStruct)
@@ -62,7 +65,7 @@ writes_scram profile machine (Some scram) is held =
 pub writes_other : (profile : Profile) (scram : ScramStruct) → is_scram profile ≡ false → scram ≡ fresh_client_struct
     → answers_empty_challenge profile ≡ false → WritesProfile scram profile
 writes_other (ScramProfile side) scram other same due = absurd (cc)
-writes_other (PlainProfile user password) scram other same due = same
+writes_other (PlainProfile identity user password) scram other same due = same
 writes_other AnonymousProfile scram other same due = same
 writes_other ExternalProfile scram other same due = same
 writes_other (MessageProfile mechanism message true) scram other same due = absurd (cc)
@@ -71,7 +74,7 @@ writes_other (MessageProfile mechanism message false) scram other same due = sam
 pub writes_due : (profile : Profile) (scram : ScramStruct) → scram ≡ started_struct (replicate 32 0)
     → answers_empty_challenge profile ≡ true → WritesProfile scram profile
 writes_due (ScramProfile side) scram same due = absurd (cc)
-writes_due (PlainProfile user password) scram same due = absurd (cc)
+writes_due (PlainProfile identity user password) scram same due = absurd (cc)
 writes_due AnonymousProfile scram same due = absurd (cc)
 writes_due ExternalProfile scram same due = absurd (cc)
 writes_due (MessageProfile mechanism message true) scram same due = same
@@ -200,15 +203,73 @@ is_not_kept login client kept profile keeps wanting limit mock named is wrong = 
 )
 
 -- the words of a client for PLAIN
-pub no_user_text : (user password : List ℕ) → ¬ IsUtf8 user
-    → IsFirst (client_word_tests false user password) statuses.NotUtf8
-no_user_text user password wrong = inl (inl wrong, refl)
+pub no_user_text : (identity user password : List ℕ) → ¬ IsUtf8 user
+    → IsFirst (client_word_tests false identity user password) statuses.NotUtf8
+no_user_text identity user password wrong = inl (inl wrong, refl)
 
-pub no_password_text : (user password : List ℕ) → ¬ IsUtf8 password
-    → IsFirst (client_word_tests false user password) statuses.NotUtf8
-no_password_text user password wrong = inl (inr wrong, refl)
+pub no_password_text : (identity user password : List ℕ) → ¬ IsUtf8 password
+    → IsFirst (client_word_tests false identity user password) statuses.NotUtf8
+no_password_text identity user password wrong = inl (inr wrong, refl)
 
 pub ruleset client_words = (no_user_text, no_password_text)
+
+-- PLAIN of a login that names no identity, and of one that names one
+strict_itself : (words : Words) → words.acts_for.now ≡ [] → is_strict_plain words ≡ is_set words.strict
+strict_itself words none =
+    ap (λ (name : List ℕ). is_some (identity_named (Some name)) || is_set words.strict) none
+
+strict_acting : (words : Words) → words.acts_for.now ≢ [] → is_strict_plain words ≡ true
+strict_acting words some = go words.acts_for.now some where
+  go : (name : List ℕ) → name ≢ [] → (is_some (identity_named (Some name)) || is_set words.strict) ≡ true
+  go [] other = absurd (other refl)
+  go (byte ∷ name) other = refl
+
+pub plain_of_itself : (words : Words) → words.acts_for.now ≡ []
+    → CanSendWords (is_set words.strict) words.username.now words.password.now
+    → IsPlainOf words words.acts_for.now words.username.now words.password.now
+plain_of_itself words none can = (
+  refl,
+  refl,
+  refl,
+  carried CanBeNamed [] words.acts_for.now (sym none) (tt, omega arith),
+  carried (λ (b : Bool). CanSendWords b words.username.now words.password.now) (is_set words.strict) (is_strict_plain words)
+      (sym (strict_itself words none)) can,
+)
+
+pub plain_acting : (words : Words) → words.acts_for.now ≢ [] → CanBeNamed words.acts_for.now
+    → ArePlainWords words.username.now words.password.now
+    → IsPlainOf words words.acts_for.now words.username.now words.password.now
+plain_acting words some named can = (
+  refl,
+  refl,
+  refl,
+  named,
+  carried (λ (b : Bool). CanSendWords b words.username.now words.password.now) true (is_strict_plain words)
+      (sym (strict_acting words some)) can,
+)
+
+pub no_words_of_itself : (words : Words) (status : Status) → words.acts_for.now ≡ []
+    → IsFirst (client_word_tests (is_set words.strict) words.acts_for.now words.username.now words.password.now) status
+    → HasNoClientWords words status
+no_words_of_itself words status none first = carried
+    (λ (b : Bool). IsFirst (client_word_tests b words.acts_for.now words.username.now words.password.now) status)
+    (is_set words.strict) (is_strict_plain words) (sym (strict_itself words none)) first
+
+pub no_words_acting : (words : Words) (status : Status) → words.acts_for.now ≢ []
+    → IsFirst (word_tests words.acts_for.now words.username.now words.password.now) status → HasNoClientWords words status
+no_words_acting words status some first = carried
+    (λ (b : Bool). IsFirst (client_word_tests b words.acts_for.now words.username.now words.password.now) status)
+    true (is_strict_plain words) (sym (strict_acting words some)) first
+
+pub is_none : (name : List ℕ) → length name ≡ 0 → name ≡ []
+is_none [] none = refl
+is_none (byte ∷ name) none = absurd (omega (arith, none))
+
+pub is_some_name : (name : List ℕ) → length name ≢ 0 → name ≢ []
+is_some_name name some none = some (ap length none)
+
+pub ruleset plains =
+    (plain_of_itself, plain_acting, no_words_of_itself, no_words_acting, is_none, is_some_name)
 
 -- why a login has no profile
 pub no_scram : (login : Login) (status : Status) → login.mechanism ≡ 0 → IsNoLogin login.login status
@@ -221,34 +282,39 @@ pub no_plain : (login : Login) (status : Status) → login.mechanism ≡ 1 → H
 unfolding IsNoProfile
 no_plain login status is wrong = inr (inl (is, wrong))
 
-pub no_trace : (login : Login) (status : Status) → login.mechanism ≡ 4 → HasNoMessage login.login status
-    → IsNoProfile login status
+pub no_anonymous : (login : Login) (status : Status) → login.mechanism ≡ 2 → status ≡ statuses.NotImplemented
+    → login.login.acts_for.now ≢ [] → IsNoProfile login status
 unfolding IsNoProfile
-no_trace login status is wrong = inr (inr (inl ((AnonymousMessage, is), wrong)))
+no_anonymous login status is same some = inr (inr (inl (is, inl (some, same))))
 
-pub no_identity : (login : Login) (status : Status) → login.mechanism ≡ 5 → HasNoMessage login.login status
-    → IsNoProfile login status
+pub no_trace : (login : Login) (status : Status) → login.mechanism ≡ 4
+    → IsFirst (message_tests AnonymousMessage login.login) status → IsNoProfile login status
 unfolding IsNoProfile
-no_identity login status is wrong = inr (inr (inl ((ExternalMessage, is), wrong)))
+no_trace login status is wrong = inr (inr (inr (inl (AnonymousMessage, is, wrong))))
+
+pub no_identity : (login : Login) (status : Status) → login.mechanism ≡ 5
+    → IsFirst (message_tests ExternalMessage login.login) status → IsNoProfile login status
+unfolding IsNoProfile
+no_identity login status is wrong = inr (inr (inr (inl (ExternalMessage, is, wrong))))
 
 pub no_mechanism : (login : Login) → 5 < login.mechanism → IsNoProfile login statuses.NoSuchMechanism
 unfolding IsNoProfile
-no_mechanism login wide = inr (inr (inr (wide, refl)))
+no_mechanism login wide = inr (inr (inr (inr (wide, refl))))
 
-pub ruleset no_profiles = (no_scram, no_plain, no_trace, no_identity, no_mechanism)
+pub ruleset no_profiles = (no_scram, no_plain, no_anonymous, no_trace, no_identity, no_mechanism)
 
 -- a profile of a single message, as the struct says whether its init was sent last
 pub message_begun : (login : Login) (scram : ScramStruct) (mechanism : MessageMechanism) (message : List ℕ)
     (begun after : Profile) → login.mechanism ≡ message_number mechanism → message ≡ login.login.username.now
-    → begun ≡ MessageProfile mechanism message false → (scram.state ≡ 1 → after ≡ after_init begun (replicate 32 0))
+    → CanSendMessage mechanism login.login → begun ≡ MessageProfile mechanism message false → (scram.state ≡ 1 → after ≡ after_init begun (replicate 32 0))
     → (scram.state ≢ 1 → after ≡ begun) → IsProfile login scram after
-message_begun login scram mechanism message begun after number same is sent not_sent = go (same_number_or scram.state 1)
+message_begun login scram mechanism message begun after number same can is sent not_sent = go (same_number_or scram.state 1)
   where
     go : (scram.state ≡ 1) ⊎ (scram.state ≢ 1) → IsProfile login scram after
     go (inl first) = carried (IsProfile login scram) (MessageProfile mechanism message true) after
-        (sym (sent first ∙ ap (λ (p : Profile). after_init p (replicate 32 0)) is)) (number, same, first)
+        (sym (sent first ∙ ap (λ (p : Profile). after_init p (replicate 32 0)) is)) (number, same, first, can)
     go (inr other) = carried (IsProfile login scram) (MessageProfile mechanism message false) after
-        (sym (not_sent other ∙ is)) (number, same, other)
+        (sym (not_sent other ∙ is)) (number, same, other, can)
 
 -- what a call makes of bytes
 pub received : (login : Login) (bytes nonce : List ℕ) (before after : Struct) (accepts : Bool)

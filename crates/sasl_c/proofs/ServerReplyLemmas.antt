@@ -29,7 +29,7 @@ use Rattle.fe2o3_sasl_core.specs.SaslAcceptor.{Acceptor, ScramAcceptor, Anonymou
 use Rattle.fe2o3_sasl_negotiation.specs.declared.progress.Progress.TheVariants.{InProgress}
 use Rattle.sasl_c.specs.declared.sasl_server.Choice.{Choice}
 use Rattle.sasl_c.specs.declared.sasl_server.SaslServerConfig.{SaslServerConfig as Config}
-use Rattle.sasl_c.specs.SaslServer.{AreIn, Asked, HasRecords, IsOf, ServerIsReached, Stands, State, extra_for, or_no_record, record_for, saved_for, scrams_with, server_machine, settings_for, sum_of}
+use Rattle.sasl_c.specs.SaslServer.{AreIn, HasRecords, IsOf, ServerIsReached, Stands, State, extra_for, or_no_record, record_for, saved_for, scrams_with, server_machine, settings_for, sum_of}
 use Rattle.sasl_c.specs.Server.{KeptExchange, NothingKept, ChallengeOpen, SignatureSent, InitialResponseAsked, PendingInit, IsAsking, IsPhaseOf}
 use Rattle.fe2o3_sasl_core.specs.PasswordServer.{AllScramStates, OtherStates, SavedExchange, ScramsAt, PasswordParts, PasswordSettings, PasswordState, ScramStates, all_scrams_in, all_scrams_machine, all_scrams_names, external_names, last_machine, last_names, names_for, others_machine, others_names, others_of, part_where, parts_machine, parts_names, password_machine, password_names, password_server_in, plain_names, scram_provider, scram_rules, scrams_in, scrams_machine, scrams_names, weaker_machine, weaker_names}
 use Rattle.sasl_c.proofs.StatusLemmas.{carried}

@@ -1,5 +1,5 @@
 -- Whom a user may act for, as a text of C (RFC 4422, section 2).
-use Rattle.std.specs.Prelude.{ℕ, List, [], ◌∷◌, map, nat_eq}
+use Rattle.std.specs.Prelude.{ℕ, List, map, nat_eq}
 use Rattle.std.specs.List.{slice_split}
 use Rattle.fe2o3_scram.specs.ActingRights.{Rights}
 

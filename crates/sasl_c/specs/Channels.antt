@@ -1,6 +1,6 @@
 -- What a client says of its channel, as C passes it (RFC 5802, section 6).
-use Rattle.std.specs.Prelude.{◌≡◌, ◌≢◌, ◌<◌, ◌≤◌, ◌⊎◌, ℕ, None, List, [], ◌∷◌, take, nat_eq, if◌then◌else◌}
-use Rattle.fe2o3_scram.specs.ChannelBinding.{data_bytes, ClientHeader}
+use Rattle.std.specs.Prelude.{◌≡◌, ◌≢◌, ◌<◌, ◌≤◌, ◌⊎◌, ℕ, List, [], ◌∷◌, take, nat_eq, if◌then◌else◌}
+use Rattle.fe2o3_scram.specs.ChannelBinding.{data_bytes}
 use Rattle.fe2o3_scram.specs.declared.channel_binding.ChannelKind.{ChannelKind}
 use Rattle.fe2o3_scram.specs.declared.channel_binding.ChannelKind.TheVariants.{TlsUnique, TlsServerEndPoint, TlsExporter}
 use Rattle.fe2o3_scram.specs.declared.scram_messages.client_channel.ClientChannel.{ClientChannel}
@@ -23,10 +23,6 @@ IsChannel number kind len array NotOffered = number ≡ 1
 IsChannel number kind len array (Bound binding) = (number ≡ 2) × (kind ≡ kind_number binding.kind)
     × (data_bytes binding.cbind_data ≡ take len array) × (1 ≤ len) × (len ≤ 64)
 
--- the header of a client that says this of its channel and acts for itself
-abbrev pub header_with : ClientChannel → ClientHeader
-header_with channel = record { channel = channel; acts_for = None }
-
 -- they say nothing of a channel: the first number is none of these, or is that of a channel of an unknown kind
 abbrev pub NamesNoChannel : ℕ → ℕ → Type 0
 NamesNoChannel number kind = (2 < number) ⊎ ((number ≡ 2) × ((known : ChannelKind) → kind ≢ kind_number known))
@@ -41,5 +37,10 @@ channel_tests number kind len = (statuses.NoSuchChannel, NamesNoChannel number k
     ∷ (statuses.ChannelDataLength, HasNoChannelData number len) ∷ []
 
 -- how many bytes more than the server-first message its answer may have: more where a channel is bound
-abbrev pub answer_more : ℕ → ℕ
-answer_more number = if nat_eq number 2 then 256 else 128
+abbrev pub channel_more : ℕ → ℕ
+channel_more number = if nat_eq number 2 then 256 else 128
+
+-- and more where an identity is named
+abbrev pub identity_more : List ℕ → ℕ
+identity_more [] = 0
+identity_more (byte ∷ name) = 1024

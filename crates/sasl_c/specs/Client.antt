@@ -1,8 +1,8 @@
 -- A SCRAM client that is kept in structs of C between its calls (RFC 5802, sections 3 and 5).
-use Rattle.std.specs.Prelude.{◌≡◌, ◌≢◌, ◌<◌, ◌≤◌, ◌⊎◌, ℕ, Bool, true, false, nat_eq, if◌then◌else◌, List, [], ◌∷◌, length, replicate, take, Option, Some, None, Result, Ok, Err}
+use Rattle.std.specs.Prelude.{◌≡◌, ◌≢◌, ◌<◌, ◌≤◌, ◌⊎◌, ◌+◌, ℕ, Bool, true, false, nat_eq, if◌then◌else◌, List, [], ◌∷◌, ◌++◌, length, replicate, take, Option, Some, None, Result, Ok, Err}
 use Rattle.std.specs.Str.{IsUtf8}
 use Rattle.fe2o3_scram.specs.declared.scram_messages.client_channel.ClientChannel.{ClientChannel}
-use Rattle.fe2o3_scram.specs.ChannelBinding.{header_of}
+use Rattle.fe2o3_scram.specs.ChannelBinding.{ClientHeader, header_of}
 use Rattle.fe2o3_scram.specs.declared.hmac.ScramVersion.{ScramVersion}
 use Rattle.fe2o3_scram.specs.declared.scram_messages.error.ScramErrorKind.{ScramErrorKind}
 use Rattle.fe2o3_scram.specs.declared.scram_messages.error.ScramErrorKind.TheVariants.{IllegalClientState, ServerSignatureMismatch, Utf8Error}
@@ -10,20 +10,20 @@ use Rattle.fe2o3_scram.specs.ClientFinal.{Answer}
 use Rattle.fe2o3_scram.specs.ClientFirst.{client_first_bare, client_first_with}
 use Rattle.fe2o3_scram.specs.ClientKeys.{ClientKeys}
 use Rattle.fe2o3_scram.specs.ClientSecret.{Secret, Password, Keys, Both}
-use Rattle.fe2o3_scram.specs.ScramClient.{AnswersIn, VerifiesIn, ClientSide, ClientState, ClientInitial, ClientFirstSent, ClientFinalSent, SignatureVerified, Complete, started, header_in}
+use Rattle.fe2o3_scram.specs.ScramClient.{AnswersIn, VerifiesIn, ClientSide, ClientState, ClientInitial, ClientFirstSent, ClientFinalSent, SignatureVerified, Complete, started, header_in, identity_named}
 use Rattle.fe2o3_scram.specs.Hmac.{zero_filled}
 use Rattle.fe2o3_scram.specs.Readings.{IsFirst, NoneHolds}
 use Rattle.fe2o3_scram.specs.ServerFinal.{ReachesVerifier}
 use Rattle.fe2o3_scram.specs.ServerErrors.{NamesServerError}
 use Rattle.fe2o3_scram.specs.declared.scram_messages.server_error.ServerError.{ServerError}
-use Rattle.fe2o3_scram.specs.Texts.{base64_text}
+use Rattle.fe2o3_scram.specs.Texts.{Without, base64_text}
 use Rattle.sasl_c.specs.declared.client.ScramClient.{ScramClient as Struct}
 use Rattle.sasl_c.specs.declared.login.Login.{Login}
 use Rattle.sasl_c.specs.declared.keys.ScramKeys.{ScramKeys as KeysStruct}
 use Rattle.sasl_c.specs.declared.status.Status.{Status}
 use Rattle.sasl_c.specs.declared.status.Status.TheVariants as statuses
 use Rattle.sasl_c.specs.declared.status.WriteError.{WriteError}
-use Rattle.sasl_c.specs.Channels.{IsChannel, channel_tests}
+use Rattle.sasl_c.specs.Channels.{IsChannel, channel_more, channel_tests, identity_more}
 use Rattle.sasl_c.specs.Keys.{KeysHaveRoom, ShowsKeys, WritesKeys, no_keys_struct}
 use Rattle.sasl_c.specs.Passwords.{IsPassword, password_tests}
 use Rattle.sasl_c.specs.Records.{IsVersion}
@@ -49,6 +49,16 @@ flag_number false = 0
 abbrev pub IsChannelOf : Login → ClientChannel → Type 0
 IsChannelOf login channel = IsChannel login.channel_use login.channel_kind login.channel_data_len login.channel_data channel
 
+-- a login can name this identity (RFC 4422, section 3.4.1): it has no zero byte, and 256 bytes at most. The empty one names
+-- none
+abbrev pub CanBeNamed : List ℕ → Type 0
+CanBeNamed name = Without 0 name × (length name ≤ 256)
+
+-- what a login says in the header of its messages (RFC 5802, section 7): its channel, and the identity that it names
+abbrev pub IsHeaderOf : Login → ClientHeader → Type 0
+IsHeaderOf login header = IsChannelOf login header.channel
+    × (header.acts_for ≡ identity_named (Some login.acts_for.now)) × CanBeNamed login.acts_for.now
+
 -- a client of this login
 pub record IsClientOf (login : Login) (side : ClientSide) : Type 0 where
   pub version : IsVersion login.version side.version
@@ -56,8 +66,7 @@ pub record IsClientOf (login : Login) (side : ClientSide) : Type 0 where
   pub secret : IsSecretOf login side.secret
   pub least : side.limits.min_iterations ≡ login.min_iterations
   pub most : side.limits.max_iterations ≡ login.max_iterations
-  pub channel : IsChannelOf login side.channel
-  pub own : side.acts_for ≡ None
+  pub header : IsHeaderOf login (header_in side)
   pub strict : side.strict ≡ is_set login.strict
   pub signed : side.signature_by_challenge ≡ is_set login.signature_by_challenge
 
@@ -74,11 +83,20 @@ IsNoSecret login status = ((login.secret ≡ 0) × IsFirst (password_tests login
     ⊎ (NoneHolds (password_tests login.form login.password.now) × IsFirst (keys_tests login) status)))
     ⊎ ((2 < login.secret) × (status ≡ statuses.NoSuchSecret))
 
--- the tests of its version, its user and its channel, in their order
+-- the tests of an identity, in their order
+abbrev pub identity_tests : List ℕ → List (Status × Type 0)
+identity_tests name = (statuses.NotUtf8, ¬ IsUtf8 name) ∷ (statuses.ProhibitedCharacter, ¬ Without 0 name)
+    ∷ (statuses.TooLong, 256 < length name) ∷ []
+
+-- the tests of its identity and its channel, in their order
+abbrev pub header_tests : Login → List (Status × Type 0)
+header_tests login = identity_tests login.acts_for.now
+    ++ channel_tests login.channel_use login.channel_kind login.channel_data_len
+
+-- the tests of its version, its user, its identity and its channel, in their order
 abbrev pub name_tests : Login → List (Status × Type 0)
 name_tests login = (statuses.NoSuchVersion, (known : ScramVersion) → ¬ IsVersion login.version known)
-    ∷ (statuses.NotUtf8, ¬ IsUtf8 login.username.now)
-    ∷ channel_tests login.channel_use login.channel_kind login.channel_data_len
+    ∷ (statuses.NotUtf8, ¬ IsUtf8 login.username.now) ∷ header_tests login
 
 -- why a login is none: the first test that holds, and the secret's are the last
 abbrev pub IsNoLogin : Login → Status → Type 0
@@ -233,6 +251,10 @@ Responds login text before after (Ok message) = (next : ClientSide) × AnswersBy
     × IsSide login after next × WritesClient after next.state
 Responds login text before after (Err status) = ((status ≡ client_status Utf8Error) × ¬ IsUtf8 text)
     ⊎ (IsUtf8 text × NotAnswered login before text status)
+
+-- how many bytes more than the server-first message the room for its answer has
+abbrev pub answer_more : Login → ℕ
+answer_more login = channel_more login.channel_use + identity_more login.acts_for.now
 
 -- memory is requested to answer a server-first message: the message is UTF-8, the login is one, and its client-first
 -- message was sent last

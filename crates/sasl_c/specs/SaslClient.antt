@@ -1,8 +1,8 @@
 -- The client's side of a connection that is kept in structs of C between its calls (AMQP 1.0, part 5, section 5.3.2).
-use Rattle.std.specs.Prelude.{◌≡◌, ◌≢◌, ◌<◌, ◌⊎◌, ℕ, Bool, true, false, Option, Some, None, List, [], ◌∷◌, replicate, Result, Ok, Err}
+use Rattle.std.specs.Prelude.{◌≡◌, ◌≢◌, ◌<◌, ◌⊎◌, ℕ, Bool, true, false, ◌||◌, is_some, Option, Some, None, List, [], ◌∷◌, replicate, Result, Ok, Err}
 use Rattle.std.specs.Str.{IsUtf8}
 use Rattle.fe2o3_scram.specs.Readings.{IsFirst, NoneHolds}
-use Rattle.fe2o3_scram.specs.ScramClient.{ClientSide}
+use Rattle.fe2o3_scram.specs.ScramClient.{ClientSide, identity_named}
 use Rattle.fe2o3_sasl_core.specs.Profiles.{Profile, ScramProfile, PlainProfile, AnonymousProfile, ExternalProfile, MessageProfile, MessageMechanism, AnonymousMessage, ExternalMessage}
 use Rattle.fe2o3_sasl_core.specs.PlainWords.{ArePlainWords}
 use Rattle.fe2o3_sasl_negotiation.specs.declared.progress.Progress.TheVariants.{InProgress}
@@ -16,7 +16,7 @@ use Rattle.sasl_c.specs.declared.sasl_client.SaslClient.{SaslClient as Struct}
 use Rattle.sasl_c.specs.declared.sasl_client.SaslLogin.{SaslLogin as Login}
 use Rattle.sasl_c.specs.declared.status.Status.{Status}
 use Rattle.sasl_c.specs.declared.status.Status.TheVariants as statuses
-use Rattle.sasl_c.specs.Client.{IsClientOf, IsNoLogin, IsReached, IsSide, WritesClient, fresh_client_struct, is_set, started_struct}
+use Rattle.sasl_c.specs.Client.{CanBeNamed, IsClientOf, IsNoLogin, IsReached, IsSide, WritesClient, fresh_client_struct, is_set, started_struct}
 use Rattle.sasl_c.specs.Plain.{word_tests}
 use Rattle.sasl_c.specs.Connection.{IsSideOf, KeepsNoPartOf, accepts_extended, side_tests, connection_struct}
 
@@ -44,39 +44,57 @@ abbrev pub CanSendWords : Bool → List ℕ → List ℕ → Type 0
 CanSendWords false user password = Unit {0}
 CanSendWords true user password = ArePlainWords user password
 
--- the tests of these, in their order: by a strict client, those of a message
-abbrev pub client_word_tests : Bool → List ℕ → List ℕ → List (Status × Type 0)
-client_word_tests false user password = (statuses.NotUtf8, ¬ IsUtf8 user ⊎ ¬ IsUtf8 password) ∷ []
-client_word_tests true user password = word_tests user password
+-- the tests of these and of the identity to act for, in their order: by a strict client, those of a message
+abbrev pub client_word_tests : Bool → List ℕ → List ℕ → List ℕ → List (Status × Type 0)
+client_word_tests false identity user password = (statuses.NotUtf8, ¬ IsUtf8 user ⊎ ¬ IsUtf8 password) ∷ []
+client_word_tests true identity user password = word_tests identity user password
 
--- PLAIN of a login has this user name and this password
-abbrev pub IsPlainOf : Words → List ℕ → List ℕ → Type 0
-IsPlainOf words user password = (user ≡ words.username.now) × (password ≡ words.password.now)
-    × CanSendWords (is_set words.strict) user password
+-- a client of PLAIN is strict about its words if it names an identity, or is set to
+abbrev pub is_strict_plain : Words → Bool
+is_strict_plain words = is_some (identity_named (Some words.acts_for.now)) || is_set words.strict
+
+-- PLAIN of a login has this identity, which is empty if the user acts for itself, this user name and this password
+abbrev pub IsPlainOf : Words → List ℕ → List ℕ → List ℕ → Type 0
+IsPlainOf words identity user password = (identity ≡ words.acts_for.now) × (user ≡ words.username.now)
+    × (password ≡ words.password.now) × CanBeNamed identity × CanSendWords (is_strict_plain words) user password
+
+-- a login by ANONYMOUS names no identity, since none can be sent (RFC 4505)
+abbrev pub CanSendMessage : MessageMechanism → Words → Type 0
+CanSendMessage AnonymousMessage words = words.acts_for.now ≡ []
+CanSendMessage ExternalMessage words = Unit {0}
 
 -- the profile of a login; that of SCRAM has the client of the struct (RFC 4616, RFC 4505, RFC 4422, RFC 5802)
 abbrev pub IsProfile : Login → ScramStruct → Profile → Type 0
 IsProfile login scram (ScramProfile side) = (login.mechanism ≡ 0) × IsSide login.login scram side
-IsProfile login scram (PlainProfile user password) = (login.mechanism ≡ 1) × IsPlainOf login.login user password
-IsProfile login scram AnonymousProfile = login.mechanism ≡ 2
+IsProfile login scram (PlainProfile identity user password) =
+    (login.mechanism ≡ 1) × IsPlainOf login.login identity user password
+IsProfile login scram AnonymousProfile = (login.mechanism ≡ 2) × (login.login.acts_for.now ≡ [])
 IsProfile login scram ExternalProfile = login.mechanism ≡ 3
 IsProfile login scram (MessageProfile mechanism message is_due) = (login.mechanism ≡ message_number mechanism)
-    × (message ≡ login.login.username.now) × IsDueIn scram is_due
+    × (message ≡ login.login.username.now) × IsDueIn scram is_due × CanSendMessage mechanism login.login
 
 -- why the words of a login give no PLAIN
 abbrev pub HasNoClientWords : Words → Status → Type 0
 HasNoClientWords words status =
-    IsFirst (client_word_tests (is_set words.strict) words.username.now words.password.now) status
+    IsFirst (client_word_tests (is_strict_plain words) words.acts_for.now words.username.now words.password.now) status
 
--- why they give no message: the user name is not UTF-8
-abbrev pub HasNoMessage : Words → Status → Type 0
-HasNoMessage words status = (status ≡ statuses.NotUtf8) × ¬ IsUtf8 words.username.now
+-- the test of the identity of a login by ANONYMOUS
+abbrev pub anonymous_tests : Words → List (Status × Type 0)
+anonymous_tests words = (statuses.NotImplemented, words.acts_for.now ≢ []) ∷ []
+
+-- the tests of the words of a message, in their order
+abbrev pub message_tests : MessageMechanism → Words → List (Status × Type 0)
+message_tests AnonymousMessage words = (statuses.NotImplemented, words.acts_for.now ≢ [])
+    ∷ (statuses.NotUtf8, ¬ IsUtf8 words.username.now) ∷ []
+message_tests ExternalMessage words = (statuses.NotUtf8, ¬ IsUtf8 words.username.now) ∷ []
 
 -- why a login has no profile
 unfoldable pub IsNoProfile : Login → Status → Type 0
 IsNoProfile login status = ((login.mechanism ≡ 0) × IsNoLogin login.login status)
     ⊎ ((login.mechanism ≡ 1) × HasNoClientWords login.login status)
-    ⊎ (((mechanism : MessageMechanism) × (login.mechanism ≡ message_number mechanism)) × HasNoMessage login.login status)
+    ⊎ ((login.mechanism ≡ 2) × IsFirst (anonymous_tests login.login) status)
+    ⊎ ((mechanism : MessageMechanism) × (login.mechanism ≡ message_number mechanism)
+    × IsFirst (message_tests mechanism login.login) status)
     ⊎ ((5 < login.mechanism) × (status ≡ statuses.NoSuchMechanism))
 
 -- the structs are those of this side
@@ -87,7 +105,7 @@ IsClient login client side = IsSideOf client.connection side × IsProfile login 
 -- of a single message after its init
 abbrev pub WritesProfile : ScramStruct → Profile → Type 0
 WritesProfile written (ScramProfile side) = WritesClient written side.state
-WritesProfile written (PlainProfile user password) = written ≡ fresh_client_struct
+WritesProfile written (PlainProfile identity user password) = written ≡ fresh_client_struct
 WritesProfile written AnonymousProfile = written ≡ fresh_client_struct
 WritesProfile written ExternalProfile = written ≡ fresh_client_struct
 WritesProfile written (MessageProfile mechanism message true) = written ≡ started_struct (replicate 32 0)
@@ -118,11 +136,12 @@ ClientIsReached words side = IsClientOf words side × IsReached side.user side.s
 -- the profile that a login reaches
 abbrev pub ProfileIsReached : Login → Profile → Type 0
 ProfileIsReached login (ScramProfile side) = (login.mechanism ≡ 0) × ClientIsReached login.login side
-ProfileIsReached login (PlainProfile user password) = (login.mechanism ≡ 1) × IsPlainOf login.login user password
-ProfileIsReached login AnonymousProfile = login.mechanism ≡ 2
+ProfileIsReached login (PlainProfile identity user password) =
+    (login.mechanism ≡ 1) × IsPlainOf login.login identity user password
+ProfileIsReached login AnonymousProfile = (login.mechanism ≡ 2) × (login.login.acts_for.now ≡ [])
 ProfileIsReached login ExternalProfile = login.mechanism ≡ 3
 ProfileIsReached login (MessageProfile mechanism message is_due) = (login.mechanism ≡ message_number mechanism)
-    × (message ≡ login.login.username.now)
+    × (message ≡ login.login.username.now) × CanSendMessage mechanism login.login
 
 -- the header with which a client begins
 abbrev pub OpensConnection : Result (List ℕ) Status → Type 0

@@ -118,7 +118,7 @@ abbrev pub connection_size : ℕ
 connection_size = 4 * word + 512 + word
 
 abbrev pub login_size : ℕ
-login_size = (5 * word + 4) + slice + slice + 8 + (5 * word + 64 + 4)
+login_size = (5 * word + 4) + slice + slice + slice + 8 + (5 * word + 64 + 4)
 
 abbrev pub sasl_login_size : ℕ
 sasl_login_size = (word + 4) + slice + login_size

@@ -14,7 +14,7 @@ use crate::keys::ScramKeys;
 use crate::login::Login;
 use crate::status::{Status, WriteError, number, text_number};
 use bytes::Bytes;
-use fe2o3_scram::{ClientHeader, ScramErrorKind, ServerError};
+use fe2o3_scram::{ScramErrorKind, ServerError};
 use std::alloc::Global;
 
 /// Returns the client-first message.
@@ -127,8 +127,8 @@ fn verify(
         Ok(version) => version,
         Err(status) => return Err(status),
     };
-    let channel = match login.channel() {
-        Ok(channel) => channel,
+    let header = match login.header() {
+        Ok(header) => header,
         Err(status) => return Err(status),
     };
     let Some(signature) = client.awaited() else {
@@ -137,7 +137,7 @@ fn verify(
     let strict = is_set(login.strict);
     if let Err(why) = version.validate_server_final_with_header(
         alloc,
-        &ClientHeader::new(channel, None),
+        &header,
         strict,
         server_final,
         signature,

@@ -6,8 +6,8 @@ ghost use Rattle.sasl_c.specs.Records.{IsVersion};
 ghost use Rattle.fe2o3_scram.specs.ClientFinal.{answer_values};
 ghost use Rattle.fe2o3_scram.specs.ClientSecret.{secret_of};
 ghost use Rattle.fe2o3_scram.specs.Texts.{base64_text};
-ghost use Rattle.sasl_c.specs.Client.{AnswerAsks, Responds, IsAnswer, IsChannelOf, IsTestedLogin, IsSecretOf, NotAnswered, name_tests};
-ghost use Rattle.sasl_c.specs.Channels.{answer_more};
+ghost use Rattle.sasl_c.specs.Client.{AnswerAsks, answer_more, Responds, IsAnswer, IsHeaderOf, IsTestedLogin, IsSecretOf, NotAnswered, name_tests};
+ghost use Rattle.sasl_c.specs.Channels.{channel_more, identity_more};
 ghost use Rattle.std.specs.Str.{IsUtf8};
 ghost use Rattle.sasl_c.specs.Status.{Answers, AnswersText, AsksText, AsksWhere, FillsWithin};
 ghost use Rattle.sasl_c.specs.declared.status.Status.TheVariants.{OutOfMemory as StatusOutOfMemory};
@@ -20,20 +20,37 @@ use crate::login::Login;
 use crate::passwords::password_in;
 use crate::status::{Status, WriteError, text_number};
 use base64::engine::general_purpose::STANDARD;
-use fe2o3_scram::{
-    ClientAnswer, ClientChannel, ClientHeader, ClientSecret, Meter, ScramErrorKind, ScramVersion,
-};
+use fe2o3_scram::{ClientAnswer, ClientHeader, ClientSecret, Meter, ScramErrorKind, ScramVersion};
 use std::alloc::Global;
 
-/// Returns the maximum number of bytes that an answer has more than its server-first message, by the use of the channel.
-fn answer_more(channel_use: u32) -> usize
-    ensures more { result ≡ answer_more channel_use }
+/// Returns how many bytes an answer may have more than its server-first message, by the use of the channel.
+fn channel_more(channel_use: u32) -> usize
+    ensures more { result ≡ channel_more channel_use }
     ensures few { result ≤ 256 }
 {
     match channel_use {
         2 => 256,
         _ => 128,
     }
+}
+
+/// Returns how many bytes an answer may have more if its client names this identity.
+fn identity_more(acts_for: &[u8]) -> usize
+    ensures more { result ≡ identity_more acts_for.now }
+    ensures few { result ≤ 1024 }
+{
+    match acts_for {
+        [] => 0,
+        _ => 1024,
+    }
+}
+
+/// Returns how many bytes the room for an answer has more than its server-first message.
+fn answer_more(login: &Login<'_>) -> usize
+    ensures more { result ≡ answer_more login.now }
+    ensures few { result ≤ 1280 }
+{
+    channel_more(login.channel_use) + identity_more(login.acts_for)
 }
 
 /// Returns the text of a nonce: its 44 symbols of base64.
@@ -55,17 +72,17 @@ fn answered_by(
     login: &Login<'_>,
     version: ScramVersion,
     secret: ClientSecret<'_>,
-    channel: &ClientChannel,
+    header: &ClientHeader<'_>,
     client: &ScramClient,
     server_first: &str,
     meter: &mut Meter,
 ) -> Result<ClientAnswer, Status>
     requires { meter.old ≤ 2 ^ 63 }
     ensures ok { IfOk result (λ answer. IsVersion login.now.version version → IsSecretOf login.now
-        (secret_of secret.entry) → IsChannelOf login.now channel.now
+        (secret_of secret.entry) → IsHeaderOf login.now header.now
         → client.now.state ≡ 1 → IsAnswer login.now client.now server_first.now (answer_values answer)) }
     ensures err { IfErr result (λ status. status ≢ StatusOutOfMemory → IsVersion login.now.version version
-        → IsSecretOf login.now (secret_of secret.entry) → IsChannelOf login.now channel.now → client.now.state ≡ 1
+        → IsSecretOf login.now (secret_of secret.entry) → IsHeaderOf login.now header.now → client.now.state ≡ 1
         → NotAnswered login.now client.now server_first.now status) }
 {
     let mut room = [0; 44];
@@ -78,7 +95,7 @@ fn answered_by(
         server_first,
         bare.as_slice(),
         login.limits(),
-        &ClientHeader::new(*channel, None),
+        header,
         is_set(login.strict),
         meter,
     ) {
@@ -93,16 +110,16 @@ fn answered_of(
     alloc: Global,
     login: &Login<'_>,
     version: ScramVersion,
-    channel: &ClientChannel,
+    header: &ClientHeader<'_>,
     client: &ScramClient,
     server_first: &str,
     meter: &mut Meter,
 ) -> Result<ClientAnswer, Status>
     requires { meter.old ≤ 2 ^ 63 }
-    ensures ok { IfOk result (λ answer. IsVersion login.now.version version → IsChannelOf login.now channel.now
+    ensures ok { IfOk result (λ answer. IsVersion login.now.version version → IsHeaderOf login.now header.now
         → client.now.state ≡ 1 → IsAnswer login.now client.now server_first.now (answer_values answer)) }
     ensures err { IfErr result (λ status. status ≢ StatusOutOfMemory → NoneHolds (name_tests login.now)
-        → IsVersion login.now.version version → IsChannelOf login.now channel.now → client.now.state ≡ 1
+        → IsVersion login.now.version version → IsHeaderOf login.now header.now → client.now.state ≡ 1
         → NotAnswered login.now client.now server_first.now status) }
 {
     match login.secret {
@@ -117,7 +134,7 @@ fn answered_of(
                 login,
                 version,
                 secret,
-                channel,
+                header,
                 client,
                 server_first,
                 meter,
@@ -134,7 +151,7 @@ fn answered_of(
                 login,
                 version,
                 secret,
-                channel,
+                header,
                 client,
                 server_first,
                 meter,
@@ -158,7 +175,7 @@ fn answered_of(
                 login,
                 version,
                 secret,
-                channel,
+                header,
                 client,
                 server_first,
                 meter,
@@ -203,11 +220,11 @@ fn answered(
         Ok(version) => version,
         Err(status) => return Err(status),
     };
-    let channel = match login.channel() {
-        Ok(channel) => channel,
+    let header = match login.header() {
+        Ok(header) => header,
         Err(status) => return Err(status),
     };
-    answered_of(alloc, login, version, &channel, client, server_first, meter)
+    answered_of(alloc, login, version, &header, client, server_first, meter)
 }
 
 /// Writes the client-final message.
@@ -222,14 +239,14 @@ fn answer(
     out_len: &mut usize,
 ) -> Result<(), WriteError>
     requires { meter.old ≤ 2 ^ 63 }
-    ensures text { FillsWithin (length server_first.now + answer_more login.now.channel_use)
+    ensures text { FillsWithin (length server_first.now + answer_more login.now)
         (Responds login.now server_first.now client.old client.new) (record { bytes = out.old; len = out_len.old })
         (record { bytes = out.new; len = out_len.new }) result }
     ensures stays { OnErr result (client.new ≡ client.old) }
     ensures first { IfErr result (λ status. status ≡ RoomTooSmall → meter.new ≡ meter.old) }
     ensures memory { AsksText (AnswerAsks login.now server_first.now client.old) result }
 {
-    let suffices = server_first.len() + answer_more(login.channel_use);
+    let suffices = server_first.len() + answer_more(login);
     if out.len() < suffices {
         *out_len = suffices;
         return Err(WriteError::RoomTooSmall);
@@ -247,7 +264,8 @@ fn answer(
 }
 
 /// Answers the server-first message with the client-final message. `out` needs 128 bytes more than the server-first
-/// message has, or 256 more if the client binds a channel. This is tested before anything is hashed.
+/// message has, or 256 more if the client binds a channel, and another 1024 if it names an identity to act for. This is
+/// tested before anything is hashed.
 #[unsafe(no_mangle)]
 pub extern "C" fn fe2o3_scram_client_final(
     alloc: Global,
@@ -257,7 +275,7 @@ pub extern "C" fn fe2o3_scram_client_final(
     out: &mut [u8],
     out_len: &mut usize,
 ) -> u32
-    ensures { AnswersText result (λ answer. FillsWithin (length server_first.now + answer_more login.now.channel_use)
+    ensures { AnswersText result (λ answer. FillsWithin (length server_first.now + answer_more login.now)
         (Responds login.now server_first.now client.old client.new) (record { bytes = out.old; len = out_len.old })
         (record { bytes = out.new; len = out_len.new }) answer × OnErr answer (client.new ≡ client.old)
         × AsksText (AnswerAsks login.now server_first.now client.old) answer) }

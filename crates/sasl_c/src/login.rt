@@ -1,12 +1,12 @@
 //! What a client logs in with, as a struct, and the client of it that has sent nothing.
 
-ghost use Rattle.std.specs.Prelude.{None, false, ◌≡◌, ◌≢◌, IfOk, IfErr, OnErr, MatchOption, MatchResult};
+ghost use Rattle.std.specs.Prelude.{false, ◌≡◌, ◌≢◌, IfOk, IfErr, OnErr, MatchOption, MatchResult};
 ghost use Rattle.std.specs.String.{string_bytes};
 ghost use Rattle.fe2o3_scram.specs.ClientSecret.{IsOfVersion, secret_of};
 ghost use Rattle.fe2o3_scram.specs.ScramClient.{ClientInitial};
 ghost use Rattle.fe2o3_scram.specs.Readings.{IsFirst, NoneHolds, Reads};
 ghost use Rattle.sasl_c.specs.Records.{IsVersion};
-ghost use Rattle.sasl_c.specs.Client.{HasSecret, HoldsNone, IsChannelOf, IsClientOf, IsTestedLogin, IsNoLogin, IsNoSecret, IsSecretOf, keys_tests, name_tests};
+ghost use Rattle.sasl_c.specs.Client.{HasSecret, HoldsNone, IsChannelOf, IsClientOf, IsHeaderOf, IsTestedLogin, IsNoLogin, IsNoSecret, IsSecretOf, header_tests, keys_tests, name_tests};
 ghost use Rattle.sasl_c.specs.Channels.{channel_tests};
 ghost use Rattle.sasl_c.specs.Keys.{ShowsKeys, ShowsSomeKeys};
 ghost use Rattle.sasl_c.specs.Status.{AsksWhere};
@@ -14,11 +14,13 @@ ghost use Rattle.sasl_c.specs.declared.status.Status.TheVariants.{OutOfMemory as
 
 use crate::channels::channel_in;
 use crate::flags::is_set;
+use crate::identity::identity_in;
 use crate::keys::ScramKeys;
 use crate::passwords::password_in;
 use crate::status::{Status, text, version_of};
 use fe2o3_scram::{
-    CachedKeys, ClientChannel, ClientSecret, IterationLimits, ScramClient as Machine, ScramVersion,
+    CachedKeys, ClientChannel, ClientHeader, ClientSecret, IterationLimits, ScramClient as Machine,
+    ScramVersion,
 };
 use std::alloc::Global;
 
@@ -43,6 +45,17 @@ pub struct Login<'a> {
 
     /// The user name, without escapes.
     pub username: &'a [u8],
+
+    /// The identity that the client acts for, without escapes (RFC 4422, section 2), of 256 bytes at most. If empty, the
+    /// client acts for itself. The server decides whether the user may act for it.
+    ///
+    /// - SCRAM sends it in the GS2 header (RFC 5802, section 7). A client that names one tests the extensions like one
+    ///   that binds a channel.
+    /// - PLAIN sends it as the first part of its message (RFC 4616, section 2), by `fe2o3_sasl_client_receive` and
+    ///   `fe2o3_sasl_client_step`. A client that names one tests its words like a strict one.
+    /// - ANONYMOUS names no identity: with one these calls return FE2O3_NOT_IMPLEMENTED.
+    /// - EXTERNAL does not send it: FE2O3_EXTERNAL_AS sends `username` as the identity.
+    pub acts_for: &'a [u8],
 
     /// The password.
     pub password: &'a [u8],
@@ -107,7 +120,6 @@ fn client_by(
     requires { IsOfVersion version (secret_of secret) }
     ensures ok { IfOk result (λ side. (side.secret ≡ secret_of secret.entry) × (side.user ≡ string_bytes username)
         × (side.version ≡ version) × (side.state ≡ ClientInitial)) }
-    ensures own { IfOk result (λ side. side.acts_for ≡ None) }
     ensures err { IfErr result (λ status. status ≡ StatusOutOfMemory) }
 {
     match Machine::with_secret(alloc, username, secret, version) {
@@ -143,14 +155,33 @@ impl Login<'_> {
         )
     }
 
-    /// Returns the version, after a test of the version, of the user's name and of the channel.
+    /// Returns what the client says in the header of its messages: its channel, and the identity that it acts for. The
+    /// errors are those of the identity, `NoSuchChannel` and `ChannelDataLength`.
+    #[tactic(auto, using(crate::proofs::LoginLemmas::headers))]
+    pub fn header(&self) -> Result<ClientHeader<'_>, Status>
+        ensures tested { MatchResult result (λ header. IsHeaderOf self.now header × NoneHolds (header_tests self.now))
+            (λ status. IsFirst (header_tests self.now) status) }
+        ensures memory { IfErr result (λ status. status ≢ StatusOutOfMemory) }
+    {
+        let name = match identity_in(self.acts_for) {
+            Ok(name) => name,
+            Err(status) => return Err(status),
+        };
+        match self.channel() {
+            Ok(channel) if name.is_empty() => Ok(ClientHeader::new(channel, None)),
+            Ok(channel) => Ok(ClientHeader::new(channel, Some(name))),
+            Err(status) => Err(status),
+        }
+    }
+
+    /// Returns the version, after a test of the version, of the user's name, of the identity and of the channel.
     #[tactic(auto, using(crate::proofs::LoginLemmas::names))]
     pub fn named_version(&self) -> Result<ScramVersion, Status>
         ensures { Reads (name_tests self.now) (λ version. IsVersion self.now.version version) result }
     {
         let version = version_of(self.version).ok_or(Status::NoSuchVersion)?;
         text(self.username)?;
-        match self.channel() {
+        match self.header() {
             Ok(_) => Ok(version),
             Err(status) => Err(status),
         }
@@ -200,8 +231,8 @@ impl Login<'_> {
         }
     }
 
-    /// Tests the version, the user's name, the channel and the secret, in this order, without memory. Returns the
-    /// version.
+    /// Tests the version, the user's name, the identity, the channel and the secret, in this order, without memory.
+    /// Returns the version.
     #[tactic(auto, using(crate::proofs::LoginLemmas::login_tests))]
     pub fn tested(&self) -> Result<ScramVersion, Status>
         ensures ok { IfOk result (λ version. IsVersion self.now.version version × IsTestedLogin self.now) }
@@ -245,7 +276,6 @@ impl Login<'_> {
         ensures ok { IfOk result (λ side. IsSecretOf self.now side.secret × (side.user ≡ string_bytes username)
             × (side.state ≡ ClientInitial)) }
         ensures version { IfOk result (λ side. IsVersion self.now.version side.version) }
-        ensures own { IfOk result (λ side. side.acts_for ≡ None) }
         ensures err { IfErr result (λ status. status ≢ StatusOutOfMemory → IsNoSecret self.now status) }
     {
         match self.secret {
@@ -287,6 +317,7 @@ impl Login<'_> {
             Ok(channel) => channel,
             Err(status) => return Err(status),
         };
+        let acts_for = identity_in(self.acts_for)?.to_string(alloc)?;
         let username = text(self.username)?.to_string(alloc)?;
         match self.by_secret(alloc, username, version) {
             Ok(client) => Ok(
@@ -294,6 +325,7 @@ impl Login<'_> {
                     .with_min_iterations(self.min_iterations)
                     .with_iteration_limit(self.max_iterations)
                     .with_channel(channel)
+                    .acting_for(Some(acts_for))
                     .strict(is_set(self.strict))
                     .signature_by_challenge(is_set(self.signature_by_challenge)),
             ),

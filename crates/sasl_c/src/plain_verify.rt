@@ -4,22 +4,57 @@ ghost use Rattle.std.specs.Prelude.{◌↔◌, ◌≡◌, ◌≢◌, ◌≤◌, 
 ghost use Rattle.fe2o3_sasl_wire.specs.AmqpTypes.{init_frame};
 ghost use Rattle.fe2o3_scram.specs.Credentials.{Store, VersionedRecord};
 ghost use Rattle.fe2o3_scram.specs.Readings.{Gives};
-ghost use Rattle.fe2o3_sasl_core.specs.PlainServer.{PlainLogsIn, plain_hmacs, plain_state};
+ghost use Rattle.fe2o3_sasl_core.specs.PlainServer.{PlainLogsIn, PlainParts, plain_hmacs, plain_state};
 ghost use Rattle.fe2o3_sasl_core.specs.SaslAcceptor.{ends_with, sent_frame};
 ghost use Rattle.fe2o3_sasl_wire.specs.declared.amqp_types.SaslCode.TheVariants.{Ok as CodeOk, Auth as CodeAuth};
 ghost use Rattle.fe2o3_sasl_core.specs.declared.plain_server.passwords.PlainPasswords.{PlainPasswords as Forms};
-ghost use Rattle.sasl_c.specs.Plain.{ClaimsPlainUser, FirstShown, HasUsersPassword, PlainAsks, VerifiesPlain, VerifyingCosts, form_number, plain_init, plain_server_of, store_of};
+ghost use Rattle.sasl_c.specs.Client.{is_set};
+ghost use Rattle.sasl_c.specs.Plain.{ClaimsPlainUser, FirstShown, HasUsersPassword, PlainAsks, PlainTerms as Terms, VerifiesPlain, VerifyingCosts, form_number, plain_init, plain_server_of, store_of};
+ghost use Rattle.sasl_c.specs.Acting.{rights_for};
 ghost use Rattle.sasl_c.specs.Server.{one_user};
 ghost use Rattle.sasl_c.specs.Status.{Answers};
 ghost use Rattle.sasl_c.specs.declared.status.Status.TheVariants.{OutOfMemory as StatusOutOfMemory};
 
+use crate::acting::acting_rights;
+use crate::flags::is_set;
 use crate::records::ScramRecord;
-use crate::status::{Status, number};
+use crate::status::{Status, number, text};
 use fe2o3_sasl_core::plain_server::plain_user;
 use fe2o3_sasl_core::{PlainPasswords, PlainServer, SaslAcceptor, SaslServerFrame};
 use fe2o3_sasl_wire::{Binary, SaslCode, SaslInit, Symbol};
-use fe2o3_scram::{Meter, RecordStore, ScramVersion, ServerScramErrorKind};
+use fe2o3_scram::{ActingRights, Meter, RecordStore, ScramVersion, ServerScramErrorKind};
 use std::alloc::Global;
+use std::marker::Model;
+use std::sync::Arc;
+
+/// What a message is tested by, besides the records.
+#[derive(Drop)]
+struct PlainTerms<'a> {
+    /// The form of passwords.
+    passwords: PlainPasswords,
+
+    /// The iteration count for unknown users.
+    iterations: u32,
+
+    /// Whether a message may name an identity other than its user.
+    accept_authzid: bool,
+
+    /// The identities that the user may act for, with a zero byte after each.
+    identities: &'a str,
+}
+
+impl<'a> Model for PlainTerms<'a> {
+    ghost use Rattle.sasl_c.specs.Plain.{PlainTerms as Terms};
+
+    ghost Value = { Terms };
+
+    ghost view = { λ terms. record {
+      passwords = terms.passwords;
+      count = terms.iterations;
+      accepts = terms.accept_authzid;
+      identities = terms.identities.now;
+    } };
+}
 
 /// Returns the form of passwords of a number.
 fn form_of(number: u32) -> Option<PlainPasswords>
@@ -86,15 +121,19 @@ fn store_for(alloc: Global, username: &str, records: &[ScramRecord]) -> Result<R
     Ok(RecordStore::new(alloc, ScramVersion::Sha256))
 }
 
-/// Returns a server of PLAIN over this store, with an iteration count for unknown users.
+/// Returns a server of PLAIN over this store, by these terms and the rights of its user.
 fn server_over(
     store: RecordStore,
-    passwords: PlainPasswords,
-    iterations: u32,
+    terms: &PlainTerms<'_>,
+    rights: Arc<ActingRights>,
 ) -> PlainServer<RecordStore>
-    ensures { plain_state (λ (store : Store). store) result ≡ plain_server_of passwords iterations store }
+    ensures { (user : List ℕ) → rights.value ≡ rights_for user terms.now.identities
+        → plain_state (λ (store : Store). store) result ≡ plain_server_of terms.now user store }
 {
-    PlainServer::new(store, iterations).with_passwords(passwords)
+    PlainServer::new(store, terms.iterations)
+        .with_passwords(terms.passwords)
+        .accept_authzid(terms.accept_authzid)
+        .with_acting_rights(rights)
 }
 
 /// Returns whether a reply says that a user has logged in.
@@ -108,24 +147,23 @@ fn is_ok(reply: SaslServerFrame) -> bool
     }
 }
 
-/// Returns whether a server of PLAIN over a store logs a user in by a message. The meter counts the HMAC values.
-/// `OutOfMemory` is the only error.
+/// Returns whether a server of PLAIN logs a user in by a message. The meter counts the HMAC values. `OutOfMemory` is the
+/// only error.
 fn logs_in(
     alloc: Global,
-    store: RecordStore,
-    passwords: PlainPasswords,
-    iterations: u32,
+    server: PlainServer<RecordStore>,
     message: &[u8],
     meter: &mut Meter,
 ) -> Result<bool, Status>
     requires { meter.old ≤ 2 ^ 63 }
-    ensures ok { IfOk result (λ is. IsTrue is
-        ↔ ((user : List ℕ) × PlainLogsIn passwords store (plain_init message.now) user)) }
+    ensures ok { IfOk result (λ is. IsTrue is ↔ ((parts : PlainParts)
+        × PlainLogsIn (plain_state (λ (store : Store). store) server) (plain_init message.now) parts)) }
     ensures err { IfErr result (λ status. status ≡ StatusOutOfMemory) }
-    ensures cost { IfOk result (λ _. (n : ℕ) → plain_hmacs (plain_server_of passwords iterations store) (plain_init message.now) n
+    ensures cost { IfOk result (λ _. (n : ℕ)
+        → plain_hmacs (plain_state (λ (store : Store). store) server) (plain_init message.now) n
         → meter.new ≡ meter.old + n) }
 {
-    let mut server = server_over(store, passwords, iterations);
+    let mut server = server;
     let init = match init_with(alloc, message) {
         Ok(init) => init,
         Err(status) => return Err(status),
@@ -138,27 +176,51 @@ fn logs_in(
     }
 }
 
-/// Returns whether a message has the password of its user. The meter counts the HMAC values. `OutOfMemory` is the only
-/// error.
+/// Returns the server of a user by these terms, over the first record that can be read. `OutOfMemory` is the only error.
+fn server_for(
+    alloc: Global,
+    username: &str,
+    records: &[ScramRecord],
+    terms: &PlainTerms<'_>,
+) -> Result<PlainServer<RecordStore>, Status>
+    ensures ok { IfOk result (λ server. (found : Option VersionedRecord) × FirstShown records.now found
+        × (plain_state (λ (store : Store). store) server
+        ≡ plain_server_of terms.now username.now (store_of username.now found))) }
+    ensures err { IfErr result (λ status. status ≡ StatusOutOfMemory) }
+{
+    let rights = match acting_rights(alloc, username, terms.identities) {
+        Ok(rights) => rights,
+        Err(status) => return Err(status),
+    };
+    match store_for(alloc, username, records) {
+        Ok(store) => Ok(server_over(store, terms, rights)),
+        Err(status) => {
+            drop(rights);
+            Err(status)
+        }
+    }
+}
+
+/// Returns whether a message has the password of its user, who may act for the identity that it asks for. The meter counts
+/// the HMAC values. `OutOfMemory` is the only error.
 fn has_users_password(
     alloc: Global,
     records: &[ScramRecord],
-    passwords: PlainPasswords,
-    iterations: u32,
+    terms: &PlainTerms<'_>,
     message: &[u8],
     meter: &mut Meter,
 ) -> Result<bool, Status>
     requires { meter.old ≤ 2 ^ 63 }
-    ensures ok { IfOk result (λ is. IsTrue is ↔ HasUsersPassword passwords records.now message.now) }
+    ensures ok { IfOk result (λ is. IsTrue is ↔ HasUsersPassword terms.now records.now message.now) }
     ensures err { IfErr result (λ status. status ≡ StatusOutOfMemory) }
     ensures memory { IfErr result (λ _. (name : List ℕ) × ClaimsPlainUser message.now (Ok name)) }
-    ensures cost { IfOk result (λ _. VerifyingCosts passwords records.now iterations message.now meter.old meter.new) }
+    ensures cost { IfOk result (λ _. VerifyingCosts terms.now records.now message.now meter.old meter.new) }
 {
     let Some(username) = plain_user(message) else {
         return Ok(false);
     };
-    match store_for(alloc, username, records) {
-        Ok(store) => logs_in(alloc, store, passwords, iterations, message, meter),
+    match server_for(alloc, username, records, terms) {
+        Ok(server) => logs_in(alloc, server, message, meter),
         Err(status) => Err(status),
     }
 }
@@ -170,16 +232,28 @@ fn verify(
     records: &[ScramRecord],
     form: u32,
     iterations: u32,
+    accept_authzid: u32,
+    identities: &[u8],
     message: &[u8],
 ) -> Result<(), Status>
-    ensures { Gives StatusOutOfMemory (PlainAsks form message.now) (λ (done : Unit {0}). done) result
-        (VerifiesPlain form records.now message.now) }
+    ensures { Gives StatusOutOfMemory (PlainAsks form identities.now message.now) (λ (done : Unit {0}). done) result
+        (VerifiesPlain form iterations accept_authzid identities.now records.now message.now) }
 {
     let Some(passwords) = form_of(form) else {
         return Err(Status::NoSuchChoice);
     };
+    let identities = match text(identities) {
+        Ok(identities) => identities,
+        Err(status) => return Err(status),
+    };
+    let terms = PlainTerms {
+        passwords,
+        iterations,
+        accept_authzid: is_set(accept_authzid),
+        identities,
+    };
     let mut meter = Meter::new();
-    match has_users_password(alloc, records, passwords, iterations, message, &mut meter) {
+    match has_users_password(alloc, records, &terms, message, &mut meter) {
         Ok(true) => Ok(()),
         Ok(false) => Err(Status::Server(ServerScramErrorKind::AuthenticationFailed)),
         Err(status) => Err(status),
@@ -187,25 +261,41 @@ fn verify(
 }
 
 /// Tests a message of PLAIN against the record of the user that it claims (RFC 4616). Only FE2O3_OK means that this
-/// user (`fe2o3_plain_claimed_user`) is authenticated. PLAIN sends the password in clear, so use it over TLS only.
+/// user (`fe2o3_plain_claimed_user`) is authenticated, and may act for the identity that the message asks for
+/// (`fe2o3_plain_claimed_identity`). PLAIN sends the password in clear, so use it over TLS only.
 ///
 /// `records` are those of the claimed user, of any hashes. The first one that can be read counts, so put mock records
 /// last. For an unknown user pass a mock record (`fe2o3_scram_record_mock`), or none: the password is then hashed with
 /// SHA-256 and this iteration count, as often as for a known user with this count, and rejected. `passwords` is one of
 /// enum fe2o3_plain_passwords.
 ///
-/// Returns FE2O3_NO_SUCH_CHOICE if `passwords` is none of the enum, and FE2O3_SERVER_AUTHENTICATION_FAILED for every
-/// message that does not log in: a wrong password, an unknown user, or no acceptable message.
+/// `accept_authzid` says whether a message may name an identity other than its user. 0 is no, any other value yes.
+/// `identities` are those that the user may act for besides itself (RFC 4422, section 2), with a zero byte after each.
+///
+/// Returns FE2O3_NO_SUCH_CHOICE if `passwords` is none of the enum, FE2O3_NOT_UTF8 if the identities are not UTF-8, and
+/// FE2O3_SERVER_AUTHENTICATION_FAILED for every message that does not log in: a wrong password, an unknown user, an
+/// identity that the user may not act for, or no acceptable message.
 #[unsafe(no_mangle)]
 pub extern "C" fn fe2o3_plain_verify(
     alloc: Global,
     records: &[ScramRecord],
     passwords: u32,
     iterations: u32,
+    accept_authzid: u32,
+    identities: &[u8],
     message: &[u8],
 ) -> u32
-    ensures { Answers result (λ answer. Gives StatusOutOfMemory (PlainAsks passwords message.now) (λ (done : Unit {0}). done)
-        answer (VerifiesPlain passwords records.now message.now)) }
+    ensures { Answers result (λ answer. Gives StatusOutOfMemory (PlainAsks passwords identities.now message.now)
+        (λ (done : Unit {0}). done) answer
+        (VerifiesPlain passwords iterations accept_authzid identities.now records.now message.now)) }
 {
-    number(verify(alloc, records, passwords, iterations, message))
+    number(verify(
+        alloc,
+        records,
+        passwords,
+        iterations,
+        accept_authzid,
+        identities,
+        message,
+    ))
 }

@@ -1,17 +1,20 @@
 //! The client's side of a connection as a struct between calls.
 
-ghost use Rattle.std.specs.Prelude.{◌≡◌, ◌≢◌, ◌≤◌, ◌^◌, List, ℕ, Ok, Err, length, replicate, option_map, string_bytes, IfOk, IfErr, IfSome, OnErr, MatchOption};
-ghost use Rattle.fe2o3_sasl_core.specs.Profiles.{PlainProfile, after_init};
+ghost use Rattle.std.specs.Prelude.{◌≡◌, ◌≢◌, ◌≤◌, ◌^◌, List, [], ℕ, Ok, Err, length, replicate, option_map, string_bytes, IfOk, IfErr, IfSome, OnErr, MatchOption, MatchResult};
+ghost use Rattle.fe2o3_sasl_core.specs.PlainWords.{ArePlainWords};
+ghost use Rattle.fe2o3_sasl_core.specs.Profiles.{AnonymousMessage, ExternalMessage, PlainProfile, after_init};
 ghost use Rattle.fe2o3_sasl_core.specs.SaslProfile.{profile_of};
 ghost use Rattle.fe2o3_sasl_negotiation.specs.declared.progress.Progress.TheVariants.{InProgress};
 ghost use Rattle.fe2o3_sasl_negotiation.specs.Sides.{client_side, extended_in, hostname_in};
 ghost use Rattle.fe2o3_scram.specs.Readings.{IsFirst};
 ghost use Rattle.sasl_c.specs.Connection.{accepts_extended};
-ghost use Rattle.sasl_c.specs.SaslClient.{CanSendWords, ClientTakes, client_word_tests, ProfileIsReached, HasNoClientWords, HasNoMessage, IsClient, IsHostname, IsNoClient, HasNoHostname, IsNoProfile, IsPlainOf, ReadsClient, IsProfile, OpensConnection, ReceivesAsClient, WritesProfile, WritesSide};
+ghost use Rattle.sasl_c.specs.Client.{CanBeNamed, is_set};
+ghost use Rattle.sasl_c.specs.Plain.{word_tests};
+ghost use Rattle.sasl_c.specs.SaslClient.{CanSendWords, ClientTakes, client_word_tests, message_tests, ProfileIsReached, HasNoClientWords, IsClient, IsHostname, IsNoClient, HasNoHostname, IsNoProfile, IsPlainOf, ReadsClient, IsProfile, OpensConnection, ReceivesAsClient, WritesProfile, WritesSide};
 ghost use Rattle.sasl_c.specs.declared.sasl_client.SaslClient.{SaslClient as Structs};
 ghost use Rattle.sasl_c.specs.declared.sasl_client.SaslLogin.{SaslLogin as LoginStruct};
 ghost use Rattle.sasl_c.specs.Status.{AnswersText, AsksText, AsksWhere, Fills, FillsWithin};
-ghost use Rattle.sasl_c.specs.declared.status.Status.TheVariants.{NotUtf8, OutOfMemory as StatusOutOfMemory};
+ghost use Rattle.sasl_c.specs.declared.status.Status.TheVariants.{NotImplemented as StatusNotImplemented, NotUtf8, OutOfMemory as StatusOutOfMemory};
 ghost use Rattle.sasl_c.specs.declared.status.WriteError.TheVariants.{RoomTooSmall};
 
 use crate::arrays::put;
@@ -55,20 +58,25 @@ pub struct SaslClient {
     pub scram: ScramClient,
 }
 
-/// Returns the words for PLAIN as texts. The errors are `NotUtf8`, and for a strict client those of `words_of`.
+/// Returns the user name and the password for PLAIN as texts. The errors are `NotUtf8`, and for a strict client those of
+/// `words_of`.
 #[tactic(auto, using(crate::proofs::SaslClientLemmas::client_words))]
 fn client_words<'a>(
     is_strict: bool,
+    acts_for: &'a [u8],
     username: &'a [u8],
     password: &'a [u8],
 ) -> Result<(&'a str, &'a str), Status>
     ensures ok { IfOk result (λ words. (words.0.now ≡ username.now) × (words.1.now ≡ password.now)
         × CanSendWords is_strict username.now password.now) }
     ensures err { IfErr result (λ status.
-        IsFirst (client_word_tests is_strict username.now password.now) status) }
+        IsFirst (client_word_tests is_strict acts_for.now username.now password.now) status) }
 {
     match is_strict {
-        true => words_of(username, password),
+        true => {
+            let words = words_of(acts_for, username, password)?;
+            Ok((words.username, words.password))
+        }
         false => Ok((text(username)?, text(password)?)),
     }
 }
@@ -87,17 +95,36 @@ impl SaslLogin<'_> {
         Ok(Some(text(self.hostname)?.to_string(alloc)?))
     }
 
-    /// Returns PLAIN of the login. The errors are those of `client_words`, and `OutOfMemory`.
+    /// Returns PLAIN of the login. The errors are those of `client_words`, and `OutOfMemory`. A client that names an
+    /// identity is strict.
+    #[tactic(auto, using(crate::proofs::SaslClientLemmas::plains))]
     fn plain(&self, alloc: Global) -> Result<SaslProfile, Status>
-        ensures ok { IfOk result (λ profile.
-            profile_of profile ≡ PlainProfile self.now.login.username.now self.now.login.password.now) }
-        ensures words { IfOk result (λ _.
-            IsPlainOf self.now.login self.now.login.username.now self.now.login.password.now) }
+        ensures ok { IfOk result (λ profile. profile_of profile
+            ≡ PlainProfile self.now.login.acts_for.now self.now.login.username.now self.now.login.password.now) }
+        ensures words { IfOk result (λ _. IsPlainOf self.now.login self.now.login.acts_for.now
+            self.now.login.username.now self.now.login.password.now) }
         ensures err { IfErr result (λ status. status ≢ StatusOutOfMemory → HasNoClientWords self.now.login status) }
+    {
+        match self.login.acts_for.is_empty() {
+            true => self.plain_of_itself(alloc),
+            false => self.plain_acting(alloc),
+        }
+    }
+
+    /// Returns PLAIN of the user and the password, which names no identity.
+    fn plain_of_itself(&self, alloc: Global) -> Result<SaslProfile, Status>
+        ensures ok { IfOk result (λ profile. profile_of profile
+            ≡ PlainProfile [] self.now.login.username.now self.now.login.password.now) }
+        ensures words { IfOk result (λ _. CanSendWords (is_set self.now.login.strict) self.now.login.username.now
+            self.now.login.password.now) }
+        ensures err { IfErr result (λ status. status ≢ StatusOutOfMemory
+            → IsFirst (client_word_tests (is_set self.now.login.strict) self.now.login.acts_for.now
+            self.now.login.username.now self.now.login.password.now) status) }
     {
         let is_strict = is_set(self.login.strict);
         let (username, password) = client_words(
             is_strict,
+            self.login.acts_for,
             self.login.username,
             self.login.password,
         )?;
@@ -106,13 +133,63 @@ impl SaslLogin<'_> {
         Ok(SaslProfile::plain(username, password))
     }
 
+    /// Returns PLAIN of the user and the password, which names the identity of the login. The errors are those of
+    /// `words_of`, and `OutOfMemory`.
+    fn plain_acting(&self, alloc: Global) -> Result<SaslProfile, Status>
+        ensures ok { IfOk result (λ profile. profile_of profile
+            ≡ PlainProfile self.now.login.acts_for.now self.now.login.username.now self.now.login.password.now) }
+        ensures words { IfOk result (λ _. CanBeNamed self.now.login.acts_for.now
+            × ArePlainWords self.now.login.username.now self.now.login.password.now) }
+        ensures err { IfErr result (λ status. status ≢ StatusOutOfMemory
+            → IsFirst (word_tests self.now.login.acts_for.now self.now.login.username.now self.now.login.password.now)
+            status) }
+    {
+        let words = words_of(
+            self.login.acts_for,
+            self.login.username,
+            self.login.password,
+        )?;
+        let acts_for = words.acts_for.to_string(alloc)?;
+        let username = words.username.to_string(alloc)?;
+        let password = words.password.to_string(alloc)?;
+        match SaslProfile::plain(username, password).acting_for(acts_for) {
+            Some(profile) => Ok(profile),
+            // The words are those of a message, and the identity has no zero byte.
+            None => unreachable!(),
+        }
+    }
+
+    /// Tests that the login names no identity, which ANONYMOUS does not send. The error is `NotImplemented`.
+    fn names_none(&self) -> Result<(), Status>
+        ensures { MatchResult result (λ _. self.now.login.acts_for.now ≡ [])
+            (λ status. (status ≡ StatusNotImplemented) × (self.now.login.acts_for.now ≢ [])) }
+    {
+        match self.login.acts_for {
+            [] => Ok(()),
+            _ => Err(Status::NotImplemented),
+        }
+    }
+
     /// Returns the user name, which is the message of ANONYMOUS and EXTERNAL. The errors are `NotUtf8` and
     /// `OutOfMemory`.
     fn message(&self, alloc: Global) -> Result<String, Status>
         ensures ok { IfOk result (λ message. string_bytes message ≡ self.now.login.username.now) }
-        ensures err { IfErr result (λ status. status ≢ StatusOutOfMemory → HasNoMessage self.now.login status) }
+        ensures err { IfErr result (λ status. status ≢ StatusOutOfMemory
+            → IsFirst (message_tests ExternalMessage self.now.login) status) }
     {
         Ok(text(self.login.username)?.to_string(alloc)?)
+    }
+
+    /// Returns the user name, which is the message of ANONYMOUS, if the login names no identity. The errors are
+    /// `NotImplemented`, `NotUtf8` and `OutOfMemory`.
+    fn trace(&self, alloc: Global) -> Result<String, Status>
+        ensures ok { IfOk result (λ trace. string_bytes trace ≡ self.now.login.username.now) }
+        ensures none { IfOk result (λ _. self.now.login.acts_for.now ≡ []) }
+        ensures err { IfErr result (λ status. status ≢ StatusOutOfMemory
+            → IsFirst (message_tests AnonymousMessage self.now.login) status) }
+    {
+        self.names_none()?;
+        self.message(alloc)
     }
 
     /// Returns the profile. That of SCRAM has the client of the struct.
@@ -127,9 +204,12 @@ impl SaslLogin<'_> {
                 Err(status) => Err(status),
             },
             1 => self.plain(alloc),
-            2 => Ok(SaslProfile::Anonymous),
+            2 => match self.names_none() {
+                Ok(()) => Ok(SaslProfile::Anonymous),
+                Err(status) => Err(status),
+            },
             3 => Ok(SaslProfile::External),
-            4 => match self.message(alloc) {
+            4 => match self.trace(alloc) {
                 Ok(trace) => after_init(alloc, SaslProfile::anonymous_as(trace), scram),
                 Err(status) => Err(status),
             },

@@ -77,8 +77,9 @@ pub struct SaslServerConfig<'a> {
     /// 5802, section 6), whatever FE2O3_ACCEPT_CBIND_FLAG_Y says.
     pub channels: ServerChannels,
 
-    /// Whether a client of SCRAM may name an identity to act for (RFC 5802, section 5.1), as by the field `accept_authzid` of
-    /// struct fe2o3_scram_rules. 0 is no, any other value yes.
+    /// Whether a client of SCRAM or PLAIN may name an identity to act for (RFC 5802, section 5.1; RFC 4616, section 2), as
+    /// by the field `accept_authzid` of struct fe2o3_scram_rules. 0 is no, any other value yes. Without it a message of
+    /// PLAIN may still name its own user.
     pub accept_authzid: u32,
 
     /// The identities that the user may act for besides itself (RFC 4422, section 2), without escapes, with a zero byte
@@ -94,7 +95,7 @@ pub struct SaslServer {
     pub connection: Connection,
 
     /// The SCRAM server. After a login by any mechanism it holds the authenticated user
-    /// (`fe2o3_scram_server_authenticated_user`), and after one by SCRAM the identity that the user acts for
+    /// (`fe2o3_scram_server_authenticated_user`), and after one by SCRAM or PLAIN the identity that the user acts for
     /// (`fe2o3_scram_server_acts_for`). ANONYMOUS has no user.
     pub scram: ScramServer,
 }

@@ -23,7 +23,7 @@ pub enum Status {
     /// The version is none of enum fe2o3_scram_version.
     NoSuchVersion,
 
-    /// A text is longer than the array that holds it.
+    /// A text is longer than the array that holds it, or an identity to act for has more than 256 bytes.
     TooLong,
 
     /// The typed password is not printable ASCII.
@@ -103,7 +103,8 @@ pub enum Status {
     /// A size inside the frame exceeds 32 bits.
     FrameTooLarge,
 
-    /// The client cannot answer this frame, or the server does not offer this mechanism.
+    /// The client cannot answer this frame, the server does not offer this mechanism, or the login names an identity to
+    /// act for and its mechanism is ANONYMOUS.
     NotImplemented,
 
     /// The server rejected the login: the credentials are wrong.
@@ -123,7 +124,7 @@ pub enum Status {
     NoSuchChoice,
 
     /// The prepared text contains a character that RFC 4013, section 2.3, prohibits, or a word for a message of PLAIN
-    /// contains a zero byte (RFC 4616, section 2).
+    /// (RFC 4616, section 2) or an identity to act for (RFC 4422, section 3.4.1) contains a zero byte.
     ProhibitedCharacter,
 
     /// The prepared text mixes right-to-left and left-to-right characters, or does not begin and end with a

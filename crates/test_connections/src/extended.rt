@@ -170,6 +170,7 @@ fn policy_clients_accept_extended_headers(rt: HostRuntime) {
         username: USER,
         secret: ClientSecret::Password(Password::Typed(PASSWORD)),
         policy: ClientPolicy::scram_from(ScramVersion::Sha256),
+        acts_for: None,
         hostname: None,
     };
     let mut client = PolicyClient::new(rt.alloc(), login);

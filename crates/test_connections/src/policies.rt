@@ -60,6 +60,7 @@ fn ends<R: Abort + AllocGlobal>(
         username: USER,
         secret: ClientSecret::Password(Password::Typed(PASSWORD)),
         policy,
+        acts_for: None,
         hostname: None,
     };
     let mut client = PolicyClient::new(rt.alloc(), login);
@@ -187,4 +188,46 @@ fn a_client_that_must_bind_logs_in_without_scram_or_not(rt: HostRuntime) {
     let policy = policy.allow_plain();
     let sent = [PLAIN_INIT];
     ends(&rt, policy, &given, &sent, Progress::InProgress, true);
+}
+
+/// The init of the user by PLAIN, who asks to act for `admin` (RFC 4616, section 2).
+const PLAIN_INIT_ADMIN: &str =
+    "0000002802010000005341c01b02a305504c41494ea01161646d696e00757365720070656e63696c";
+
+/// Checks what a client of the user with this policy, which asks to act for this identity, sends at an offer of PLAIN, and
+/// its progress.
+fn acts<R: Abort + AllocGlobal>(
+    rt: &R,
+    policy: ClientPolicy,
+    identity: &str,
+    sent: &[&str],
+    progress: Progress,
+) {
+    let login = PolicyLogin {
+        username: USER,
+        secret: ClientSecret::Password(Password::Typed(PASSWORD)),
+        policy,
+        acts_for: Some(identity),
+        hostname: None,
+    };
+    let mut client = PolicyClient::new(rt.alloc(), login);
+    let mut out = BytesMut::new(rt.alloc());
+    for unit in [SASL, PLAIN_MECHANISMS] {
+        let bytes = bytes_of(rt, &[unit]);
+        let meter = &mut Meter::new();
+        let received = client.receive(rt.alloc(), &bytes, &[1; 32], meter, &mut out);
+        assert!(rt; received.expect(rt, "memory").progress == client.progress());
+    }
+    assert!(rt; client.progress() == progress && out.as_slice() == bytes_of(rt, sent).as_slice());
+}
+
+#[test]
+fn a_client_names_its_identity(rt: HostRuntime) {
+    let policy = from_sha_256().allow_plain();
+    let sent = [PLAIN_INIT_ADMIN];
+    acts(&rt, policy, "admin", &sent, Progress::InProgress);
+    acts(&rt, policy, "", &[PLAIN_INIT], Progress::InProgress);
+    let failed = Progress::Failed(CloseReason::Mechanism(ProfileError::NotImplemented));
+    acts(&rt, policy, "ad\0min", &[], failed);
+    acts(&rt, from_sha_256(), "admin", &[], failed);
 }

@@ -119,7 +119,7 @@ fn logins_with_mock_authentication_are_restored(rt: HostRuntime) {
 
 #[test]
 fn plain_logins_are_restored(rt: HostRuntime) {
-    let restored = plain(&rt).restore_authenticated(rt.alloc(), USER);
+    let restored = plain(&rt).restore_authenticated(rt.alloc(), USER, None);
     let servers = (plain(&rt), restored.expect(&rt, "memory"), plain(&rt));
     is_restored(&rt, servers, &PLAIN_LOGIN, Some(USER));
     let restored = plain_of(&rt, USER).restore_authenticated();

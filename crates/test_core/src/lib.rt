@@ -7,6 +7,8 @@
 #[cfg(test)]
 mod acceptors;
 #[cfg(test)]
+mod acting_profiles;
+#[cfg(test)]
 mod addresses;
 #[cfg(test)]
 mod client_policy;

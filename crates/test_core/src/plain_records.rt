@@ -2,13 +2,15 @@
 //! of prepared passwords.
 
 use crate::values::bytes;
+use fe2o3_sasl::ActingRights;
 use fe2o3_sasl::credentials::{MultiRecordStore, RecordStore};
 use fe2o3_sasl::hmac::{Meter, ScramVersion};
 use fe2o3_sasl::password_server::PasswordServerBuilder;
-use fe2o3_sasl::plain_server::{PlainPasswords, PlainServer, plain_user};
+use fe2o3_sasl::plain_server::{PlainPasswords, PlainServer, plain_identity, plain_user};
 use fe2o3_sasl::sasl_acceptor::{AuthenticatedUser, SaslAcceptor, SaslServerFrame};
 use fe2o3_sasl_wire::{Binary, SaslCode, SaslInit, Symbol};
 use std::process::Abort;
+use std::sync::Arc;
 
 /// A file of two users with one password, whose second record has a ServerKey with its last bit turned.
 const LINES: &str =
@@ -26,7 +28,7 @@ static ROWS: [Row; 15] = [
     ("PLAIN", "\0user\0crayon", Some("user"), false, 4098),
     ("PLAIN", "\0user\0pencil", Some("user"), true, 4098),
     ("PLAIN", "user\0user\0pencil", Some("user"), true, 4098),
-    ("PLAIN", "other\0user\0pencil", None, false, 0),
+    ("PLAIN", "other\0user\0pencil", Some("user"), false, 0),
     ("PLAIN", "\0turned\0pencil", Some("turned"), false, 4098),
     ("PLAIN", "\0nobody\0pencil", Some("nobody"), false, 12),
     ("PLAIN", "\0nobody\0", None, false, 0),
@@ -79,6 +81,68 @@ fn plain_logs_in_by_records(rt: HostRuntime) {
     let no_text = b"\0\xff\0pencil";
     let refused = outcome(&rt, &mut plain, "PLAIN", no_text) == (Some(SaslCode::Auth), 0);
     assert!(rt; refused && plain.authenticated_user() == user && plain_user(no_text).is_none());
+}
+
+/// Whether the server accepts identities and has a right of `user` to `admin`, a message, the identity that the message
+/// names, whether it logs in, and how many HMAC values it takes (RFC 4616, section 2).
+type IdentityRow = (bool, bool, &'static str, Option<&'static str>, bool, u64);
+
+static IDENTITIES: [IdentityRow; 12] = [
+    (false, true, "\0user\0pencil", None, true, 4098),
+    (false, true, "user\0user\0pencil", Some("user"), true, 4098),
+    (false, true, "admin\0user\0pencil", Some("admin"), false, 0),
+    (true, true, "\0user\0pencil", None, true, 4098),
+    (true, false, "user\0user\0pencil", Some("user"), true, 4098),
+    (true, true, "admin\0user\0pencil", Some("admin"), true, 4098),
+    (true, false, "admin\0user\0pencil", Some("admin"), false, 4098),
+    (true, true, "guest\0user\0pencil", Some("guest"), false, 4098),
+    (true, true, "admin\0user\0crayon", Some("admin"), false, 4098),
+    (true, true, "admin\0nobody\0pencil", Some("admin"), false, 12),
+    (true, true, "admin\0\0pencil", None, false, 0),
+    (true, true, "user\0pencil", None, false, 0),
+];
+
+/// Returns a right of `user` to `admin`.
+fn rights<R: Abort + AllocGlobal>(rt: &R) -> Arc<ActingRights> {
+    let mut rights = ActingRights::new(rt.alloc());
+    rights
+        .allow(rt.alloc(), "user", "admin")
+        .expect(rt, "memory");
+    Arc::new(rt.alloc(), rights).expect(rt, "memory")
+}
+
+#[test]
+fn users_of_plain_act_for_identities(rt: HostRuntime) {
+    for &(accepts, has_right, message, identity, is_ok, cost) in &IDENTITIES {
+        let users = RecordStore::parse_lines(rt.alloc(), ScramVersion::Sha256, LINES);
+        let server = PlainServer::new(users.expect(&rt, "users"), 10).accept_authzid(accepts);
+        let mut server = if has_right {
+            server.with_acting_rights(rights(&rt))
+        } else {
+            server
+        };
+        let code = if is_ok { SaslCode::Ok } else { SaslCode::Auth };
+        let answer = outcome(&rt, &mut server, "PLAIN", message.as_bytes());
+        assert!(rt; answer == (Some(code), cost), "{message:?}");
+        assert!(rt; plain_identity(message.as_bytes()) == identity, "{message:?}");
+        let acts_for = if is_ok { identity } else { None };
+        assert!(rt; server.acts_for() == acts_for, "{message:?}");
+        assert!(rt; server.authenticated_user().is_some() == is_ok, "{message:?}");
+    }
+}
+
+#[test]
+fn a_password_server_passes_its_rights_to_plain(rt: HostRuntime) {
+    let users = MultiRecordStore::parse_lines(rt.alloc(), LINES).expect(&rt, "users");
+    let rights = rights(&rt);
+    let builder = PasswordServerBuilder::new(&users)
+        .plain_under_tls(true)
+        .accept_authzid(true)
+        .acting_rights(&rights);
+    let mut server = builder.build(rt.alloc()).expect(&rt, "a server");
+    let answer = outcome(&rt, &mut server, "PLAIN", b"admin\0user\0pencil");
+    assert!(rt; answer == (Some(SaslCode::Ok), 4098));
+    assert!(rt; server.authenticated_user() == Some("user") && server.acts_for() == Some("admin"));
 }
 
 /// A file of two users, whose records GNU SASL 2.2 and Python's `hashlib` make of the passwords `IX` and `pässwörd`

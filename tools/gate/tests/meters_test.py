@@ -177,7 +177,7 @@ class Meters(unittest.TestCase):
         self.refused(["fe2o3_scram_client_final: Meter::new x2", "fe2o3_scram_client_final: answered"], C_FINAL,
                      first("let mut meter = Meter::new();", early))
         self.refused(["answer: Meter::new", "answer: answered x2"], C_FINAL, first(
-            "let suffices = server_first.len() + answer_more(login.channel_use);",
+            "let suffices = server_first.len() + answer_more(login);",
             early.replace("return 0", "return Ok(())")))
 
     def test_an_answer_for_c_before_its_limit(self):

@@ -6,7 +6,7 @@ use Rattle.fe2o3_sasl_core.specs.ExternalServer.{external_machine}
 use Rattle.fe2o3_sasl_core.specs.RestrictMechanisms.{Offering, OfferingReplies, is_passed_on}
 use Rattle.fe2o3_sasl_core.specs.AnyMechanism.{BothStates, PartReplies, part_for}
 use Rattle.fe2o3_sasl_core.specs.AnyMechanismLaws.{Machine}
-use Rattle.fe2o3_sasl_core.specs.PlainServer.{PlainParts, plain_machine}
+use Rattle.fe2o3_sasl_core.specs.PlainServer.{asked_identity, plain_machine}
 use Rattle.fe2o3_sasl_core.specs.declared.any_mechanism.Selected.{Selected}
 use Rattle.fe2o3_sasl_core.specs.declared.any_mechanism.Selected.TheVariants.{First, Second}
 use Rattle.fe2o3_sasl_core.proofs.lemmas.machines.PlainServerLemmas.{one_asked}
@@ -31,14 +31,15 @@ external_is_function external nonce (frames.Challenge text) reply other next las
 external_is_function external nonce (frames.Outcome code more) reply other next last is too = absurd is
 
 pub plain_is_function : IsFunction plain_machine
-plain_is_function server nonce frame reply other next last (inl (user, logs, is, to)) (inl (again, also, too, goes)) =
-    let one : user ≡ again = logs.3 ∙ (ap (λ (parts : PlainParts). parts.user)
-    (one_asked frame logs.0 also.0 logs.1 also.1) ∙ sym also.3) in
-    (is ∙ sym too, to ∙ ((λ i. record server { user = Some (one i) }) ∙ sym goes))
-plain_is_function server nonce frame reply other next last (inl (user, logs, is, to)) (inr none) =
-    absurd (none.0 user logs)
-plain_is_function server nonce frame reply other next last (inr none) (inl (user, logs, is, to)) =
-    absurd (none.0 user logs)
+plain_is_function server nonce frame reply other next last (inl (message, logs, is, to)) (inl (again, also, too, goes)) =
+    let one = one_asked server.accept_authzid frame message again logs.0 also.0 in (
+      is ∙ sym too,
+      to ∙ ((λ i. record server { user = Some (one i).user; acts_for = asked_identity (one i) }) ∙ sym goes),
+    )
+plain_is_function server nonce frame reply other next last (inl (message, logs, is, to)) (inr none) =
+    absurd (none.0 message logs)
+plain_is_function server nonce frame reply other next last (inr none) (inl (message, logs, is, to)) =
+    absurd (none.0 message logs)
 plain_is_function server nonce frame reply other next last (inr none) (inr too) =
     (none.1 ∙ sym too.1, none.2 ∙ sym too.2)
 

@@ -8,7 +8,7 @@ use Rattle.fe2o3_sasl_core.specs.Bodies.{SpellsBody, carried, server_says}
 use Rattle.fe2o3_sasl_core.specs.Events.{Given, ServerSays, Concluded, Failed}
 use Rattle.fe2o3_sasl_core.specs.ExternalServer.{External, IsInitOf, external_machine, external_user}
 use Rattle.fe2o3_sasl_core.specs.AnyMechanismLaws.{Machine}
-use Rattle.fe2o3_sasl_core.specs.PlainServer.{PlainState, PlainLogsIn, plain_machine}
+use Rattle.fe2o3_sasl_core.specs.PlainServer.{PlainParts, PlainState, PlainLogsIn, plain_machine}
 use Rattle.fe2o3_sasl_core.specs.Runs.{Runs, AcceptorSteps, SendsCanonical}
 use Rattle.fe2o3_sasl_core.specs.SaslAcceptor.{ends_with}
 use Rattle.fe2o3_sasl_core.proofs.lemmas.frames.SpellingLemmas.{one_spelled_frame}
@@ -163,15 +163,15 @@ external_servers_log_in state server logged =
 
 -- ---- PLAIN
 
-no_message : (state : PlainState) (frame : SaslFrame) (text user : List ℕ) → frame ≡ frames.Response text
-    → ¬ PlainLogsIn state.passwords state.provider frame user
-no_message state frame text user is logs =
-    (subst (λ (f : SaslFrame). PlainLogsIn state.passwords state.provider f user) is logs).1
+no_message : (state : PlainState) (frame : SaslFrame) (text : List ℕ) (message : PlainParts)
+    → frame ≡ frames.Response text → ¬ PlainLogsIn state frame message
+no_message state frame text message is logs =
+    (subst (λ (f : SaslFrame). PlainLogsIn state f message) is logs).0
 
 plain_only_inits : OnlyInits plain_machine
 plain_only_inits state next event text spells (body, step) =
-    let (frame, user, spelled, logs, to) = plain_oks_log_in state next event body step in
-    no_message state frame text user (one_spelled_frame event.body frame (frames.Response text) spelled spells)
+    let (frame, message, spelled, logs, to) = plain_oks_log_in state next event body step in
+    no_message state frame text message (one_spelled_frame event.body frame (frames.Response text) spelled spells)
     logs
 
 pub plain_servers_log_in : PlainServersLogIn
@@ -180,13 +180,14 @@ plain_servers_log_in state server logged =
     let (event, only, ok) = by_one_frame plain_machine plain_only_inits server.pieces server.limit n.events n.replies
     state server.last.state n.frames n.run
     ((servers_log_in plain_machine server.limit state server.pieces server.taken server.sent server.last n).0 logged) in
-    let (frame, user, spells, logs, to) = plain_oks_log_in state server.last.state event ok.0 ok.1 in
+    let (frame, message, spells, logs, to) = plain_oks_log_in state server.last.state event ok.0 ok.1 in
     record {
       event = event;
       frame = frame;
-      user = user;
+      message = message;
       only = only;
       spells = spells;
       logs_in = logs;
       named = ap (λ (server : PlainState). server.user) to;
+      acting = ap (λ (server : PlainState). server.acts_for) to;
     }

@@ -42,7 +42,7 @@ AskForNone Allocates = ((profile : Profile) → ¬ Allocates profile (frames.Mec
     × ((client : ClientSide) → ¬ Allocates (ScramProfile client) (frames.Challenge (0xff ∷ [])))
     × ((client : ClientSide) (text : List ℕ) → client.state ≡ client_states.ClientInitial
     → ¬ Allocates (ScramProfile client) (frames.Challenge text))
-    × ((user password text : List ℕ) → ¬ Allocates (PlainProfile user password) (frames.Challenge text))
+    × ((identity user password text : List ℕ) → ¬ Allocates (PlainProfile identity user password) (frames.Challenge text))
     × ((profile : Profile) (code : SaslCode) → ¬ Allocates profile (frames.Outcome code None))
     × ((client : ClientSide) → ¬ Allocates (ScramProfile client) (frames.Outcome outcomes.Ok (Some (0xff ∷ []))))
     × ((client : ClientSide) (text : List ℕ) → client.state ≡ client_states.ClientInitial
@@ -53,8 +53,8 @@ abbrev pub OwnedAskForNone : Type 0
 OwnedAskForNone = AskForNone FrameAllocates
     × ((client : ClientSide) (more : Option (List ℕ))
     → ¬ FrameAllocates (ScramProfile client) (frames.Outcome outcomes.Auth more))
-    × ((user password : List ℕ) (code : SaslCode) (more : Option (List ℕ))
-    → ¬ FrameAllocates (PlainProfile user password) (frames.Outcome code more))
+    × ((identity user password : List ℕ) (code : SaslCode) (more : Option (List ℕ))
+    → ¬ FrameAllocates (PlainProfile identity user password) (frames.Outcome code more))
 
 -- a server's history does not run out of memory at an error of a body, at a list, at a challenge or at an outcome
 abbrev pub ServersWantNone : Type 0

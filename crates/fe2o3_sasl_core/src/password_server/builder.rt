@@ -241,8 +241,9 @@ impl<'a> PasswordServerBuilder<'a> {
         builder
     }
 
-    /// Returns this builder, whose SCRAM lets a client name an identity to act for if `accept` is true
-    /// (`ScramAuthenticator::accept_authzid`). By itself the option lets each user name only itself.
+    /// Returns this builder, whose SCRAM and PLAIN let a client name an identity to act for if `accept` is true
+    /// (`ScramAuthenticator::accept_authzid`, `PlainServer::accept_authzid`). By itself the option lets each user name
+    /// only itself.
     pub fn accept_authzid(self, accept: bool) -> Self
         ensures { settings_of result ≡ record (settings_of self.entry) {
           rules = record ((settings_of self.entry).rules) { accept_authzid = accept };
@@ -256,9 +257,9 @@ impl<'a> PasswordServerBuilder<'a> {
         builder
     }
 
-    /// Returns this builder, by whose rights users may act for other identities than their own, in every mechanism of SCRAM
-    /// (`ScramAuthenticator::with_acting_rights`). The servers share them. A client names an identity only with
-    /// `accept_authzid`.
+    /// Returns this builder, by whose rights users may act for other identities than their own, in SCRAM and PLAIN
+    /// (`ScramAuthenticator::with_acting_rights`, `PlainServer::with_acting_rights`). The servers share them. A client
+    /// names an identity only with `accept_authzid`.
     pub fn acting_rights(self, rights: &'a Arc<ActingRights>) -> Self
         ensures { settings_of result ≡ record (settings_of self.entry) { rights = rights.now.value } }
     {

@@ -73,7 +73,15 @@ impl SaslAcceptor for Others {
     ghost hmacs = { others_hmacs };
 
     ghost clone_keeps = { λ others copy same i. record {
-      first = record { provider = same.0.0 i; count = same.0.1 i; passwords = same.0.2 i; user = same.0.3 i };
+      first = record {
+        provider = same.0.0 i;
+        count = same.0.1 i;
+        passwords = same.0.2 i;
+        accept_authzid = same.0.3 i;
+        rights = same.0.4 i;
+        user = same.0.5 i;
+        acts_for = same.0.6 i;
+      };
       second = record { first = AnonymousAcceptor; second = same.1.1 i; selected = same.1.2 i };
       selected = same.2 i;
     } };

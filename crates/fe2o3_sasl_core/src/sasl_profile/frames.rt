@@ -173,7 +173,8 @@ impl SaslProfile {
             (λ fault. RefusesAlways (profile_of self.now) (Challenge challenge.now) fault) }
     {
         match self {
-            SaslProfile::Anonymous | SaslProfile::Plain { .. } | SaslProfile::External => {
+            SaslProfile::Anonymous | SaslProfile::External => Some(ProfileError::NotImplemented),
+            SaslProfile::Plain { .. } | SaslProfile::PlainAs { .. } => {
                 Some(ProfileError::NotImplemented)
             }
             SaslProfile::AnonymousAs(single) => single.refusal_unread(challenge),
@@ -215,7 +216,8 @@ impl SaslProfile {
         ensures cost { ProfileCosts (Challenge challenge.now) (profile_of self.old) result meter.old meter.new }
     {
         match self {
-            SaslProfile::Anonymous | SaslProfile::Plain { .. } | SaslProfile::External => {
+            SaslProfile::Anonymous | SaslProfile::External => Err(ProfileError::NotImplemented),
+            SaslProfile::Plain { .. } | SaslProfile::PlainAs { .. } => {
                 Err(ProfileError::NotImplemented)
             }
             SaslProfile::AnonymousAs(single) => single.respond(alloc, challenge),
@@ -238,7 +240,8 @@ impl SaslProfile {
         ensures err { OnErr result (profile_of self.new ≡ profile_of self.old) }
     {
         match self {
-            SaslProfile::Anonymous | SaslProfile::Plain { .. } | SaslProfile::External => Ok(()),
+            SaslProfile::Anonymous | SaslProfile::External => Ok(()),
+            SaslProfile::Plain { .. } | SaslProfile::PlainAs { .. } => Ok(()),
             SaslProfile::AnonymousAs(_) | SaslProfile::ExternalAs(_) => Ok(()),
             SaslProfile::ScramSha1(scram) => verify(&mut scram.client, alloc, outcome),
             SaslProfile::ScramSha256(scram) => verify(&mut scram.client, alloc, outcome),

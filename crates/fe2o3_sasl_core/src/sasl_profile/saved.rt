@@ -23,7 +23,8 @@ impl SaslProfile {
             (λ client. variant_version self.now ≡ Some client.now.version) }
     {
         match self {
-            SaslProfile::Anonymous | SaslProfile::Plain { .. } | SaslProfile::External => None,
+            SaslProfile::Anonymous | SaslProfile::External => None,
+            SaslProfile::Plain { .. } | SaslProfile::PlainAs { .. } => None,
             SaslProfile::AnonymousAs(_) | SaslProfile::ExternalAs(_) => None,
             SaslProfile::ScramSha1(scram) => Some(&scram.client),
             SaslProfile::ScramSha256(scram) => Some(&scram.client),

@@ -125,7 +125,7 @@ module _ (hostname : Option (List ℕ)) (nonce other : List ℕ) where
       by : (profile : Profile) → profile_machine profile hostname nonce (frames.Init mechanism response host) reply next
           → profile_machine profile hostname other (frames.Init mechanism response host) reply next
       by (ScramProfile client) replies = replies
-      by (PlainProfile user password) replies = replies
+      by (PlainProfile identity user password) replies = replies
       by AnonymousProfile replies = replies
       by ExternalProfile replies = replies
       by (MessageProfile mechanism message true) replies = replies
@@ -135,7 +135,7 @@ module _ (hostname : Option (List ℕ)) (nonce other : List ℕ) where
       by : (profile : Profile) → profile_machine profile hostname nonce (frames.Response text) reply next
           → profile_machine profile hostname other (frames.Response text) reply next
       by (ScramProfile client) replies = replies
-      by (PlainProfile user password) replies = replies
+      by (PlainProfile identity user password) replies = replies
       by AnonymousProfile replies = replies
       by ExternalProfile replies = replies
       by (MessageProfile mechanism message true) replies = replies
@@ -145,7 +145,7 @@ module _ (hostname : Option (List ℕ)) (nonce other : List ℕ) where
       by : (profile : Profile) (text : List ℕ) → profile_machine profile hostname nonce (frames.Challenge text) reply next
           → profile_machine profile hostname other (frames.Challenge text) reply next
       by (ScramProfile client) text replies = replies
-      by (PlainProfile user password) text replies = replies
+      by (PlainProfile identity user password) text replies = replies
       by AnonymousProfile text replies = replies
       by ExternalProfile text replies = replies
       by (MessageProfile mechanism message true) [] replies = replies
@@ -162,7 +162,7 @@ module _ (hostname : Option (List ℕ)) (nonce other : List ℕ) where
       by (ScramProfile client) outcomes.Sys more replies = replies
       by (ScramProfile client) outcomes.SysPerm more replies = replies
       by (ScramProfile client) outcomes.SysTemp more replies = replies
-      by (PlainProfile user password) code more replies = replies
+      by (PlainProfile identity user password) code more replies = replies
       by AnonymousProfile code more replies = replies
       by ExternalProfile code more replies = replies
       by (MessageProfile mechanism message true) code more replies = replies

@@ -1,5 +1,6 @@
 -- What a client answers that selects its mechanism from the server's offer.
 use Rattle.std.proofs.Common.{◌≡◌, ℕ, Option, Some, None, List, IsTrue, refl, sym, ◌∙◌, ap, subst, inl, inr, Result, Ok, Err, IfOk}
+use Rattle.std.specs.Prelude.{MatchOption}
 use Rattle.fe2o3_sasl_wire.specs.FrameView.{viewed_frame}
 use Rattle.fe2o3_sasl_wire.specs.SaslFrames as frames
 use Rattle.fe2o3_sasl_wire.specs.SaslFrames.{SaslFrame}
@@ -7,7 +8,9 @@ use Rattle.fe2o3_sasl_wire.specs.declared.sasl_frames.error.Error.{Error}
 use Rattle.fe2o3_sasl_wire.specs.declared.sasl_frames.frame_view.FrameView.{FrameView}
 use Rattle.fe2o3_sasl_wire.specs.declared.sasl_frames.frame_view.FrameView.TheVariants as views
 use Rattle.fe2o3_sasl_wire.specs.declared.sasl_frames.symbols_view.SymbolsView.{SymbolsView}
+use Rattle.fe2o3_sasl_core.specs.ActingProfiles.{CanActFor, acting_profile}
 use Rattle.fe2o3_sasl_core.specs.Bodies.{SpellsBody}
+use Rattle.fe2o3_sasl_core.specs.ClientPolicy.{SelectsProfile}
 use Rattle.fe2o3_sasl_core.specs.Costs.{ProfileCostsOf}
 use Rattle.fe2o3_sasl_core.specs.Events.{Given}
 use Rattle.fe2o3_sasl_core.specs.Profiles.{Profile}
@@ -15,7 +18,7 @@ use Rattle.fe2o3_sasl_core.specs.declared.sasl_profile.error.ProfileError.TheVar
 use Rattle.fe2o3_sasl_core.proofs.lemmas.frames.SpellingLemmas.{one_spelling}
 use Rattle.fe2o3_sasl_negotiation.specs.ClientNegotiation.{ClientReplies, ClientReplyCosts}
 use Rattle.fe2o3_sasl_negotiation.specs.Negotiations.{IsInTurn, SideOutput, closes}
-use Rattle.fe2o3_sasl_negotiation.specs.PolicyClient.{IsSelected, NoneIsSelected, PolicyReplies, Selection, SelectsFor}
+use Rattle.fe2o3_sasl_negotiation.specs.PolicyClient.{CannotAct, IsActing, IsSelected, NoneIsSelected, PolicyReplies, Selection, SelectsFor}
 use Rattle.fe2o3_sasl_negotiation.specs.Snapshot.{client_due, client_fits}
 use Rattle.fe2o3_sasl_negotiation.specs.declared.framing.Step.{Step}
 use Rattle.fe2o3_sasl_negotiation.specs.declared.progress.CloseReason.{CloseReason}
@@ -109,6 +112,25 @@ module _ (selection : Selection) (turn : FrameKind) (event : Given) where
   policy_stays next old new (Ok step) (sent, appended, replies) = λ fits.
       policy_fits (record { sent = sent; progress = step.progress; expected = step.expected }) next fits replies
   policy_stays next old new (Err fault) appends = tt
+
+-- a chosen profile of a client that acts for itself is selected
+pub selected_itself : (selection : Selection) (names : List (List ℕ)) (chosen : Profile)
+    → SelectsProfile selection.policy selection.user selection.secret names chosen → selection.acts_for ≡ None
+    → IsSelected selection names chosen
+selected_itself selection names chosen selects none =
+    (chosen, selects, subst (λ (a : Option (List ℕ)). IsActing a chosen chosen) (sym none) refl)
+
+-- and of one that acts for an identity, where the profile can name it
+pub selected_acting : {A : Type 0} (value : A → Profile) (selection : Selection) (names : List (List ℕ)) (chosen : Profile)
+    (identity : List ℕ) (acting : Option A)
+    → SelectsProfile selection.policy selection.user selection.secret names chosen → selection.acts_for ≡ Some identity
+    → MatchOption acting (¬ CanActFor chosen identity)
+    (λ profile. CanActFor chosen identity × (value profile ≡ acting_profile chosen identity))
+    → MatchOption acting (NoneIsSelected selection names) (λ profile. IsSelected selection names (value profile))
+selected_acting value selection names chosen identity None selects named cannot =
+    inr (chosen, selects, subst (λ (a : Option (List ℕ)). CannotAct a chosen) (sym named) cannot)
+selected_acting value selection names chosen identity (Some profile) selects named can =
+    (chosen, selects, subst (λ (a : Option (List ℕ)). IsActing a chosen (value profile)) (sym named) can)
 
 -- an answer to a list of mechanisms makes no HMAC value
 pub init_costs_nothing : (turn : FrameKind) (profile : Profile) (event : Given) (names : List (List ℕ)) (before after : ℕ)

@@ -12,10 +12,11 @@ use Rattle.fe2o3_scram.specs.declared.hmac.ScramVersion.TheVariants.{Sha1, Sha25
 use Rattle.fe2o3_scram.specs.ChannelBinding.{is_bound, mechanism_of, plus_name}
 use Rattle.fe2o3_scram.specs.ClientSecret.{Secret, Password, Keys, Both}
 use Rattle.fe2o3_scram.specs.Hmac.{mechanism_name}
+use Rattle.fe2o3_sasl_core.specs.ActingProfiles.{acting_profile}
 use Rattle.fe2o3_sasl_core.specs.Bodies.{SpellsBody, carried}
 use Rattle.fe2o3_sasl_core.specs.ClientPolicy.{bound_channel, is_allowed, is_from, policy_name, profile_by, scram_by, secret_for, unbound_channel}
 use Rattle.fe2o3_sasl_core.specs.Events.{ClientSays, Given, Refused, Started}
-use Rattle.fe2o3_sasl_core.specs.Profiles.{Profile, accepts_signature_by_challenge, initial_response, profile_name}
+use Rattle.fe2o3_sasl_core.specs.Profiles.{AnonymousMessage, AnonymousProfile, ExternalMessage, ExternalProfile, MessageProfile, PlainProfile, Profile, ScramProfile, accepts_signature_by_challenge, initial_response, profile_name}
 use Rattle.fe2o3_sasl_core.specs.Runs.{ProfileGives, Replies}
 use Rattle.fe2o3_sasl_core.specs.declared.client_policy.ClientPolicy.{ClientPolicy}
 use Rattle.fe2o3_sasl_core.specs.declared.client_policy.Mechanism.{Mechanism}
@@ -26,7 +27,7 @@ use Rattle.fe2o3_sasl_core.proofs.lemmas.frames.SpellingLemmas.{one_spelled_fram
 use Rattle.fe2o3_sasl_negotiation.specs.ClientNegotiation.{ClientOutputs, ClientReplies}
 use Rattle.fe2o3_sasl_negotiation.specs.Framing.{framed, size_of, unit_size, IsWhole}
 use Rattle.fe2o3_sasl_negotiation.specs.Negotiations.{IsInTurn, ReceivesAt, Side, SideOutput, Sends}
-use Rattle.fe2o3_sasl_negotiation.specs.PolicyClient.{PolicySideAnswers, Selection, SelectsFor}
+use Rattle.fe2o3_sasl_negotiation.specs.PolicyClient.{IsActing, PolicySideAnswers, Selection, SelectsFor}
 use Rattle.fe2o3_sasl_negotiation.specs.PolicyLaws.{NothingBelowPolicy, SendsAllowed}
 use Rattle.fe2o3_sasl_negotiation.specs.declared.progress.Expected.{Expected}
 use Rattle.fe2o3_sasl_negotiation.specs.declared.progress.Expected.TheVariants.{Header, Frame}
@@ -134,6 +135,21 @@ module _ (hostname : Option (List ℕ)) (profile moved : Profile) (event : Given
       gives says (subst (λ (s : Result SaslFrame Error). ProfileGives hostname profile event s says moved)
       (one_spelling event.body spelled (Ok (frames.Mechanisms names)) spelt spells) step) outputs
 
+-- ---- the name of a profile that acts for an identity
+
+named_alike : (chosen : Profile) (identity : List ℕ) → profile_name (acting_profile chosen identity) ≡ profile_name chosen
+named_alike (ScramProfile client) identity = refl
+named_alike (PlainProfile other user password) identity = refl
+named_alike AnonymousProfile identity = refl
+named_alike ExternalProfile identity = refl
+named_alike (MessageProfile AnonymousMessage message is_due) identity = refl
+named_alike (MessageProfile ExternalMessage message is_due) identity = refl
+
+acting_name : (acts_for : Option (List ℕ)) (chosen profile : Profile) → IsActing acts_for chosen profile
+    → profile_name profile ≡ profile_name chosen
+acting_name None chosen profile is = ap profile_name is
+acting_name (Some identity) chosen profile (can, is) = ap profile_name is ∙ named_alike chosen identity
+
 -- ---- what a call sends
 
 -- a list of mechanisms is in turn only where one is expected
@@ -161,12 +177,13 @@ module _ (selection : Selection) (side next : Side (Option Profile)) (bytes nonc
       record { body = drop 4 (take (size_of (side.held ++ bytes)) (side.held ++ bytes)); nonce = nonce } in
       let init = init_sent selection.hostname profile moved event names answer (λ empty. some (same ∙ empty)) spells
       (subst (λ (t : FrameKind). ClientReplies selection.hostname t profile event answer moved) is replies) in
-      let named = selected_name selection.policy selection.user selection.secret selected.0 profile selected.1.2.0
-      selected.2 in
+      let (chosen, (mechanism, first, is_by), acting) = selected in
+      let named = acting_name selection.acts_for chosen profile acting
+      ∙ selected_name selection.policy selection.user selection.secret mechanism chosen first.2.0 is_by in
       record {
         body = event.body;
         names = names;
-        mechanism = selected.0;
+        mechanism = mechanism;
         response = init.0;
         init = init.1;
         completes = (
@@ -176,8 +193,8 @@ module _ (selection : Selection) (side next : Side (Option Profile)) (bytes nonc
           refl,
         );
         spells = spells;
-        allowed = selected.1.2.0;
-        offered = selected.1.2.2;
+        allowed = first.2.0;
+        offered = first.2.2;
         written = subst (λ (name : List ℕ). canonical (frames.Init name init.0 selection.hostname) ≡ Some init.1) named init.2;
         sends = same ∙ init.3;
       }

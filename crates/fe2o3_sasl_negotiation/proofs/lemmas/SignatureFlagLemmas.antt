@@ -91,11 +91,11 @@ machine_stays : (profile : Profile) (hostname : Option (List ℕ)) (nonce : List
     → profile_machine profile hostname nonce frame reply moved → Stays profile moved
 machine_stays (ScramProfile client) hostname nonce frame reply moved is =
     scram_stays client hostname nonce frame reply moved is
-machine_stays (PlainProfile user password) hostname nonce (frames.Mechanisms names) reply moved (inl is) =
+machine_stays (PlainProfile identity user password) hostname nonce (frames.Mechanisms names) reply moved (inl is) =
     ap accepts_signature_by_challenge is.2
-machine_stays (PlainProfile user password) hostname nonce (frames.Mechanisms names) reply moved (inr is) =
+machine_stays (PlainProfile identity user password) hostname nonce (frames.Mechanisms names) reply moved (inr is) =
     ap accepts_signature_by_challenge is.2
-machine_stays (PlainProfile user password) hostname nonce frame reply moved is = ap accepts_signature_by_challenge is.1
+machine_stays (PlainProfile identity user password) hostname nonce frame reply moved is = ap accepts_signature_by_challenge is.1
 machine_stays AnonymousProfile hostname nonce (frames.Mechanisms names) reply moved (inl is) =
     ap accepts_signature_by_challenge is.2
 machine_stays AnonymousProfile hostname nonce (frames.Mechanisms names) reply moved (inr is) =

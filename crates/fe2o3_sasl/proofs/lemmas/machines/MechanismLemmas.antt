@@ -1,5 +1,5 @@
 -- Acceptors and profiles of one mechanism find each other, and PLAIN and ANONYMOUS let in whom they should.
-use Rattle.std.proofs.Common.{◌≡◌, ◌≢◌, ℕ, zero, suc, Bool, true, false, true≢false, None, List, [], ◌∷◌, get_or, length, if◌then◌else◌, refl, sym, ap, ◌∙◌, subst, arith, codes, inl, inr}
+use Rattle.std.proofs.Common.{◌≡◌, ◌≢◌, ℕ, zero, suc, Bool, true, false, true≢false, Some, None, List, [], ◌∷◌, ◌++◌, get_or, length, if◌then◌else◌, refl, sym, ap, ◌∙◌, subst, arith, codes, inl, inr}
 use Rattle.std.specs.Prelude.{is_some, nat_eq, nat_lt}
 use Rattle.std.specs.List.{Contains}
 use Rattle.std.specs.Cmp.Lexicographic.{pointwise}
@@ -7,10 +7,12 @@ use Rattle.std.proofs.lemmas.Cmp.{nat_list_eq_equiv}
 use Rattle.fe2o3_scram.specs.declared.hmac.ScramVersion.{ScramVersion}
 use Rattle.fe2o3_scram.specs.declared.hmac.ScramVersion.TheVariants.{Sha1, Sha256, Sha512}
 use Rattle.fe2o3_scram.specs.ChannelBinding.{is_bound, mechanism_of, server_mechanism}
-use Rattle.fe2o3_sasl_core.specs.MechanismLaws.{PlainLetsIn, PlainRefuses, AnonymousLetsIn, OffersAgree, SomethingIsOffered, NamesDiffer, Differ}
+use Rattle.fe2o3_sasl_core.specs.MechanismLaws.{PlainIdentitiesAgree, PlainLetsIn, PlainRefuses, AnonymousLetsIn, OffersAgree, SomethingIsOffered, NamesDiffer, Differ}
 use Rattle.fe2o3_sasl_core.specs.SaslAcceptor.{ScramAcceptor, PlainAcceptor, AnonymousAcceptor}
 use Rattle.fe2o3_sasl_core.specs.Profiles.{ScramProfile, PlainProfile, AnonymousProfile, ExternalProfile, MessageProfile, AnonymousMessage, ExternalMessage, initial_response}
+use Rattle.fe2o3_sasl_core.specs.PlainServer.{PlainParts, PlainState, asked_identity}
 use Rattle.fe2o3_sasl_wire.specs.SaslFrames as frames
+use Rattle.fe2o3_sasl_core.proofs.lemmas.machines.PlainMessageLemmas.{one_message}
 use Rattle.fe2o3_sasl_core.proofs.lemmas.machines.ZeroPartLemmas.{names_both, names_no_other}
 
 -- ---- names
@@ -77,7 +79,7 @@ offers_agree (ScramAcceptor provider state) (ScramProfile client) = (
   λ same. subst (Contains (server_mechanism provider.version provider.rules ∷ []))
       (λ i. mechanism_of (sym same.0 i) (sym same.1 i)) (contains_one _),
 )
-offers_agree (ScramAcceptor provider state) (PlainProfile user password) =
+offers_agree (ScramAcceptor provider state) (PlainProfile identity user password) =
     (λ has. absurd ((other_name provider.version (is_some provider.rules.channels)).0 (the_one _ _ has)), λ same. absurd same)
 offers_agree (ScramAcceptor provider state) AnonymousProfile =
     (λ has. absurd ((other_name provider.version (is_some provider.rules.channels)).1 (the_one _ _ has)), λ same. absurd same)
@@ -89,7 +91,7 @@ offers_agree (ScramAcceptor provider state) (MessageProfile ExternalMessage mess
     (λ has. absurd ((other_name provider.version (is_some provider.rules.channels)).2 (the_one _ _ has)), λ same. absurd same)
 offers_agree (PlainAcceptor user password accepted) (ScramProfile client) =
     (λ has. absurd ((other_name client.version (is_bound client.channel)).0 (sym (the_one _ _ has))), λ same. absurd same)
-offers_agree (PlainAcceptor user password accepted) (PlainProfile other secret) = (λ has. tt, λ same. contains_one _)
+offers_agree (PlainAcceptor user password accepted) (PlainProfile identity other secret) = (λ has. tt, λ same. contains_one _)
 offers_agree (PlainAcceptor user password accepted) AnonymousProfile =
     (λ has. absurd (differ _ _ refl (the_one _ _ has)), λ same. absurd same)
 offers_agree (PlainAcceptor user password accepted) ExternalProfile =
@@ -100,7 +102,7 @@ offers_agree (PlainAcceptor user password accepted) (MessageProfile ExternalMess
     (λ has. absurd (differ _ _ refl (the_one _ _ has)), λ same. absurd same)
 offers_agree AnonymousAcceptor (ScramProfile client) =
     (λ has. absurd ((other_name client.version (is_bound client.channel)).1 (sym (the_one _ _ has))), λ same. absurd same)
-offers_agree AnonymousAcceptor (PlainProfile user password) =
+offers_agree AnonymousAcceptor (PlainProfile identity user password) =
     (λ has. absurd (differ _ _ refl (the_one _ _ has)), λ same. absurd same)
 offers_agree AnonymousAcceptor AnonymousProfile = (λ has. tt, λ same. contains_one _)
 offers_agree AnonymousAcceptor ExternalProfile =
@@ -148,17 +150,29 @@ names_differ login password = six_differ (is_bound login.channel)
 
 pub plain_lets_in : PlainLetsIn
 plain_lets_in user password accepted plain too hostname client_nonce server_nonce = (
-  frames.Init (codes "PLAIN") (initial_response (PlainProfile user password) client_nonce) hostname,
+  frames.Init (codes "PLAIN") (initial_response (PlainProfile [] user password) client_nonce) hostname,
   inl (contains_one _, refl, refl),
   inl (names_both user password plain too, refl, refl),
 )
 
 pub plain_refuses : PlainRefuses
 plain_refuses user password other secret accepted plain too apart hostname client_nonce server_nonce = (
-  frames.Init (codes "PLAIN") (initial_response (PlainProfile other secret) client_nonce) hostname,
+  frames.Init (codes "PLAIN") (initial_response (PlainProfile [] other secret) client_nonce) hostname,
   inl (contains_one _, refl, refl),
   inr (λ names. apart (names_no_other user password other secret plain too names), refl, refl),
 )
+
+pub plain_identities_agree : PlainIdentitiesAgree
+plain_identities_agree server next identity user password client_nonce server_nonce hostname can
+    (inl (message, (asks, allowed), ok, to)) =
+    let sent : PlainParts = record { identity = identity; user = user; password = password } in
+    let same = one_message (identity ++ 0 ∷ user ++ 0 ∷ password) message sent asks.1
+    (asks.1.0, can.0, can.1.0.1, can.1.1.1, refl) in (
+      ap (λ (server : PlainState). server.user) to ∙ ap (λ (parts : PlainParts). Some parts.user) same,
+      ap (λ (server : PlainState). server.acts_for) to ∙ ap asked_identity same,
+    )
+plain_identities_agree server next identity user password client_nonce server_nonce hostname can (inr (none, is, to)) =
+    absurd (cc)
 
 pub anonymous_lets_in : AnonymousLetsIn
 anonymous_lets_in hostname client_nonce server_nonce =

@@ -87,16 +87,16 @@ message_reply mechanism message is_due hostname nonce (frames.Response text) =
 pub some_profile_reply : SomeProfileReply
 some_profile_reply (ScramProfile client) hostname nonce frame =
     let move = some_move hostname client nonce frame in (move.0, ScramProfile move.1, move.2)
-some_profile_reply (PlainProfile user password) hostname nonce (frames.Mechanisms names) = listed
-    (PlainProfile user password) hostname nonce names (contains_or names (profile_name (PlainProfile user password)))
-some_profile_reply (PlainProfile user password) hostname nonce (frames.Outcome code more) =
-    (Ok (frames.Outcome code more), PlainProfile user password, (refl, refl))
-some_profile_reply (PlainProfile user password) hostname nonce (frames.Init mechanism response host) =
-    (Err NotImplemented, PlainProfile user password, (refl, refl))
-some_profile_reply (PlainProfile user password) hostname nonce (frames.Challenge text) =
-    (Err NotImplemented, PlainProfile user password, (refl, refl))
-some_profile_reply (PlainProfile user password) hostname nonce (frames.Response text) =
-    (Err NotImplemented, PlainProfile user password, (refl, refl))
+some_profile_reply (PlainProfile identity user password) hostname nonce (frames.Mechanisms names) = listed
+    (PlainProfile identity user password) hostname nonce names (contains_or names (profile_name (PlainProfile identity user password)))
+some_profile_reply (PlainProfile identity user password) hostname nonce (frames.Outcome code more) =
+    (Ok (frames.Outcome code more), PlainProfile identity user password, (refl, refl))
+some_profile_reply (PlainProfile identity user password) hostname nonce (frames.Init mechanism response host) =
+    (Err NotImplemented, PlainProfile identity user password, (refl, refl))
+some_profile_reply (PlainProfile identity user password) hostname nonce (frames.Challenge text) =
+    (Err NotImplemented, PlainProfile identity user password, (refl, refl))
+some_profile_reply (PlainProfile identity user password) hostname nonce (frames.Response text) =
+    (Err NotImplemented, PlainProfile identity user password, (refl, refl))
 some_profile_reply AnonymousProfile hostname nonce (frames.Mechanisms names) =
     listed AnonymousProfile hostname nonce names (contains_or names (profile_name AnonymousProfile))
 some_profile_reply AnonymousProfile hostname nonce (frames.Outcome code more) =

@@ -139,22 +139,21 @@ at_most n m = elim (cases_lt m n) [
   | inr most ↦ inl most
 ]
 
-taken_or : (parts : PlainParts) → Decided (IsTaken parts)
-taken_or parts = go (both_or (either_or (same_or parts.identity []) (same_or parts.identity parts.user))
-    (both_or (not_or (same_or parts.user [])) (both_or (not_or (same_or parts.password []))
-    (at_most (length parts.password) 1024))))
+taken_or : (parts : PlainParts) → Decided (IsTaken true parts)
+taken_or parts = go (both_or (not_or (same_or parts.user [])) (both_or (not_or (same_or parts.password []))
+    (at_most (length parts.password) 1024)))
   where
-    go : Decided (((parts.identity ≡ []) ⊎ (parts.identity ≡ parts.user)) × ((parts.user ≢ [])
-        × ((parts.password ≢ []) × (length parts.password ≤ 1024)))) → Decided (IsTaken parts)
-    go (inl is) = inl (is.0, is.1.0, is.1.1.0, is.1.1.1)
-    go (inr not) = inr (λ is. not (is.0, (is.1, (is.2, is.3))))
+    go : Decided ((parts.user ≢ []) × ((parts.password ≢ []) × (length parts.password ≤ 1024)))
+        → Decided (IsTaken true parts)
+    go (inl is) = inl (tt, is.0, is.1.0, is.1.1)
+    go (inr not) = inr (λ is. not (is.1, (is.2, is.3)))
 
-taken_message_or : (text : List ℕ) → Found (λ (parts : PlainParts). SpellsPlain parts text × IsTaken parts)
+taken_message_or : (text : List ℕ) → Found (λ (parts : PlainParts). SpellsPlain parts text × IsTaken true parts)
 taken_message_or text = elim (message_or text) [
   | inr none ↦ inr (λ parts both. none parts both.0)
   | inl (parts, is) ↦ elim (taken_or parts) [
     | inl taken ↦ inl (parts, (is, taken))
-    | inr wrong ↦ inr (λ other both. not_taken text parts is wrong other both.0 both.1)
+    | inr wrong ↦ inr (λ other both. not_taken true text parts is wrong other both.0 both.1)
   ]
 ]
 
@@ -174,7 +173,7 @@ some_scram mechanism text version plus is (Err why) reads (Err also) too =
     none name (true, first, named, same) = refused (headers_of plus true) text also first too named
 
 some_plain : (mechanism text : List ℕ) → ((version : ScramVersion) (plus : Bool) → mechanism_of version plus ≢ mechanism)
-    → mechanism ≡ codes "PLAIN" → Found (λ (parts : PlainParts). SpellsPlain parts text × IsTaken parts)
+    → mechanism ≡ codes "PLAIN" → Found (λ (parts : PlainParts). SpellsPlain parts text × IsTaken true parts)
     → (user : Option (List ℕ)) × ClaimOf mechanism text user
 some_plain mechanism text other plain (inl (parts, both)) =
     (Some parts.user, inr (plain, (parts, both.0, both.1, refl)))

@@ -100,11 +100,11 @@ scram_claim_of mechanism text version plus is None none = scram_claims_none mech
 -- ---- one of PLAIN
 
 pub plain_claims : (mechanism text name : List ℕ) (parts : PlainParts) → mechanism ≡ codes "PLAIN"
-    → SpellsPlain parts text → IsTaken parts → name ≡ parts.user → ClaimsUser mechanism text name
+    → SpellsPlain parts text → IsTaken true parts → name ≡ parts.user → ClaimsUser mechanism text name
 plain_claims mechanism text name parts is spells taken same = inr (is, (parts, spells, taken, same))
 
 pub plain_claims_none : (mechanism text : List ℕ) → ((version : ScramVersion) (plus : Bool) → mechanism_of version plus ≢ mechanism)
-    → ((parts : PlainParts) → SpellsPlain parts text → ¬ IsTaken parts) → (name : List ℕ)
+    → ((parts : PlainParts) → SpellsPlain parts text → ¬ IsTaken true parts) → (name : List ℕ)
     → ¬ ClaimsUser mechanism text name
 plain_claims_none mechanism text other none name (inl (version, plus, same, names)) =
     other version plus (sym same)
@@ -137,7 +137,7 @@ pub not_apart : (text other : List ℕ) → false ≡ not (bytes_eq text other) 
 not_apart text other is = (bytes_eq-Decides text other).0 (equal_where (bytes_eq text other) is)
 
 pub plain_allocates : (mechanism text user : List ℕ) → mechanism ≡ codes "PLAIN"
-    → ((parts : PlainParts) × SpellsPlain parts text × IsTaken parts × (user ≡ parts.user))
+    → ((parts : PlainParts) × SpellsPlain parts text × IsTaken true parts × (user ≡ parts.user))
     → ClaimAllocates mechanism text
 plain_allocates mechanism text user is (parts, spells, taken, same) =
     inr (user, inr (is, (parts, spells, taken, same)))

@@ -1,9 +1,10 @@
 -- Messages of PLAIN: a text is cut into the parts of one at most, and is none where it is not cut so.
-use Rattle.std.proofs.Common.{◌≡◌, ℕ, List, ◌∷◌, ◌++◌, subst, ◌∙◌, refl}
+use Rattle.std.proofs.Common.{◌≡◌, ℕ, Bool, true, Option, Some, None, List, ◌∷◌, ◌++◌, ap, sym, subst, ◌∙◌, refl}
+use Rattle.std.specs.Prelude.{MatchOption, option_map}
 use Rattle.std.specs.Str.{IsUtf8}
 use Rattle.fe2o3_scram.specs.Texts.{Cut, Without}
 use Rattle.fe2o3_scram.proofs.lemmas.texts.CutLemmas.{not_without, one_cut, without-uncut}
-use Rattle.fe2o3_sasl_core.specs.PlainServer.{IsTaken, PlainParts, SpellsPlain}
+use Rattle.fe2o3_sasl_core.specs.PlainServer.{IsTaken, PlainParts, SpellsPlain, asked_identity}
 
 -- a text that is no UTF-8, or is not cut at all, or once, or three times, is no message
 pub not_utf8 : (text : List ℕ) → ¬ IsUtf8 text → (parts : PlainParts) → ¬ SpellsPlain parts text
@@ -58,7 +59,18 @@ one_message text parts other is too =
     λ i. record { identity = first.0 i; user = second.0 i; password = second.1 i }
 
 -- where its parts are not taken, no parts of it are
-pub not_taken : (text : List ℕ) (parts : PlainParts) → SpellsPlain parts text → ¬ IsTaken parts → (other : PlainParts)
-    → SpellsPlain other text → ¬ IsTaken other
-not_taken text parts is refused other too = subst (λ (parts : PlainParts). ¬ IsTaken parts)
+pub not_taken : (accepts : Bool) (text : List ℕ) (parts : PlainParts) → SpellsPlain parts text → ¬ IsTaken accepts parts
+    → (other : PlainParts) → SpellsPlain other text → ¬ IsTaken accepts other
+not_taken accepts text parts is refused other too = subst (λ (parts : PlainParts). ¬ IsTaken accepts parts)
     (one_message text parts other is too) refused
+
+-- the identity of a text is that of its parts
+pub identity_of : {A : Type 0} (value : A → List ℕ) (text : List ℕ) (parts : PlainParts) (found : Option A)
+    → SpellsPlain parts text → IsTaken true parts → option_map value found ≡ asked_identity parts
+    → MatchOption found
+    ((other : PlainParts) → SpellsPlain other text → IsTaken true other → asked_identity other ≡ None)
+    (λ identity. (other : PlainParts) × SpellsPlain other text × IsTaken true other
+    × (asked_identity other ≡ Some (value identity)))
+identity_of value text parts None spells taken is =
+    λ other too also. ap asked_identity (one_message text other parts too spells) ∙ sym is
+identity_of value text parts (Some identity) spells taken is = (parts, spells, taken, sym is)

@@ -12,7 +12,7 @@ use Rattle.fe2o3_scram.specs.Readings.{NoneHolds}
 use Rattle.fe2o3_scram.proofs.lemmas.providers.PasswordLemmas.{keyless}
 use Rattle.fe2o3_scram.proofs.lemmas.texts.DecisionLemmas.{Decided, Found, both_or, not_or, printable_or, same_number_or}
 use Rattle.fe2o3_sasl_core.specs.Costs.{CostsAtMost}
-use Rattle.fe2o3_sasl_core.specs.PlainServer.{AsksPlain, HasPassword, IsTaken, MeetsUser, PlainLogsIn, PlainParts, PlainState, SpellsPlain, TestedPassword, TestingCosts, TestsPassword, count_or, plain_hmacs, plain_reasons, saslprep_text}
+use Rattle.fe2o3_sasl_core.specs.PlainServer.{AsksPlain, HasPassword, IsLetIn, IsTaken, MeetsUser, PlainLogsIn, PlainParts, PlainState, SpellsPlain, TestedPassword, TestingCosts, TestsPassword, count_or, plain_hmacs, plain_reasons, saslprep_text}
 use Rattle.fe2o3_sasl_core.specs.declared.rejection.Rejection.TheVariants.{WrongPassword}
 use Rattle.fe2o3_sasl_core.specs.declared.plain_server.passwords.PlainPasswords.{PlainPasswords}
 use Rattle.fe2o3_sasl_core.specs.declared.plain_server.passwords.PlainPasswords.TheVariants as forms
@@ -109,23 +109,24 @@ costs_form passwords form text password count before after same is costs =
 -- ---- an init
 
 -- a frame asks by one message
-pub one_asked : (frame : SaslFrame) (parts other : PlainParts) → AsksPlain frame parts → AsksPlain frame other
-    → parts ≡ other
-one_asked (frames.Init mechanism (Some text) hostname) parts other asks too =
+pub one_asked : (accepts : Bool) (frame : SaslFrame) (parts other : PlainParts) → AsksPlain accepts frame parts
+    → AsksPlain accepts frame other → parts ≡ other
+one_asked accepts (frames.Init mechanism (Some text) hostname) parts other asks too =
     one_message text parts other asks.1 too.1
-one_asked frame parts other asks too = absurd asks
+one_asked accepts frame parts other asks too = absurd asks
 
--- one by a message that has not the password of its user logs nobody in
-pub not_logged_in : (passwords : PlainPasswords) (provider : Store) (frame : SaslFrame) (parts : PlainParts)
-    → AsksPlain frame parts → ¬ HasPassword passwords provider parts → (user : List ℕ)
-    → ¬ PlainLogsIn passwords provider frame user
-not_logged_in passwords provider frame parts asks wrong user is =
-    wrong (subst (HasPassword passwords provider) (one_asked frame is.0 parts is.1 asks) is.2)
+-- one by a message that is not let in logs nobody in
+pub not_logged_in : (server : PlainState) (frame : SaslFrame) (parts : PlainParts)
+    → AsksPlain server.accept_authzid frame parts → ¬ IsLetIn server parts → (other : PlainParts)
+    → ¬ PlainLogsIn server frame other
+not_logged_in server frame parts asks wrong other (too, is) =
+    wrong (subst (IsLetIn server) (one_asked server.accept_authzid frame other parts too asks) is)
 
 -- ---- the cost
 
 -- where no password is tested, none is made
-unmade : (server : PlainState) (frame : SaslFrame) (parts : PlainParts) (before after : ℕ) → AsksPlain frame parts
+unmade : (server : PlainState) (frame : SaslFrame) (parts : PlainParts) (before after : ℕ)
+    → AsksPlain server.accept_authzid frame parts
     → TestingCosts server.passwords parts.password (count_or server.count (record_at server.provider.records parts.user))
     before after
     → Found (TestedPassword server.passwords parts.password) → ((count : ℕ) → ¬ TestsPassword server frame count)
@@ -137,13 +138,13 @@ unmade server frame parts before after asks costs (inr untested) none = costs.1 
 
 -- that of an answer to a frame that asks is that of the test of its password
 pub cost_of_test : (server : PlainState) (frame : SaslFrame) (parts : PlainParts) (before after : ℕ)
-    → AsksPlain frame parts
+    → AsksPlain server.accept_authzid frame parts
     → TestingCosts server.passwords parts.password (count_or server.count (record_at server.provider.records parts.user))
     before after
     → (n : ℕ) → plain_hmacs server frame n → after ≡ before + n
 cost_of_test server frame parts before after asks costs n (inl (count, tests, is)) =
     let (other, password, too, tested, counted, passed) = tests in
-    let same = one_asked frame other parts too asks in
+    let same = one_asked server.accept_authzid frame other parts too asks in
     let count_is : count ≡ count_or server.count (record_at server.provider.records parts.user) =
     counted ∙ ap (λ (parts : PlainParts). count_or server.count (record_at server.provider.records parts.user)) same in
     let checked = costs.0 password
@@ -171,7 +172,7 @@ not_less_tested passwords text count before after costs (inr none) =
     let same = costs.1 none in omega (arith, same)
 
 pub most_of_test : (server : PlainState) (frame : SaslFrame) (parts : PlainParts) (before after : ℕ)
-    → AsksPlain frame parts
+    → AsksPlain server.accept_authzid frame parts
     → TestingCosts server.passwords parts.password (count_or server.count (record_at server.provider.records parts.user))
     before after
     → CostsAtMost plain_hmacs server frame before after
@@ -183,7 +184,7 @@ most_of_test server frame parts before after asks costs = (
 )
 
 -- and that of one that does not ask is nothing
-pub no_test : (server : PlainState) (frame : SaslFrame) → ((parts : PlainParts) → ¬ AsksPlain frame parts)
+pub no_test : (server : PlainState) (frame : SaslFrame) → ((parts : PlainParts) → ¬ AsksPlain server.accept_authzid frame parts)
     → (n : ℕ) → plain_hmacs server frame n → n ≡ 0
 no_test server frame none n (inl (count, tests, is)) = absurd (none tests.0 tests.2)
 no_test server frame none n (inr (other, zero)) = zero
@@ -193,11 +194,12 @@ pub err_where : {X F P : Type 0} (result : Result X F) → P → IfErr result (�
 err_where (Ok value) so = tt
 err_where (Err fault) so = so
 
--- a message that is accepted for a test, of an init that logs nobody in, has a wrong password
-pub wrong_password : (server : PlainState) (mechanism text : List ℕ) (hostname : Option (List ℕ)) (message : PlainParts)
-    → mechanism ≡ codes "PLAIN" → SpellsPlain message text → IsTaken message
-    → ((user : List ℕ) → ¬ PlainLogsIn server.passwords server.provider
-    (frames.Init mechanism (Some text) hostname) user)
+-- a message that is accepted for a test, of an init that logs nobody in, has a wrong password, or its user no right
+pub wrong_password : (server : PlainState) (accepts : Bool) (mechanism text : List ℕ) (hostname : Option (List ℕ))
+    (message : PlainParts) → server.accept_authzid ≡ accepts → mechanism ≡ codes "PLAIN" → SpellsPlain message text
+    → IsTaken accepts message
+    → ((parts : PlainParts) → ¬ PlainLogsIn server (frames.Init mechanism (Some text) hostname) parts)
     → plain_reasons server (frames.Init mechanism (Some text) hostname) WrongPassword
-wrong_password server mechanism text hostname message named spells taken none =
-    inr (named, (message, spells, taken, λ has. none message.user (message, (named, spells, taken), has, refl)))
+wrong_password server accepts mechanism text hostname message same named spells taken none =
+    let is_taken = subst (λ (accepts : Bool). IsTaken accepts message) (sym same) taken in
+    inr (named, (message, spells, is_taken, λ is. none message ((named, spells, is_taken), is)))

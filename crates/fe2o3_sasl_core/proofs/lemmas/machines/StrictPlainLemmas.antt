@@ -1,5 +1,5 @@
 -- The strict acceptor of PLAIN for one user.
-use Rattle.std.proofs.Common.{true, ◌≡◌, ◌≢◌, ℕ, List, subst, sym, refl, inl, inr}
+use Rattle.std.proofs.Common.{true, false, ◌≡◌, ◌≢◌, ℕ, List, subst, sym, refl, inl, inr}
 use Rattle.std.specs.Prelude.{Option, Some, None, codes}
 use Rattle.fe2o3_sasl_wire.specs.declared.amqp_types.SaslCode.TheVariants as outcomes
 use Rattle.fe2o3_sasl_wire.specs.SaslFrames as frames
@@ -12,13 +12,13 @@ use Rattle.fe2o3_sasl_core.specs.declared.rejection.Rejection.TheVariants as rea
 use Rattle.fe2o3_sasl_core.proofs.lemmas.machines.PlainMessageLemmas.{one_message}
 
 -- a message of another user or with another password
-pub wrong_message : (user password text : List ℕ) (parts : PlainParts) → SpellsPlain parts text → IsTaken parts
+pub wrong_message : (user password text : List ℕ) (parts : PlainParts) → SpellsPlain parts text → IsTaken false parts
     → ¬ IsMessageOf user password parts → OneRejected user password text reasons.WrongPassword
 wrong_message user password text parts spells taken other = (parts, spells, taken, other)
 
-pub right_message : (user password text : List ℕ) (parts : PlainParts) → SpellsPlain parts text → IsTaken parts
+pub right_message : (user password text : List ℕ) (parts : PlainParts) → SpellsPlain parts text → IsTaken false parts
     → IsMessageOf user password parts
-    → (message : PlainParts) × SpellsPlain message text × IsTaken message × IsMessageOf user password message
+    → (message : PlainParts) × SpellsPlain message text × IsTaken false message × IsMessageOf user password message
 right_message user password text parts spells taken same = (parts, spells, taken, same)
 
 pub ruleset messages = (wrong_message, right_message)
@@ -72,7 +72,7 @@ module _ (plain : StrictPlain) (nonce mechanism : List ℕ) (response hostname :
   )
 
   pub accepted : (text : List ℕ) (next : StrictPlain) → mechanism ≡ codes "PLAIN" → response ≡ Some text
-      → (message : PlainParts) × SpellsPlain message text × IsTaken message
+      → (message : PlainParts) × SpellsPlain message text × IsTaken false message
       × IsMessageOf plain.user plain.password message
       → next ≡ record { user = plain.user; password = plain.password; accepted = true }
       → Answers (ends_with outcomes.Ok) next

@@ -93,7 +93,7 @@ outcome_allocates (ScramProfile client) outcomes.Auth text has = tt
 outcome_allocates (ScramProfile client) outcomes.Sys text has = tt
 outcome_allocates (ScramProfile client) outcomes.SysPerm text has = tt
 outcome_allocates (ScramProfile client) outcomes.SysTemp text has = tt
-outcome_allocates (PlainProfile user password) code text has = tt
+outcome_allocates (PlainProfile identity user password) code text has = tt
 outcome_allocates AnonymousProfile code text has = tt
 outcome_allocates ExternalProfile code text has = tt
 outcome_allocates (MessageProfile mechanism message is_due) code text has = tt
@@ -167,7 +167,7 @@ other_outcome client outcomes.SysTemp text other = tt
 pub unread_outcome : (profile : Profile) (code : SaslCode) (text : List ℕ) → is_scram profile ≡ false
     → StepAllocates profile (frames.Outcome code (Some text))
 unread_outcome (ScramProfile client) code text is = absurd (cc)
-unread_outcome (PlainProfile user password) code text is = tt
+unread_outcome (PlainProfile identity user password) code text is = tt
 unread_outcome AnonymousProfile code text is = tt
 unread_outcome ExternalProfile code text is = tt
 unread_outcome (MessageProfile mechanism message is_due) code text is = tt

@@ -15,7 +15,7 @@ use Rattle.fe2o3_scram.specs.Logins.{IsSigned}
 use Rattle.fe2o3_scram.proofs.lemmas.messages.LoginLemmas.{accepted_texts_log_in, verified_texts_are_signed}
 use Rattle.fe2o3_sasl_core.specs.Bodies.{SpellsBody, carried, server_says}
 use Rattle.fe2o3_sasl_core.specs.Events.{Given, ServerSays, Concluded, Failed, ClientSays, Reported, Refused}
-use Rattle.fe2o3_sasl_core.specs.PlainServer.{PlainLogsIn, PlainState, plain_machine}
+use Rattle.fe2o3_sasl_core.specs.PlainServer.{PlainLogsIn, PlainParts, PlainState, asked_identity, plain_machine}
 use Rattle.fe2o3_sasl_core.specs.Profiles.{Profile, ScramProfile, ChallengeReplies, client_frame, profile_machine}
 use Rattle.fe2o3_sasl_core.specs.Runs.{Replies, SendsCanonical}
 use Rattle.fe2o3_sasl_core.specs.SaslAcceptor.{Acceptor, AnonymousAcceptor, ScramAcceptor, acceptor_machine, ends_with, server_frame}
@@ -127,13 +127,13 @@ oks_log_in provider state event body next (Ok (frames.Response text), spells, in
 plain_answer_logs_in : (server moved next : PlainState) (event : Given) (frame reply : SaslFrame) (body : List ℕ)
     → SpellsBody event.body (Ok frame) → plain_machine server event.nonce frame reply moved
     → SendsCanonical (Failed faults.TooLarge) (server_says reply) (canonical reply) server moved (Concluded outcomes.Ok body) next
-    → (frame : SaslFrame) × (user : List ℕ) × SpellsBody event.body (Ok frame)
-    × PlainLogsIn server.passwords server.provider frame user × (next ≡ record server { user = Some user })
-plain_answer_logs_in server moved next event frame reply body spells (inl (user, logs, is, to)) said =
+    → (frame : SaslFrame) × (message : PlainParts) × SpellsBody event.body (Ok frame) × PlainLogsIn server frame message
+    × (next ≡ record server { user = Some message.user; acts_for = asked_identity message })
+plain_answer_logs_in server moved next event frame reply body spells (inl (message, logs, is, to)) said =
     let sent = subst (λ (f : SaslFrame). SendsCanonical (Failed faults.TooLarge) (server_says f) (canonical f) server moved
     (Concluded outcomes.Ok body) next) is said in (
       frame,
-      user,
+      message,
       spells,
       logs,
       sent_moves (canonical (ends_with outcomes.Ok)) outcomes.Ok body server moved next sent ∙ to,

@@ -3,6 +3,7 @@
 ghost use Rattle.std.specs.Prelude.{◌≡◌, ◌≢◌, ◌↔◌, [], true, false, None, IfOk, IfErr, IsTrue, map, option_map};
 ghost use Rattle.fe2o3_scram.specs.Mixed.{provider_for};
 ghost use Rattle.fe2o3_sasl_core.specs.ExternalServer.{external_of};
+ghost use Rattle.fe2o3_sasl_core.specs.PlainServer.{plain_state};
 ghost use Rattle.fe2o3_sasl_core.specs.PasswordServer.{HasLongSalts, OffersNothing, all_scrams_in, all_scrams_state, asked_of, count_of_unknown, exchange_with, external_mechanism, external_name, first_asked, name_where, names_for, offering_for, opened, or_no_channels, others_names, others_of, others_state, part_asked, password_server, password_state, restored_held, scram_provider, scram_rules, scram_state, scrams_at, scrams_in, scrams_state, second_asked, settings_of, state_held};
 ghost use Rattle.fe2o3_sasl_core.specs.AnyMechanism.{both_names};
 ghost use Rattle.fe2o3_sasl_core.specs.AnyMechanismSides.{both_states};
@@ -281,12 +282,23 @@ impl PasswordServerBuilder<'_> {
     fn others(&self, alloc: Global) -> Result<Others, OutOfMemory>
         ensures { IfOk result (λ others. others_state others ≡ others_of (settings_of self.now)) }
     {
-        let plain = PlainServer::new(
-            self.store(self.plain_version)?,
-            self.iterations(),
-        ).with_passwords(self.plain_passwords);
         let external = self.external_server(alloc)?;
-        Ok(Others::new(plain, external))
+        Ok(Others::new(self.plain_server()?, external))
+    }
+
+    /// Returns the acceptor of PLAIN.
+    fn plain_server(&self) -> Result<PlainServer<RecordStore>, OutOfMemory>
+        ensures { IfOk result (λ plain. plain_state (λ store. store) plain
+            ≡ (others_of (settings_of self.now)).first) }
+    {
+        let store = self.store(self.plain_version)?;
+        let plain = PlainServer::new(store, self.iterations())
+            .with_passwords(self.plain_passwords)
+            .accept_authzid(self.rules.accept_authzid);
+        match self.rights {
+            Some(rights) => Ok(plain.with_acting_rights(rights.clone()?)),
+            None => Ok(plain),
+        }
     }
 
     /// Returns the acceptor of EXTERNAL.

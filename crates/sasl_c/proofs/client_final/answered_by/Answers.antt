@@ -9,9 +9,9 @@ pub returns-in-Ok-clause-ok : goal.returns-in-Ok-clause-ok
 returns-in-Ok-clause-ok c =
     let bare = c.as_slice.ensures ∙ c.in_ok-bare.ensures.bare
     ∙ ap (client_first_bare c.args.login.now.username.now) c.as_bytes.ensures.value in
-    let held = rw c.new.ensures at rw c.limits.ensures at rw c.is_set.ensures at c.in-Ok.ensures.answer in
+    let held = rw c.limits.ensures at rw c.is_set.ensures at c.in-Ok.ensures.answer in
     λ is has binds sent.
-    answered_by c.args.login.now c.args.client.now c.args.version (secret_of c.args.secret) c.args.channel.now
+    answered_by c.args.login.now c.args.client.now c.args.version (secret_of c.args.secret) c.args.header.now
     c.nonce_text-nonce.result.now c.as_slice.result.now c.args.server_first.now (answer_values c.in-Ok.answer) is has
     binds sent c.nonce_text-nonce.ensures bare held
 
@@ -19,8 +19,8 @@ pub returns-clause-err : goal.returns-clause-err
 returns-clause-err c =
     let bare = c.as_slice.ensures ∙ c.in_ok-bare.ensures.bare
     ∙ ap (client_first_bare c.args.login.now.username.now) c.as_bytes.ensures.value in
-    let held = rw c.new.ensures at rw c.limits.ensures at rw c.is_set.ensures at c.in-Err.ensures.answer in
+    let held = rw c.limits.ensures at rw c.is_set.ensures at c.in-Err.ensures.answer in
     λ other is has binds sent.
-    refused_by c.args.login.now c.args.client.now c.args.version (secret_of c.args.secret) c.args.channel.now
+    refused_by c.args.login.now c.args.client.now c.args.version (secret_of c.args.secret) c.args.header.now
     c.nonce_text-nonce.result.now c.as_slice.result.now c.args.server_first.now c.in-Err.why c.from.result is has
     binds sent c.nonce_text-nonce.ensures bare held.1 c.from.ensures other

@@ -7,13 +7,11 @@ use Rattle.sasl_c.proofs.PlainLemmas.{answer_costs, answers}
 use Rattle.sasl_c.proofs.plain_verify.logs_in.Goals as goal
 
 pub returns-in-Ok-reply-clause-ok : goal.returns-in-Ok-reply-clause-ok
-returns-in-Ok-reply-clause-ok c = answers c.args.passwords c.args.iterations c.args.store c.args.message.now []
-    (plain_state (λ (store : Store). store) c.server_over-server.result) (init_frame c.in-Ok.init)
-    (sent_frame c.in-Ok-reply.reply) _ c.is_ok.result c.server_over-server.ensures c.in-Ok.ensures.ok
+returns-in-Ok-reply-clause-ok c = answers (plain_state (λ (store : Store). store) c.args.server) c.args.message.now []
+    (init_frame c.in-Ok.init) (sent_frame c.in-Ok-reply.reply) _ c.is_ok.result c.in-Ok.ensures.ok
     c.in-Ok-reply.ensures.ok c.is_ok.ensures.ok c.is_ok.ensures.auth
 
 pub returns-in-Ok-reply-clause-cost : goal.returns-in-Ok-reply-clause-cost
 returns-in-Ok-reply-clause-cost c = λ n makes. c.in-Ok-reply.ensures.exactly n
-    (answer_costs c.args.passwords c.args.iterations c.args.store c.args.message.now
-    (plain_state (λ (store : Store). store) c.server_over-server.result) (init_frame c.in-Ok.init) n
-    c.server_over-server.ensures c.in-Ok.ensures.ok makes)
+    (answer_costs (plain_state (λ (store : Store). store) c.args.server) c.args.message.now (init_frame c.in-Ok.init) n
+    c.in-Ok.ensures.ok makes)
