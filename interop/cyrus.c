@@ -1,6 +1,6 @@
 /* A login by libsasl2 over standard input and output, a message a line, as lines.c has it:
  *
- *     cyrus client PLUGINS MECHANISM USER PASSWORD [may | choose | must | late | as IDENTITY | tls-unique HEX]
+ *     cyrus client PLUGINS MECHANISM USER PASSWORD [may | choose | must | late | tls-unique HEX] [as IDENTITY]
  *     cyrus server PLUGINS MECHANISM SASLDB COUNT [NAME | tls-unique HEX]
  *     cyrus version
  *
@@ -195,9 +195,9 @@ int main(int count, char **given)
         puts(version);
         return 0;
     }
-    if (strcmp(what, "client") == 0 && count == 8 && strcmp(given[6], "as") == 0) {
-        identity = given[7];
-        count = 6;
+    if (strcmp(what, "client") == 0 && count >= 8 && strcmp(given[count - 2], "as") == 0) {
+        identity = given[count - 1];
+        count -= 2;
     }
     if (count == 8 && strcmp(given[6], "tls-unique") == 0) {
         read_channel(given[7]);

@@ -8,6 +8,7 @@ import subprocess
 from pathlib import Path
 from typing import Iterator, Optional
 
+import identities
 import messages
 import tls
 from cells import Cell, Peer, none
@@ -80,14 +81,15 @@ class CyrusSasl(Peer):
         return login
 
     def serve(
-        self, mechanism: str, user: User, known: User = USER, binds: str = "", mar=None, unbound: bool = False
+        self, mechanism: str, user: User, known: User = USER, binds: str = "", mar=None, unbound: bool = False,
+        identity: str = "", more: tuple[str, ...] = (),
     ):
-        """A login of a client of libsasl2 to our server, which knows one user."""
-        words = ["client", mechanism, user.name, user.password, *([binds] if binds else [])]
+        """A login of a client of libsasl2 to our server, which knows one user, and has more words."""
+        words = ["client", mechanism, user.name, user.password, *([binds] if binds else []), "as", identity]
+        more = ("unbound", *more) if unbound else more
 
         def login(side: Side) -> Ending:
             records = {known.name: side.record(mechanism, known)}
-            more = ("unbound",) if unbound else ()
             return side.serve(mechanism, records, lambda channel: self.run(channel, *words), mar, more)
 
         return login
@@ -104,16 +106,20 @@ class CyrusSasl(Peer):
 
         return login
 
-    def bound_client(self, mechanism: str, password: str = USER.password, relayed: bool = False):
+    def bound_client(
+        self, mechanism: str, password: str = USER.password, relayed: bool = False, identity: str = ""
+    ):
         """A login of a client of libsasl2 to our server, with the channel of one connection, or each with that of
-        another."""
+        another. The user may act for the identity."""
+        rights = identities.may_act(identity) if identity else ()
 
         def login(side: Side) -> Ending:
             tunnel, other = tls.Tunnel(self.authority), tls.Tunnel(self.authority)
-            words = ["client", mechanism, USER.name, password, "tls-unique", (other if relayed else tunnel).other()]
+            theirs = (other if relayed else tunnel).other()
+            words = ["client", mechanism, USER.name, password, "tls-unique", theirs, "as", identity]
             return side.serve(mechanism + "-PLUS", {USER.name: side.record(mechanism, USER)},
                               lambda ours: tunnel.between(ours, lambda end: self.run(end, *words)),
-                              more=(tunnel.channel(),))
+                              more=(*rights, tunnel.channel()))
 
         return login
 
@@ -132,6 +138,8 @@ class CyrusSasl(Peer):
                    Ending("not logged in: Server: Authentication failed", False))
         yield cell("server", relayed, self.bound_client(mechanism, relayed=True),
                    Ending("not logged in: Server: Invalid channel binding", False))
+        yield cell("server", identities.ALLOWED, self.bound_client(mechanism, identity=identities.BOB),
+                   identities.acting(identities.BOB))
 
     def cells(self) -> Iterator[Cell]:
         for mechanism in SCRAM:
@@ -210,6 +218,11 @@ class CyrusSasl(Peer):
         yield cell("password with a soft hyphen, which it does not prepare",
                    self.serve(mechanism, SOFT, SOFT._replace(prepared=True)), refused)
         yield from self.bindings(mechanism, cell, done, no_header)
+
+        def of_identity(user: User, identity: str, more: tuple[str, ...]):
+            return self.serve(mechanism, user, identity=identity, more=more)
+
+        yield from identities.our_servers(of_identity, mechanism)
 
     def bindings(self, mechanism: str, cell, done: Ending, no_header: Ending) -> Iterator[Cell]:
         """Clients that have a binding of their channel, at our server, which has none."""

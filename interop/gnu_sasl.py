@@ -11,6 +11,7 @@ import sys
 from pathlib import Path
 from typing import Iterator, Optional
 
+import identities
 import messages
 import tls
 from cells import Cell, Peer, none
@@ -42,13 +43,16 @@ def server(client: Client, password: str, count: int = 4096, mar=None):
     return login
 
 
-def client(mechanism: str, user: User, known: User, record_of=None, mar=None):
-    """A client of gsasl, to a server of ours that knows one user."""
+def client(
+    mechanism: str, user: User, known: User, record_of=None, mar=None, identity: str = "", more: tuple[str, ...] = ()
+):
+    """A client of gsasl, to a server of ours that knows one user, and has more words."""
     words = ["--client", "-m", mechanism, f"--authentication-id={user.name}", f"--password={user.password}"]
+    words += [f"--authorization-id={identity}"] if identity else []
 
     def login(side: Side) -> Ending:
         record = record_of(mechanism, known) if record_of else side.record(mechanism, known)
-        return side.serve(mechanism, {known.name: record}, lambda channel: gsasl(channel, words), mar)
+        return side.serve(mechanism, {known.name: record}, lambda channel: gsasl(channel, words), mar, more)
 
     return login
 
@@ -104,17 +108,19 @@ class GnuSasl(Peer):
 
         return login
 
-    def bound_client(self, mechanism: str, user: User, known: User, relayed: bool = False):
+    def bound_client(self, mechanism: str, user: User, known: User, relayed: bool = False, identity: str = ""):
         """A client of its library, and a server of ours, with the channel of one connection, or each with that of
-        another."""
+        another. The user may act for the identity."""
 
         def login(side: Side) -> Ending:
             tunnel, other = tls.Tunnel(self.authority), tls.Tunnel(self.authority)
-            words = ("bound", "client", mechanism, user.name, user.password, (other if relayed else tunnel).other())
+            theirs = (other if relayed else tunnel).other()
+            words = ("bound", "client", mechanism, user.name, user.password, identity, theirs)
             record = side.record(mechanism.removesuffix("-PLUS"), known)
+            rights = identities.may_act(identity) if identity else ()
             return side.serve(mechanism, {known.name: record},
                               lambda ours: tunnel.between(ours, lambda end: worker(end, *words)),
-                              more=(tunnel.channel(),))
+                              more=(*rights, tunnel.channel()))
 
         return login
 
@@ -138,6 +144,8 @@ class GnuSasl(Peer):
         yield cell("server", "all messages relayed between two connections under TLS",
                    self.bound_client(plus, USER, USER, relayed=True),
                    Ending("not logged in: Server: Invalid channel binding", False))
+        yield cell("server", identities.ALLOWED, self.bound_client(plus, USER, USER, identity=identities.BOB),
+                   identities.acting(identities.BOB))
 
     def missing(self) -> bool:
         return shutil.which("gsasl") is None
@@ -219,3 +227,8 @@ class GnuSasl(Peer):
                    "records")
         yield cell("password with a soft hyphen, prepared", client(mechanism, HARD, SOFT._replace(prepared=True)), done)
         yield cell("password with a soft hyphen, which it prepares", client(mechanism, SOFT, HARD), done, HARD)
+
+        def of_identity(user: User, identity: str, more: tuple[str, ...]):
+            return client(mechanism, user, USER, identity=identity, more=more)
+
+        yield from identities.our_servers(of_identity, mechanism)

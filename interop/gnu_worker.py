@@ -4,7 +4,7 @@ with a channel:
 
     gnu_worker.py client MECHANISM USER PASSWORD IDENTITY
     gnu_worker.py server MECHANISM NAME
-    gnu_worker.py bound client MECHANISM USER PASSWORD TLS_UNIQUE
+    gnu_worker.py bound client MECHANISM USER PASSWORD IDENTITY TLS_UNIQUE
     gnu_worker.py bound server MECHANISM PASSWORD TLS_UNIQUE
 
 The program `gsasl` cannot do these: as a client it ends with the status 0 before the server has accepted its message,
@@ -134,7 +134,9 @@ def properties(known):
 def run_bound(side, mechanism, *words):
     """A login by SCRAM with `-PLUS`."""
     *names, data = words
-    known = dict(zip((AUTHID, PASSWORD) if side == "client" else (PASSWORD,), names))
+    known = dict(zip((AUTHID, PASSWORD, AUTHZID) if side == "client" else (PASSWORD,), names))
+    # (an empty identity is none)
+    known = {which: text for which, text in known.items() if text}
     known |= {SCRAM_ITER: "4096", SCRAM_SALT: base64.b64encode(b"a salt").decode()}
     known[CB_TLS_UNIQUE] = base64.b64encode(bytes.fromhex(data)).decode()
     session = Session(side, mechanism, properties(known))

@@ -4,7 +4,7 @@
  * before these.
  *
  *     lines client PORT MECHANISM USER LEAST MOST [prepared] [again] [KIND:HEX]
- *     lines server USERS MECHANISM LOGINS [unbound | KIND:HEX]
+ *     lines server USERS MECHANISM LOGINS [unbound] [for:IDENTITY].. [KIND:HEX]
  *     lines server USERS PLAIN LOGINS [prepared | saslprep]
  *     lines server USERS EXTERNAL LOGINS NAME
  *     lines record MECHANISM SALT COUNT [prepared]
@@ -15,8 +15,9 @@
  * record without code points that Unicode 3.2 does not assign. With `again` a second login uses the keys of the
  * first one, without the password. With `unbound` the server takes the GS2 header `y,,` too. With a kind of
  * channel binding, such as `tls-exporter`, and the data of the channel in hexadecimal, either side binds that channel:
- * the name of the mechanism then ends with `-PLUS`. The server prints its port; each login has a line that says how it
- * ended.
+ * the name of the mechanism then ends with `-PLUS`. With `for:` the server accepts authorization identities, and each
+ * user may act for these; an empty one adds none. The server prints its port; each login has a line that says how it
+ * ended, for which user, and for which identity the user acts.
  *
  * For ANONYMOUS the USER is the trace information, and for EXTERNAL the authorization identity; both can be empty. NAME
  * is the name that the transport authenticated. With `prepared` a server of PLAIN expects a prepared password, and with
@@ -59,6 +60,20 @@ static int read_channel(const char *word)
 
 /* The rules of the server. */
 static struct fe2o3_scram_rules rules;
+
+/* Reads an identity that each user may act for, for:IDENTITY. Returns 0 if the word is none. */
+static int read_identity(const char *word)
+{
+    static uint8_t identities[1024];
+    size_t len = strlen(word) - (strncmp(word, "for:", 4) == 0 ? 4 : 0);
+    if (len == strlen(word) || len + 1 > sizeof identities - rules.identities_len)
+        return 0;
+    rules.accept_authzid = 1;
+    rules.identities = identities;
+    memcpy(identities + rules.identities_len, word + 4, len + 1);
+    rules.identities_len += len > 0 ? len + 1 : 0;
+    return 1;
+}
 
 static void set_rules(int accepts_y)
 {
@@ -241,9 +256,9 @@ static void fetch(const struct text *name, uint32_t version, struct fe2o3_scram_
         fe2o3_scram_record_mock(version, secret, sizeof secret, name->bytes, name->len, 16, 4096, record);
 }
 
-/* Lets the client log in that sent this first message, and writes its name. */
+/* Lets the client log in that sent this first message, and writes its name, and the identity that it acts for. */
 static uint32_t serve_scram(
-    FILE *in, FILE *out, const char *mechanism, const struct text *first, struct text *name)
+    FILE *in, FILE *out, const char *mechanism, const struct text *first, struct text *name, struct text *acts_for)
 {
     struct fe2o3_scram_server server = {0};
     struct fe2o3_scram_record record = {0};
@@ -269,7 +284,9 @@ static uint32_t serve_scram(
     if (status != FE2O3_OK)
         return status;
     write_base64(out, &answer);
-    return fe2o3_scram_server_authenticated_user(&server, name->bytes, sizeof name->bytes, &name->len);
+    status = fe2o3_scram_server_acts_for(&server, acts_for->bytes, sizeof acts_for->bytes, &acts_for->len);
+    return status != FE2O3_OK ? status
+        : fe2o3_scram_server_authenticated_user(&server, name->bytes, sizeof name->bytes, &name->len);
 }
 
 /* Tests a message of PLAIN, and writes the name of its user. */
@@ -301,7 +318,7 @@ static uint32_t serve_message(FILE *out, const char *mechanism, const struct tex
     return status;
 }
 
-static uint32_t serve(FILE *in, FILE *out, const char *mechanism, struct text *name)
+static uint32_t serve(FILE *in, FILE *out, const char *mechanism, struct text *name, struct text *acts_for)
 {
     struct text message;
     char line[256];
@@ -311,7 +328,7 @@ static uint32_t serve(FILE *in, FILE *out, const char *mechanism, struct text *n
     if ((status = read_message(in, &message)) != FE2O3_OK)
         return status;
     status = has_one_message(mechanism) ? serve_message(out, mechanism, &message, name)
-                                        : serve_scram(in, out, mechanism, &message, name);
+                                        : serve_scram(in, out, mechanism, &message, name, acts_for);
     if (status == FE2O3_OK) {
         read_message(in, &message);
         write_base64(out, &empty);
@@ -321,12 +338,13 @@ static uint32_t serve(FILE *in, FILE *out, const char *mechanism, struct text *n
 
 static void served(int channel, const char *mechanism)
 {
-    struct text name;
+    struct text name, acts_for = {{0}, 0};
     int other = channel < 0 ? -1 : dup(channel);
     FILE *in = channel < 0 ? NULL : fdopen(channel, "r"), *out = other < 0 ? NULL : fdopen(other, "w");
-    uint32_t status = in == NULL || out == NULL ? OTHER_SIDE_ENDED : serve(in, out, mechanism, &name);
+    uint32_t status = in == NULL || out == NULL ? OTHER_SIDE_ENDED : serve(in, out, mechanism, &name, &acts_for);
     if (status == FE2O3_OK)
-        printf("logged in: %.*s\n", (int)name.len, (const char *)name.bytes);
+        printf("logged in: %.*s%s%.*s\n", (int)name.len, (const char *)name.bytes, acts_for.len > 0 ? " for " : "",
+            (int)acts_for.len, (const char *)acts_for.bytes);
     else
         told("not logged in", status);
     fflush(stdout);
@@ -395,6 +413,8 @@ int main(int count, char **words)
     const char *what = count > 1 ? words[1] : "", *last;
     int again, prepared, prepares, takes_unbound;
     count -= count > 1 && read_channel(words[count - 1]);
+    while (count > 1 && read_identity(words[count - 1]))
+        count--;
     last = words[count - 1];
     again = strcmp(what, "client") == 0 && strcmp(last, "again") == 0;
     prepares = strcmp(last, "saslprep") == 0;

@@ -15,10 +15,11 @@
 #define MOST_ITERATIONS 1000000
 #define SALT_LEN 16
 
-/* Those of Cyrus SASL's own plugin. Its features are here too, but no user acts for another. */
+/* Those of Cyrus SASL's own plugin, and its features; but a client does not act for another user. */
 #define SECURITY(bits) (SASL_SET_HASH_STRENGTH_BITS(bits) | SASL_SEC_NOPLAINTEXT | SASL_SEC_NOACTIVE \
     | SASL_SEC_NOANONYMOUS | SASL_SEC_MUTUAL_AUTH)
 #define FEATURES (SASL_FEAT_SUPPORTS_HTTP | SASL_FEAT_CHANNEL_BINDING)
+#define SERVER_FEATURES (FEATURES | SASL_FEAT_ALLOWS_PROXY)
 #define EXPORTED __attribute__((visibility("default")))
 #define UNUSED __attribute__((unused))
 
@@ -45,7 +46,7 @@ enum expected { FIRST, SECOND, THIRD, ENDED };
 struct exchange {
     const struct mechanism *mechanism;
     enum expected expected;
-    int asked, prepares;
+    int asked, prepares, acts; /* acts: of the server, whether the client names an identity other than its own name */
     sasl_cbinding_disp_t channel; /* of the server: what the client's header says of the channel */
     struct fe2o3_scram_client client;
     struct fe2o3_scram_server server;
@@ -312,7 +313,8 @@ static int from_password(struct exchange *one, const sasl_utils_t *utils, const 
     return told(one, utils, status == FE2O3_NOT_UTF8 ? FE2O3_NOT_PRINTABLE : status);
 }
 
-/* Fetches what the server knows of a user: the password, or else the record of it for this mechanism. */
+/* Fetches what the server knows of a user: the password, or else the record of it for this mechanism. An identity that the
+ * user acts for is looked up after the proof. */
 static int look_up(struct exchange *one, sasl_server_params_t *params, const char *name, size_t name_len,
     sasl_out_params_t *result)
 {
@@ -320,9 +322,10 @@ static int look_up(struct exchange *one, sasl_server_params_t *params, const cha
     const sasl_utils_t *utils = params->utils;
     struct propval found[3] = {{0}};
     const char **stored;
+    unsigned whose = one->acts ? SASL_CU_AUTHID : SASL_CU_AUTHID | SASL_CU_AUTHZID;
     int code = utils->prop_request(params->propctx, wanted);
     if (code == SASL_OK)
-        code = params->canon_user(utils->conn, name, (unsigned)name_len, SASL_CU_AUTHID | SASL_CU_AUTHZID, result);
+        code = params->canon_user(utils->conn, name, (unsigned)name_len, whose, result);
     if (code != SASL_OK)
         return code;
     if (utils->prop_getnames(params->propctx, wanted, found) < 0)
@@ -339,16 +342,25 @@ static int look_up(struct exchange *one, sasl_server_params_t *params, const cha
     return refused(one, utils, params->transition ? SASL_TRANS : stored ? SASL_NOVERIFY : SASL_NOUSER, "no secret");
 }
 
+/* Whether a client-first message binds a channel of this kind. */
+static int binds_kind(const char *in, unsigned in_len, const char *kind)
+{
+    size_t len = strlen(kind);
+    return in_len > len + 2 && memcmp(in + 2, kind, len) == 0 && in[len + 2] == ',';
+}
+
 /* Why the header of a client-first message is refused. */
 static const char *why_header(const struct exchange *one, const sasl_server_params_t *params, const char *in, unsigned in_len)
 {
     const char *comma = memchr(in, ',', in_len);
-    if (comma && in + in_len - comma >= 3 && memcmp(comma, ",a=", 3) == 0)
-        return "an authorization identity is not supported";
     if (one->channel == SASL_CB_DISP_WANT && SASL_CB_PRESENT(params))
         return "the client assumes that the server supports no channel binding";
-    if (one->channel == SASL_CB_DISP_USED)
-        return params->cbinding ? "the client binds another kind of channel" : "the server has no channel to bind";
+    if (one->channel == SASL_CB_DISP_USED && !params->cbinding)
+        return "the server has no channel to bind";
+    if (one->channel == SASL_CB_DISP_USED && !binds_kind(in, in_len, params->cbinding->name))
+        return "the client binds another kind of channel";
+    if (comma && in + in_len - comma >= 3 && memcmp(comma, ",a=", 3) == 0)
+        return "the authorization identity is empty, has a zero byte or a wrong escape";
     return "the message does not begin with n,,";
 }
 
@@ -379,11 +391,26 @@ static int accept_channel(const struct exchange *one, const sasl_server_params_t
     return SASL_OK;
 }
 
+/* Writes the user name that a client-first message claims, and notes whether it names an identity other than this name. */
+static uint32_t read_names(struct exchange *one, const struct fe2o3_scram_rules *rules, const char *in, unsigned in_len,
+    uint8_t name[sizeof one->server.user], size_t *len)
+{
+    uint8_t identity[sizeof one->server.acts_for];
+    size_t identity_len = 0;
+    uint32_t status = fe2o3_scram_server_claimed_user_with_rules(
+        rules, BYTES(in, in_len), name, sizeof one->server.user, len);
+    if (status == FE2O3_OK)
+        status = fe2o3_scram_server_claimed_identity(
+            rules, BYTES(in, in_len), identity, sizeof identity, &identity_len);
+    one->acts = identity_len > 0 && (identity_len != *len || memcmp(identity, name, *len) != 0);
+    return status;
+}
+
 static int server_first(struct exchange *one, sasl_server_params_t *params, const char *in, unsigned in_len,
     sasl_out_params_t *result)
 {
     const sasl_utils_t *utils = params->utils;
-    struct fe2o3_scram_rules rules = {0};
+    struct fe2o3_scram_rules rules = {.accept_authzid = 1};
     uint8_t name[sizeof one->server.user + 1], nonce[32];
     size_t len = 0;
     uint32_t status;
@@ -393,7 +420,7 @@ static int server_first(struct exchange *one, sasl_server_params_t *params, cons
     code = accept_channel(one, params, &rules);
     if (code != SASL_OK)
         return code;
-    status = fe2o3_scram_server_claimed_user_with_rules(&rules, BYTES(in, in_len), name, sizeof name - 1, &len);
+    status = read_names(one, &rules, in, in_len, name, &len);
     if (status == FE2O3_OK && one->channel == SASL_CB_DISP_WANT && SASL_CB_PRESENT(params))
         status = FE2O3_SERVER_CANNOT_PARSE_GS2_HEADER;
     if (status == FE2O3_SERVER_CANNOT_PARSE_GS2_HEADER)
@@ -413,14 +440,26 @@ static int server_first(struct exchange *one, sasl_server_params_t *params, cons
     return told(one, utils, status);
 }
 
-static int server_final(struct exchange *one, const sasl_server_params_t *params, const char *in, unsigned in_len)
+/* Tests the proof, with the identity that the client named as one that the user may act for: libsasl2 asks the application
+ * for this right (SASL_CB_PROXY_POLICY) once it has the names of both. */
+static int server_final(struct exchange *one, const sasl_server_params_t *params, const char *in, unsigned in_len,
+    sasl_out_params_t *result)
 {
-    struct fe2o3_scram_rules rules = {0};
+    struct fe2o3_scram_rules rules = {.accept_authzid = 1};
+    uint8_t identity[sizeof one->server.acts_for + 1];
+    uint32_t len = one->server.acts_for_len;
     int code = accept_channel(one, params, &rules);
     if (code != SASL_OK)
         return code;
-    return told(one, params->utils,
+    memcpy(identity, one->server.acts_for, len);
+    identity[len] = 0;
+    rules.identities = identity;
+    rules.identities_len = len > 0 ? len + 1 : 0;
+    code = told(one, params->utils,
         fe2o3_scram_server_final_with_rules(&rules, &one->record, &one->server, BYTES(in, in_len), ROOM(one)));
+    if (code == SASL_OK && one->acts)
+        code = params->canon_user(params->utils->conn, (const char *)identity, len, SASL_CU_AUTHZID, result);
+    return code;
 }
 
 static int server_step(void *context, sasl_server_params_t *params, const char *in, unsigned in_len,
@@ -437,7 +476,7 @@ static int server_step(void *context, sasl_server_params_t *params, const char *
     if (expected == FIRST)
         code = server_first(one, params, in ? in : "", in_len, result);
     else if (expected == SECOND)
-        code = server_final(one, params, in ? in : "", in_len);
+        code = server_final(one, params, in ? in : "", in_len, result);
     if (code != SASL_OK)
         return code;
     *out = (const char *)one->out;
@@ -460,7 +499,7 @@ EXPORTED int sasl_server_plug_init(const sasl_utils_t *utils UNUSED, int most, i
     static sasl_server_plug_t plugs[MECHANISMS];
     for (int i = 0; i < MECHANISMS; i++)
         plugs[i] = (sasl_server_plug_t){.mech_name = mechanisms[i].name, .security_flags = mechanisms[i].security,
-            .features = FEATURES, .glob_context = (void *)&mechanisms[i], .mech_new = server_new,
+            .features = SERVER_FEATURES, .glob_context = (void *)&mechanisms[i], .mech_new = server_new,
             .mech_step = server_step, .mech_dispose = dispose};
     *version = SASL_SERVER_PLUG_VERSION;
     *list = plugs;

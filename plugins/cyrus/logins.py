@@ -2,7 +2,7 @@
 """Logins of programs that use Cyrus SASL, each side by the plugin or by Cyrus SASL's own: `make plugin-logins`.
 
 Prints a table, a line for each program, pair of sides and mechanism: how many logins succeeded, and how many with a
-wrong password or an unknown name were refused. What is missing is told, and is no failure. Ends with 1 where a line is
+wrong password, an unknown name or an authorization identity that is not allowed were refused. What is missing is told, and is no failure. Ends with 1 where a line is
 not as it should be. All files are in a folder of its own, all ports are free ones of 127.0.0.1, and what it starts it
 ends.
 """
@@ -29,6 +29,9 @@ RECORDED = "pen of lead"
 # (with scram_saslprep a server of ours prepares it, and their client has it as it is; ours has no word for the option)
 PAST = {"past": "p\u00e4ssw\u00f6rd"}
 LOGGED_IN, REFUSED = "logged in", "refused"
+# Who logs in with which authorization identity. The sample server lets a user act for no other, slapd as it is set up.
+OWN_NAME, OTHER_NAME = ("user", "user"), ("user", "a,b=c")
+NOT_ALLOWED = ("a,b=c", "user")
 TIMES = 10
 SECONDS = 60
 
@@ -129,6 +132,7 @@ class Sample:
     """The sample programs of Cyrus SASL, which print what they send and read what comes; this carries it over."""
 
     name = "sasl-sample-client and -server"
+    acting, not_acting = (OWN_NAME,), (OTHER_NAME, NOT_ALLOWED)
 
     def __init__(self, sides):
         self.sides, self.has_records = sides, sides.has_theirs
@@ -168,10 +172,10 @@ class Sample:
                     return line[3:].strip()
         return None
 
-    def login(self, side, server, name, password):
+    def login(self, side, server, name, password, identity=""):
         server_side, mechanism = server
         client = [program("sasl-sample-client"), "-m", mechanism, "-s", "sample", "-n", "localhost", "-a", name]
-        client += ["-u", ""]
+        client += ["-u", identity]
         serving = [program("sasl-sample-server"), "-s", "sample"]
         heard = [], []
         with self.talker(serving, server_side) as (s, from_server), self.talker(client, side) as (c, from_client):
@@ -200,6 +204,7 @@ class Proton:
     """Qpid Proton over AMQP 1.0: a server and a client of its module for Python, and a message."""
 
     name = "Qpid Proton (AMQP 1.0)"
+    acting, not_acting = (), ()
 
     def __init__(self, sides):
         self.sides, self.has_records = sides, sides.has_theirs
@@ -251,9 +256,10 @@ class Proton:
 
 
 class OpenLdap:
-    """slapd and ldapwhoami, over users of slapd's own."""
+    """slapd and ldapwhoami, over users of slapd's own, one of whom may act for the other."""
 
     name = "OpenLDAP"
+    acting, not_acting = (OWN_NAME, OTHER_NAME), (NOT_ALLOWED,)
 
     def __init__(self, sides):
         self.sides, self.has_records = sides, False
@@ -264,20 +270,25 @@ class OpenLdap:
             "include /etc/ldap/schema/core.schema\ninclude /etc/ldap/schema/cosine.schema\n"
             "modulepath /usr/lib/ldap\nmoduleload back_mdb\n"
             f"pidfile {sides.at}/slapd.pid\nsasl-host localhost\nsasl-secprops none\n"
-            "authz-regexp uid=([^,]*),cn=[^,]*,cn=auth uid=$1,dc=example\n"
+            "authz-regexp uid=([^,]*),cn=[^,]*,cn=auth uid=$1,dc=example\nauthz-policy to\n"
             f'database mdb\nsuffix "dc=example"\ndirectory {data}\n'
         )
         entries = ["dn: dc=example\nobjectClass: dcObject\nobjectClass: organization\ndc: example\no: example\n"]
         for name, password in USERS.items():
             word = base64.b64encode(password.encode()).decode()
-            spelled = name.replace(",", "\\2C").replace("=", "\\3D")
+            right = f"authzTo: dn.exact:{self.entry(OTHER_NAME[1])}\n" if name == OTHER_NAME[0] else ""
             entries.append(
-                f"dn: uid={spelled},dc=example\nobjectClass: account\nobjectClass: simpleSecurityObject\n"
-                f"uid: {name}\nuserPassword:: {word}\n"
+                f"dn: {self.entry(name)}\nobjectClass: account\nobjectClass: simpleSecurityObject\n"
+                f"uid: {name}\nuserPassword:: {word}\n{right}"
             )
         done = run([program("slapadd"), "-f", str(self.file)], dict(os.environ), "\n".join(entries))
         if done.returncode != 0:
             raise OSError(f"slapadd: {done.stderr}")
+
+    @staticmethod
+    def entry(name):
+        """The distinguished name of a user's entry."""
+        return "uid={},dc=example".format(name.replace(",", "\\2C").replace("=", "\\3D"))
 
     @staticmethod
     def missing(_):
@@ -296,15 +307,16 @@ class OpenLdap:
                 time.sleep(0.05)
             yield port, mechanism
 
-    def login(self, side, server, name, password):
+    def login(self, side, server, name, password, identity=""):
         port, mechanism = server
         words = [program("ldapwhoami"), "-H", f"ldap://127.0.0.1:{port}", "-Q", "-Y", mechanism, "-U", name]
+        words += ["-X", f"u:{identity}"] if identity else []
         done = run([*words, "-w", password], self.sides.env(side))
-        spelled = name.replace(",", "\\2C").replace("=", "\\3D")
-        if done.returncode == 0 and done.stdout.lower() == f"dn:uid={spelled},dc=example\n".lower():
+        if done.returncode == 0 and done.stdout.lower() == f"dn:{self.entry(identity or name)}\n".lower():
             return LOGGED_IN
-        # (LDAP_INVALID_CREDENTIALS, and LDAP_OTHER, which slapd answers to a name that it does not have)
-        return REFUSED if done.returncode in (49, 80) else told(done)
+        # (LDAP_INVALID_CREDENTIALS, and LDAP_OTHER, which slapd answers to a name that it does not have; for an identity
+        # that is not allowed LDAP_INSUFFICIENT_ACCESS)
+        return REFUSED if done.returncode in ((50,) if identity else (49, 80)) else told(done)
 
 
 def cell(one, client, server, mechanism):
@@ -315,11 +327,17 @@ def cell(one, client, server, mechanism):
     if one.has_records:
         users[recorded(mechanism)] = RECORDED
         strangers.append((recorded(mechanism), "pencil"))
+    tried = [(user, LOGGED_IN) for user in users.items() for _ in range(TIMES)]
+    tried += [(user, REFUSED) for user in strangers]
+    # (a client of ours names no identity)
+    if client == "theirs":
+        for acting, due, times in ((one.acting, LOGGED_IN, TIMES), (one.not_acting, REFUSED, 1)):
+            tried += [((name, USERS[name], identity), due) for name, identity in acting for _ in range(times)]
     with one.server(server, mechanism) as serving:
-        for tried, due in (([user for user in users.items() for _ in range(TIMES)], LOGGED_IN), (strangers, REFUSED)):
-            hows = [one.login(client, serving, name, password) for name, password in tried]
-            others += [how for how in hows if how != due]
-            counts.append((hows.count(due), len(hows)))
+        hows = [(one.login(client, serving, *words), due) for words, due in tried]
+    others += [how for how, due in hows if how != due]
+    for wanted in (LOGGED_IN, REFUSED):
+        counts.append((hows.count((wanted, wanted)), [due for _, due in hows].count(wanted)))
     return *counts, others
 
 

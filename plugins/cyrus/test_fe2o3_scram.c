@@ -16,11 +16,19 @@
 #define CALL(function) (int (*)(void))(void (*)(void))(function)
 
 static const struct login *now;
-static int ours_client, ours_server, differences, told, exchanges;
+static int ours_client, ours_server, differences, told, exchanges, policy_calls;
 static const char *mechanism;
 static enum side refuse_memory;
 
-/* The users of the server, in a plugin of properties that is part of this program. */
+/* The name that a user has at the server, without the spaces around it. */
+static int is_name(const char *name, const char *text, size_t len)
+{
+    name += strspn(name, " ");
+    return strcspn(name, " ") == len && memcmp(name, text, len) == 0;
+}
+
+/* The users of the server, in a plugin of properties that is part of this program. The property "identity" is of the one
+ * whom the client acts for. */
 static int fetch(void *context, sasl_server_params_t *params, unsigned flags, const char *name, unsigned len)
 {
     const struct user *user = NULL;
@@ -29,9 +37,14 @@ static int fetch(void *context, sasl_server_params_t *params, unsigned flags, co
     for (size_t i = 0; i < sizeof users / sizeof users[0]; i++)
         if (strlen(users[i].name) == len && memcmp(users[i].name, name, len) == 0)
             user = &users[i];
-    if (!user || flags & SASL_AUXPROP_AUTHZID)
-        return user ? SASL_OK : SASL_NOUSER;
+    if (!user)
+        return SASL_NOUSER;
     for (const struct propval *wanted = params->utils->prop_get(properties); wanted->name; wanted++) {
+        if (flags & SASL_AUXPROP_AUTHZID) {
+            if (strcmp(wanted->name, "identity") == 0 && !wanted->values)
+                params->utils->prop_set(properties, wanted->name, user->name, -1);
+            continue;
+        }
         if (strcmp(wanted->name, SASL_AUX_PASSWORD) == 0 && user->password)
             params->utils->prop_set(properties, wanted->name, user->password, -1);
         if (strcmp(wanted->name, "*authPassword") == 0 && user->records[0]) {
@@ -133,6 +146,20 @@ static int get_password(sasl_conn_t *conn, void *context, int id, sasl_secret_t 
     return SASL_OK;
 }
 
+/* The policy of a server that has one: whether the user may act for the identity. */
+static int may_act(sasl_conn_t *conn, void *context, const char *identity, unsigned identity_len, const char *name,
+    unsigned len, const char *realm, unsigned realm_len, struct propctx *properties)
+{
+    (void)conn;
+    (void)context;
+    (void)realm;
+    (void)realm_len;
+    (void)properties;
+    policy_calls++;
+    return now->flags & ALLOWS && is_name(now->user, identity, identity_len) && is_name(now->name, name, len) ? SASL_OK
+                                                                                                          : SASL_NOAUTHZ;
+}
+
 static sasl_callback_t client_calls[] = {{SASL_CB_GETPATH, CALL(get_path), NULL}, {SASL_CB_LOG, CALL(quiet), NULL},
     {SASL_CB_GETOPT, CALL(get_option), NULL}, {SASL_CB_USER, CALL(get_name), NULL},
     {SASL_CB_AUTHNAME, CALL(get_name), NULL}, {SASL_CB_PASS, CALL(get_password), NULL}, {SASL_CB_LIST_END, NULL, NULL}};
@@ -140,6 +167,8 @@ static sasl_callback_t prompting[] = {{SASL_CB_LOG, CALL(quiet), NULL}, {SASL_CB
     {SASL_CB_AUTHNAME, NULL, NULL}, {SASL_CB_PASS, NULL, NULL}, {SASL_CB_LIST_END, NULL, NULL}};
 static sasl_callback_t server_calls[] = {{SASL_CB_GETPATH, CALL(get_path), NULL}, {SASL_CB_LOG, CALL(quiet), NULL},
     {SASL_CB_GETOPT, CALL(get_option), NULL}, {SASL_CB_LIST_END, NULL, NULL}};
+static sasl_callback_t with_policy[] = {{SASL_CB_LOG, CALL(quiet), NULL}, {SASL_CB_GETOPT, CALL(get_option), NULL},
+    {SASL_CB_PROXY_POLICY, CALL(may_act), NULL}, {SASL_CB_LIST_END, NULL, NULL}};
 
 /* A message on its way, in a block of its own. Clients of libsasl2 may read a zero behind it, which ours does not. */
 struct message {
@@ -173,10 +202,10 @@ static void carry(struct message *message, int which, const char *text, unsigned
     message->len = len;
 }
 
-/* How a login went: the last code of each side, what was sent, and who it was. */
+/* How a login went: the last code of each side, what was sent, who it was, and for whom, also by the property. */
 struct run {
     int client, server, left;
-    char server_first[512], said[512], name[512];
+    char server_first[512], said[512], name[512], acts_for[512], property[512];
 };
 
 static int start_client(sasl_conn_t *conn, const char **out, unsigned *len, const char **chosen)
@@ -225,19 +254,30 @@ static void demand(sasl_conn_t *client, sasl_conn_t *server)
     }
 }
 
-/* Whether the properties that the server fetched still show a password. */
-static int password_left(sasl_conn_t *server)
+/* The value of a property that the server fetched, or an empty text. */
+static const char *property(sasl_conn_t *server, const char *name)
 {
-    static const char *names[] = {SASL_AUX_PASSWORD, NULL};
+    const char *names[] = {name, NULL};
     struct propval found[2] = {{NULL, NULL, 0, 0}};
-    return prop_getnames(sasl_auxprop_getctx(server), names, found) > 0 && found[0].values && found[0].values[0]
-        && found[0].values[0][0] != 0;
+    int is_there = prop_getnames(sasl_auxprop_getctx(server), names, found) > 0 && found[0].values && found[0].values[0];
+    return is_there ? found[0].values[0] : "";
+}
+
+/* Notes who logged in, and for whom. */
+static void note_names(sasl_conn_t *server, struct run *run)
+{
+    const void *authid = NULL, *who = NULL;
+    if (sasl_getprop(server, SASL_AUTHUSER, &authid) != SASL_OK || sasl_getprop(server, SASL_USERNAME, &who) != SASL_OK)
+        return;
+    snprintf(run->name, sizeof run->name, "%s", (const char *)authid);
+    snprintf(run->acts_for, sizeof run->acts_for, "%s", (const char *)who);
+    snprintf(run->property, sizeof run->property, "%s", property(server, "identity"));
 }
 
 static void converse(sasl_conn_t *client, sasl_conn_t *server, struct run *run)
 {
     struct message to_server = {NULL, 0}, to_client = {NULL, 0};
-    const char *out = NULL, *chosen = NULL, *who = NULL, *authid = NULL;
+    const char *out = NULL, *chosen = NULL, *last = NULL;
     unsigned len = 0;
     int turn = 1, late = (now->flags & LATE) != 0;
     run->server = SASL_CONTINUE;
@@ -245,7 +285,7 @@ static void converse(sasl_conn_t *client, sasl_conn_t *server, struct run *run)
     run->client = start_client(client, &out, &len, &chosen);
     refuse_memory = now->flags & NO_MEMORY && now->side == SERVER ? SERVER : NEITHER;
     if (run->client == SASL_CONTINUE && late) {
-        run->server = sasl_server_start(server, chosen, NULL, 0, &who, &len);
+        run->server = sasl_server_start(server, chosen, NULL, 0, &last, &len);
         if (run->server != SASL_CONTINUE || len != 0)
             run->server = SASL_FAIL;
         len = (unsigned)strlen(out);
@@ -264,14 +304,13 @@ static void converse(sasl_conn_t *client, sasl_conn_t *server, struct run *run)
         run->client = sasl_client_step(client, to_client.text, to_client.len, NULL, &out, &len);
         turn += 2;
         if (run->client == SASL_OK && run->server == SASL_CONTINUE && now->flags & SEPARATE)
-            run->server = sasl_server_step(server, out, len, &who, &len);
+            run->server = sasl_server_step(server, out, len, &last, &len);
     }
     free(to_server.text);
     free(to_client.text);
-    run->left = password_left(server);
-    if (run->server == SASL_OK && sasl_getprop(server, SASL_USERNAME, (const void **)&who) == SASL_OK
-        && sasl_getprop(server, SASL_AUTHUSER, (const void **)&authid) == SASL_OK && strcmp(who, authid) == 0)
-        snprintf(run->name, sizeof run->name, "%s", who);
+    run->left = *property(server, SASL_AUX_PASSWORD) != 0;
+    if (run->server == SASL_OK)
+        note_names(server, run);
 }
 
 /* A login from its first message. Behind a refusal of ours that side answers no more. */
@@ -280,13 +319,17 @@ static int log_in(struct run *run)
     sasl_conn_t *client = NULL, *server = NULL;
     unsigned flags = (now->flags & SEPARATE ? 0 : SASL_SUCCESS_DATA) | (now->flags & HTTP ? SASL_NEED_HTTP : 0)
         | (now->flags & PROXY ? SASL_NEED_PROXY : 0), len;
+    static const char *wanted[] = {"identity", NULL};
     const char *out;
     int ended = 1;
     exchanges++;
     memset(run, 0, sizeof *run);
+    policy_calls = 0;
     const sasl_callback_t *calls = now->flags & PROMPTS ? prompting : client_calls;
+    const sasl_callback_t *of_server = now->flags & (ALLOWS | FORBIDS) ? with_policy : server_calls;
     if (sasl_client_new("test", "localhost", NULL, NULL, calls, flags, &client) != SASL_OK
-        || sasl_server_new("test", "localhost", NULL, NULL, NULL, server_calls, flags, &server) != SASL_OK)
+        || sasl_server_new("test", "localhost", NULL, NULL, NULL, of_server, flags, &server) != SASL_OK
+        || sasl_auxprop_request(server, wanted) != SASL_OK)
         return 0;
     demand(client, server);
     converse(client, server, run);
@@ -297,7 +340,7 @@ static int log_in(struct run *run)
         ended = !ours_client || sasl_client_step(client, "v=", 2, NULL, &out, &len) == SASL_FAIL;
     } else if (run->server != SASL_OK && run->server != SASL_CONTINUE) {
         snprintf(run->said, sizeof run->said, "%s", sasl_errdetail(server));
-        ended = !ours_server || run->server == SASL_BADBINDING
+        ended = !ours_server || run->server == SASL_BADBINDING || run->server == SASL_NOMECH
             || sasl_server_step(server, "n,,n=user,r=abc", 15, &out, &len) == SASL_BADPROT;
     }
     sasl_dispose(&client);
@@ -311,21 +354,23 @@ static void is_so(int so, const char *what, const struct run *run)
     if (so)
         return;
     differences++;
-    printf("DIFFERS: %s, %s: client %d, server %d, \"%s\", %s\n", mechanism, what, run->client, run->server, run->name,
-        run->said);
+    printf("DIFFERS: %s, %s: client %d, server %d, \"%s\" for \"%s\" and \"%s\", %d calls of the policy, %s\n", mechanism,
+        what, run->client, run->server, run->name, run->acts_for, run->property, policy_calls, run->said);
 }
 
 /* Whether a login went as it should. */
 static int as_said(const struct login *login, const struct run *run)
 {
     int ours = login->side == CLIENT ? ours_client : ours_server, due = ours ? login->ours : login->theirs;
-    const char *name = login->name + strspn(login->name, " ");
-    size_t len = strcspn(name, " ");
+    const char *acts_for = login->user ? login->user : login->name;
     if (login->side == NEITHER || due == SASL_OK)
-        return run->client == SASL_OK && run->server == SASL_OK && strlen(run->name) == len
-            && memcmp(run->name, name, len) == 0;
+        return run->client == SASL_OK && run->server == SASL_OK && is_name(login->name, run->name, strlen(run->name))
+            && is_name(acts_for, run->acts_for, strlen(run->acts_for)) && strcmp(run->property, run->acts_for) == 0
+            && policy_calls == ((login->flags & ALLOWS) != 0);
+    /* (the policy comes after the proof) */
     return (login->side == CLIENT ? run->client : run->server) == due
-        && (!ours || !login->says || strstr(run->said, login->says));
+        && (!ours || !login->says || strstr(run->said, login->says))
+        && (!ours || policy_calls == (login->side == SERVER && due == SASL_NOAUTHZ));
 }
 
 static int to_be_tried(const struct login *login)
@@ -407,7 +452,7 @@ int main(int count, char **words)
                 continue;
             is_so(log_in(&run), "a refused exchange goes on", &run);
             is_so(as_said(now, &run), now->what, &run);
-            is_so(!run.left, "the server's password is left", &run);
+            is_so(!run.left || !ours_server, "the server's password is left", &run);
             is_so(!now->count || !ours_server || strstr(run.server_first, now->count), "the server's count", &run);
         }
         salts();

@@ -1,6 +1,8 @@
 //! What the two programs share: base64, users' lines, and how a login is told.
 
-use fe2o3_sasl_proved::{generate_nonce, Channel, ChannelKind, ScramAuthenticator, ScramCredentialProvider, ScramRecord, ScramVersion};
+use fe2o3_sasl_proved::{
+    generate_nonce, Channel, ChannelKind, ScramAuthenticator, ScramCredentialProvider, ScramRecord, ScramVersion,
+};
 use fe2o3_sasl_proved::{PasswordServer, StoredPassword, UserRecords};
 use std::io::BufRead;
 use std::sync::Arc;
@@ -61,10 +63,11 @@ pub fn version_of(mechanism: &str) -> Option<ScramVersion> {
         .find(|version| version.mechanism() == mechanism)
 }
 
-/// The users of a file, and their records of one version.
+/// The users of a file, their records of one version, and the identities that each of them may act for.
 pub struct Users {
     version: ScramVersion,
     records: Vec<(String, ScramRecord)>,
+    identities: Vec<String>,
 }
 
 impl Users {
@@ -78,7 +81,12 @@ impl Users {
                 records.push((name.replace("=2C", ",").replace("=3D", "="), record));
             }
         }
-        Ok(Users { version, records })
+        Ok(Users { version, records, identities: Vec::new() })
+    }
+
+    /// The users, each of whom may act for these identities.
+    pub fn acting_for(self, identities: &[&str]) -> Self {
+        Users { identities: identities.iter().map(|name| name.to_string()).collect(), ..self }
     }
 
     /// A server of connections over these users, which answers unknown users as known ones.
@@ -106,6 +114,10 @@ impl ScramCredentialProvider for Users {
     fn get_stored_password<'a>(&'a self, username: &str) -> Option<StoredPassword<'a>> {
         let (_, record) = self.records.iter().find(|(name, _)| name == username)?;
         Some(record.as_stored_password())
+    }
+
+    fn identities(&self, _username: &str) -> Vec<String> {
+        self.identities.clone()
     }
 }
 

@@ -114,9 +114,15 @@ fn run_client(words: &[&str], options: &[&str]) -> Result<i32, Failure> {
     Ok(told("logged in by keys", &again))
 }
 
-/// Lets the client log in that sent this first message, and returns its name.
+/// The identities of words, for:IDENTITY; an empty one adds none.
+fn identities<'a>(options: &[&'a str]) -> Vec<&'a str> {
+    options.iter().filter_map(|word| word.strip_prefix("for:")).filter(|name| !name.is_empty()).collect()
+}
+
+/// Lets the client log in that sent this first message, and returns its name, and the identity that it acts for.
 fn serve_scram(lines: &mut Lines, first: &[u8], users: Users, options: &[&str]) -> Result<String, Failure> {
-    let mut server = users.authenticator();
+    let accepts = options.iter().any(|word| word.starts_with("for:"));
+    let mut server = users.acting_for(&identities(options)).authenticator().accept_authzid(accepts);
     if options.contains(&"unbound") {
         server = server.accept_cbind_flag_y();
     }
@@ -128,7 +134,11 @@ fn serve_scram(lines: &mut Lines, first: &[u8], users: Users, options: &[&str]) 
     let last = lines.message()?;
     let answer = server.compute_server_final_message(&last)?.ok_or("no such user")?;
     lines.say(&answer)?;
-    server.authenticated_user().ok_or_else(|| "no name".into())
+    let name = server.authenticated_user().ok_or("no name")?;
+    Ok(match server.acts_for() {
+        Some(identity) => format!("{name} for {identity}"),
+        None => name,
+    })
 }
 
 /// Tests a message of PLAIN, and returns the name of its user.
@@ -233,8 +243,11 @@ fn run_verify(words: &[&str], options: &[&str]) -> Result<i32, Failure> {
 fn main() -> Result<(), Failure> {
     let words: Vec<String> = std::env::args().skip(1).collect();
     let words: Vec<&str> = words.iter().map(String::as_str).collect();
-    let is_option =
-        |word: &&str| ["prepared", "again", "unbound", "saslprep"].contains(word) || channel_of(word).is_some();
+    let is_option = |word: &&str| {
+        ["prepared", "again", "unbound", "saslprep"].contains(word)
+            || word.starts_with("for:")
+            || channel_of(word).is_some()
+    };
     let count = words.len() - words.iter().rev().take_while(|word| is_option(word)).count();
     let (words, options) = words.split_at(count);
     let status = match (words.first().copied(), words.len()) {
