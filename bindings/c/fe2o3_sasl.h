@@ -456,7 +456,7 @@ enum fe2o3_status {
     /* A size inside the frame exceeds 32 bits. */
     FE2O3_FRAME_TOO_LARGE = 76,
     /* The client cannot answer this frame, the server does not offer this mechanism, or the login names an identity to
-     * act for and its mechanism is ANONYMOUS. */
+     * act for and its mechanism is ANONYMOUS or EXTERNAL. */
     FE2O3_NOT_IMPLEMENTED = 77,
     /* The server rejected the login: the credentials are wrong. */
     FE2O3_REFUSED_AUTH = 81,
@@ -744,8 +744,8 @@ struct fe2o3_login {
      *   that binds a channel.
      * - PLAIN sends it as the first part of its message (RFC 4616, section 2), by `fe2o3_sasl_client_receive` and
      *   `fe2o3_sasl_client_step`. A client that names one tests its words like a strict one.
-     * - ANONYMOUS names no identity: with one these calls return FE2O3_NOT_IMPLEMENTED.
-     * - EXTERNAL does not send it: FE2O3_EXTERNAL_AS sends `username` as the identity. */
+     * - ANONYMOUS and EXTERNAL do not send it: with one these calls return FE2O3_NOT_IMPLEMENTED. FE2O3_EXTERNAL_AS sends
+     *   `username` as the identity. */
     const uint8_t *acts_for;
     size_t acts_for_len;
     /* The password. */

@@ -206,7 +206,7 @@ pub const NO_SASL_FRAME: u32 = 75;
 pub const FRAME_TOO_LARGE: u32 = 76;
 
 /// The client cannot answer this frame, the server does not offer this mechanism, or the login names an identity to act
-/// for and its mechanism is ANONYMOUS.
+/// for and its mechanism is ANONYMOUS or EXTERNAL.
 pub const NOT_IMPLEMENTED: u32 = 77;
 
 /// The server rejected the login: the credentials are wrong.
@@ -588,8 +588,8 @@ pub struct Login {
     ///   that binds a channel.
     /// - PLAIN sends it as the first part of its message (RFC 4616, section 2), by `fe2o3_sasl_client_receive` and
     ///   `fe2o3_sasl_client_step`. A client that names one tests its words like a strict one.
-    /// - ANONYMOUS names no identity: with one these calls return NOT_IMPLEMENTED.
-    /// - EXTERNAL does not send it: EXTERNAL_AS sends `username` as the identity.
+    /// - ANONYMOUS and EXTERNAL do not send it: with one these calls return NOT_IMPLEMENTED. EXTERNAL_AS sends
+    ///   `username` as the identity.
     pub acts_for: *const u8,
     pub acts_for_len: usize,
     /// The password.

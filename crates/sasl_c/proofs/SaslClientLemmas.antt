@@ -27,7 +27,7 @@ use Rattle.sasl_c.specs.declared.status.Status.TheVariants as statuses
 use Rattle.sasl_c.specs.Client.{CanBeNamed, IsNoLogin, IsReached, IsState, WritesClient, fresh_client_struct, is_set, started_struct}
 use Rattle.sasl_c.specs.Plain.{word_tests}
 use Rattle.sasl_c.specs.Connection.{Keeps, KeepsNoPartOf, accepts_extended, expected_number, side_tests, connection_struct}
-use Rattle.sasl_c.specs.SaslClient.{ClientTakes, ProfileIsReached, HasNoHostname, CanSendMessage, CanSendWords, HasNoClientWords, IsClient, IsDueIn, IsPlainOf, message_number, message_tests, IsHostname, IsNoClient, IsNoProfile, IsProfile, client_word_tests, is_strict_plain, ReadsClient, ReceivesAsClient, WritesProfile, WritesSide}
+use Rattle.sasl_c.specs.SaslClient.{ClientTakes, ProfileIsReached, HasNoHostname, NamesNoIdentity, CanSendWords, HasNoClientWords, IsClient, IsDueIn, IsPlainOf, message_number, message_tests, IsHostname, IsNoClient, IsNoProfile, IsProfile, client_word_tests, is_strict_plain, ReadsClient, ReceivesAsClient, WritesProfile, WritesSide}
 use Rattle.sasl_c.proofs.StatusLemmas.{carried}
 use Rattle.fe2o3_sasl_core.specs.declared.sasl_profile.error.ProfileError.TheVariants.{OutOfMemory}
 
@@ -283,17 +283,22 @@ unfolding IsNoProfile
 no_plain login status is wrong = inr (inl (is, wrong))
 
 pub no_anonymous : (login : Login) (status : Status) → login.mechanism ≡ 2 → status ≡ statuses.NotImplemented
-    → login.login.acts_for.now ≢ [] → IsNoProfile login status
+    → ¬ NamesNoIdentity login.login → IsNoProfile login status
 unfolding IsNoProfile
-no_anonymous login status is same some = inr (inr (inl (is, inl (some, same))))
+no_anonymous login status is same some = inr (inr (inl (inl is, inl (some, same))))
+
+pub no_external : (login : Login) (status : Status) → login.mechanism ≡ 3 → status ≡ statuses.NotImplemented
+    → ¬ NamesNoIdentity login.login → IsNoProfile login status
+unfolding IsNoProfile
+no_external login status is same some = inr (inr (inl (inr is, inl (some, same))))
 
 pub no_trace : (login : Login) (status : Status) → login.mechanism ≡ 4
-    → IsFirst (message_tests AnonymousMessage login.login) status → IsNoProfile login status
+    → IsFirst (message_tests login.login) status → IsNoProfile login status
 unfolding IsNoProfile
 no_trace login status is wrong = inr (inr (inr (inl (AnonymousMessage, is, wrong))))
 
 pub no_identity : (login : Login) (status : Status) → login.mechanism ≡ 5
-    → IsFirst (message_tests ExternalMessage login.login) status → IsNoProfile login status
+    → IsFirst (message_tests login.login) status → IsNoProfile login status
 unfolding IsNoProfile
 no_identity login status is wrong = inr (inr (inr (inl (ExternalMessage, is, wrong))))
 
@@ -301,12 +306,12 @@ pub no_mechanism : (login : Login) → 5 < login.mechanism → IsNoProfile login
 unfolding IsNoProfile
 no_mechanism login wide = inr (inr (inr (inr (wide, refl))))
 
-pub ruleset no_profiles = (no_scram, no_plain, no_anonymous, no_trace, no_identity, no_mechanism)
+pub ruleset no_profiles = (no_scram, no_plain, no_anonymous, no_external, no_trace, no_identity, no_mechanism)
 
 -- a profile of a single message, as the struct says whether its init was sent last
 pub message_begun : (login : Login) (scram : ScramStruct) (mechanism : MessageMechanism) (message : List ℕ)
     (begun after : Profile) → login.mechanism ≡ message_number mechanism → message ≡ login.login.username.now
-    → CanSendMessage mechanism login.login → begun ≡ MessageProfile mechanism message false → (scram.state ≡ 1 → after ≡ after_init begun (replicate 32 0))
+    → NamesNoIdentity login.login → begun ≡ MessageProfile mechanism message false → (scram.state ≡ 1 → after ≡ after_init begun (replicate 32 0))
     → (scram.state ≢ 1 → after ≡ begun) → IsProfile login scram after
 message_begun login scram mechanism message begun after number same can is sent not_sent = go (same_number_or scram.state 1)
   where

@@ -58,43 +58,42 @@ abbrev pub IsPlainOf : Words → List ℕ → List ℕ → List ℕ → Type 0
 IsPlainOf words identity user password = (identity ≡ words.acts_for.now) × (user ≡ words.username.now)
     × (password ≡ words.password.now) × CanBeNamed identity × CanSendWords (is_strict_plain words) user password
 
--- a login by ANONYMOUS names no identity, since none can be sent (RFC 4505)
-abbrev pub CanSendMessage : MessageMechanism → Words → Type 0
-CanSendMessage AnonymousMessage words = words.acts_for.now ≡ []
-CanSendMessage ExternalMessage words = Unit {0}
+-- a login by ANONYMOUS or EXTERNAL names no identity besides its message: ANONYMOUS has none (RFC 4505), and the message of
+-- EXTERNAL is the identity (RFC 4422, appendix A)
+abbrev pub NamesNoIdentity : Words → Type 0
+NamesNoIdentity words = words.acts_for.now ≡ []
 
 -- the profile of a login; that of SCRAM has the client of the struct (RFC 4616, RFC 4505, RFC 4422, RFC 5802)
 abbrev pub IsProfile : Login → ScramStruct → Profile → Type 0
 IsProfile login scram (ScramProfile side) = (login.mechanism ≡ 0) × IsSide login.login scram side
 IsProfile login scram (PlainProfile identity user password) =
     (login.mechanism ≡ 1) × IsPlainOf login.login identity user password
-IsProfile login scram AnonymousProfile = (login.mechanism ≡ 2) × (login.login.acts_for.now ≡ [])
-IsProfile login scram ExternalProfile = login.mechanism ≡ 3
+IsProfile login scram AnonymousProfile = (login.mechanism ≡ 2) × NamesNoIdentity login.login
+IsProfile login scram ExternalProfile = (login.mechanism ≡ 3) × NamesNoIdentity login.login
 IsProfile login scram (MessageProfile mechanism message is_due) = (login.mechanism ≡ message_number mechanism)
-    × (message ≡ login.login.username.now) × IsDueIn scram is_due × CanSendMessage mechanism login.login
+    × (message ≡ login.login.username.now) × IsDueIn scram is_due × NamesNoIdentity login.login
 
 -- why the words of a login give no PLAIN
 abbrev pub HasNoClientWords : Words → Status → Type 0
 HasNoClientWords words status =
     IsFirst (client_word_tests (is_strict_plain words) words.acts_for.now words.username.now words.password.now) status
 
--- the test of the identity of a login by ANONYMOUS
-abbrev pub anonymous_tests : Words → List (Status × Type 0)
-anonymous_tests words = (statuses.NotImplemented, words.acts_for.now ≢ []) ∷ []
+-- the test of a login by ANONYMOUS or EXTERNAL without a message
+abbrev pub none_tests : Words → List (Status × Type 0)
+none_tests words = (statuses.NotImplemented, ¬ NamesNoIdentity words) ∷ []
 
--- the tests of the words of a message, in their order
-abbrev pub message_tests : MessageMechanism → Words → List (Status × Type 0)
-message_tests AnonymousMessage words = (statuses.NotImplemented, words.acts_for.now ≢ [])
-    ∷ (statuses.NotUtf8, ¬ IsUtf8 words.username.now) ∷ []
-message_tests ExternalMessage words = (statuses.NotUtf8, ¬ IsUtf8 words.username.now) ∷ []
+-- the tests of one with a message, in their order
+abbrev pub message_tests : Words → List (Status × Type 0)
+message_tests words =
+    (statuses.NotImplemented, ¬ NamesNoIdentity words) ∷ (statuses.NotUtf8, ¬ IsUtf8 words.username.now) ∷ []
 
 -- why a login has no profile
 unfoldable pub IsNoProfile : Login → Status → Type 0
 IsNoProfile login status = ((login.mechanism ≡ 0) × IsNoLogin login.login status)
     ⊎ ((login.mechanism ≡ 1) × HasNoClientWords login.login status)
-    ⊎ ((login.mechanism ≡ 2) × IsFirst (anonymous_tests login.login) status)
+    ⊎ (((login.mechanism ≡ 2) ⊎ (login.mechanism ≡ 3)) × IsFirst (none_tests login.login) status)
     ⊎ ((mechanism : MessageMechanism) × (login.mechanism ≡ message_number mechanism)
-    × IsFirst (message_tests mechanism login.login) status)
+    × IsFirst (message_tests login.login) status)
     ⊎ ((5 < login.mechanism) × (status ≡ statuses.NoSuchMechanism))
 
 -- the structs are those of this side
@@ -138,10 +137,10 @@ abbrev pub ProfileIsReached : Login → Profile → Type 0
 ProfileIsReached login (ScramProfile side) = (login.mechanism ≡ 0) × ClientIsReached login.login side
 ProfileIsReached login (PlainProfile identity user password) =
     (login.mechanism ≡ 1) × IsPlainOf login.login identity user password
-ProfileIsReached login AnonymousProfile = (login.mechanism ≡ 2) × (login.login.acts_for.now ≡ [])
-ProfileIsReached login ExternalProfile = login.mechanism ≡ 3
+ProfileIsReached login AnonymousProfile = (login.mechanism ≡ 2) × NamesNoIdentity login.login
+ProfileIsReached login ExternalProfile = (login.mechanism ≡ 3) × NamesNoIdentity login.login
 ProfileIsReached login (MessageProfile mechanism message is_due) = (login.mechanism ≡ message_number mechanism)
-    × (message ≡ login.login.username.now) × CanSendMessage mechanism login.login
+    × (message ≡ login.login.username.now) × NamesNoIdentity login.login
 
 -- the header with which a client begins
 abbrev pub OpensConnection : Result (List ℕ) Status → Type 0

@@ -53,8 +53,8 @@ pub struct Login<'a> {
     ///   that binds a channel.
     /// - PLAIN sends it as the first part of its message (RFC 4616, section 2), by `fe2o3_sasl_client_receive` and
     ///   `fe2o3_sasl_client_step`. A client that names one tests its words like a strict one.
-    /// - ANONYMOUS names no identity: with one these calls return FE2O3_NOT_IMPLEMENTED.
-    /// - EXTERNAL does not send it: FE2O3_EXTERNAL_AS sends `username` as the identity.
+    /// - ANONYMOUS and EXTERNAL do not send it: with one these calls return FE2O3_NOT_IMPLEMENTED. FE2O3_EXTERNAL_AS sends
+    ///   `username` as the identity.
     pub acts_for: &'a [u8],
 
     /// The password.

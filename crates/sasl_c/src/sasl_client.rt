@@ -2,7 +2,7 @@
 
 ghost use Rattle.std.specs.Prelude.{◌≡◌, ◌≢◌, ◌≤◌, ◌^◌, List, [], ℕ, Ok, Err, length, replicate, option_map, string_bytes, IfOk, IfErr, IfSome, OnErr, MatchOption, MatchResult};
 ghost use Rattle.fe2o3_sasl_core.specs.PlainWords.{ArePlainWords};
-ghost use Rattle.fe2o3_sasl_core.specs.Profiles.{AnonymousMessage, ExternalMessage, PlainProfile, after_init};
+ghost use Rattle.fe2o3_sasl_core.specs.Profiles.{PlainProfile, after_init};
 ghost use Rattle.fe2o3_sasl_core.specs.SaslProfile.{profile_of};
 ghost use Rattle.fe2o3_sasl_negotiation.specs.declared.progress.Progress.TheVariants.{InProgress};
 ghost use Rattle.fe2o3_sasl_negotiation.specs.Sides.{client_side, extended_in, hostname_in};
@@ -10,7 +10,7 @@ ghost use Rattle.fe2o3_scram.specs.Readings.{IsFirst};
 ghost use Rattle.sasl_c.specs.Connection.{accepts_extended};
 ghost use Rattle.sasl_c.specs.Client.{CanBeNamed, is_set};
 ghost use Rattle.sasl_c.specs.Plain.{word_tests};
-ghost use Rattle.sasl_c.specs.SaslClient.{CanSendWords, ClientTakes, client_word_tests, message_tests, ProfileIsReached, HasNoClientWords, IsClient, IsHostname, IsNoClient, HasNoHostname, IsNoProfile, IsPlainOf, ReadsClient, IsProfile, OpensConnection, ReceivesAsClient, WritesProfile, WritesSide};
+ghost use Rattle.sasl_c.specs.SaslClient.{CanSendWords, ClientTakes, client_word_tests, message_tests, NamesNoIdentity, ProfileIsReached, HasNoClientWords, IsClient, IsHostname, IsNoClient, HasNoHostname, IsNoProfile, IsPlainOf, ReadsClient, IsProfile, OpensConnection, ReceivesAsClient, WritesProfile, WritesSide};
 ghost use Rattle.sasl_c.specs.declared.sasl_client.SaslClient.{SaslClient as Structs};
 ghost use Rattle.sasl_c.specs.declared.sasl_client.SaslLogin.{SaslLogin as LoginStruct};
 ghost use Rattle.sasl_c.specs.Status.{AnswersText, AsksText, AsksWhere, Fills, FillsWithin};
@@ -159,10 +159,10 @@ impl SaslLogin<'_> {
         }
     }
 
-    /// Tests that the login names no identity, which ANONYMOUS does not send. The error is `NotImplemented`.
+    /// Tests that the login names no identity, which ANONYMOUS and EXTERNAL do not send. The error is `NotImplemented`.
     fn names_none(&self) -> Result<(), Status>
-        ensures { MatchResult result (λ _. self.now.login.acts_for.now ≡ [])
-            (λ status. (status ≡ StatusNotImplemented) × (self.now.login.acts_for.now ≢ [])) }
+        ensures { MatchResult result (λ _. NamesNoIdentity self.now.login)
+            (λ status. (status ≡ StatusNotImplemented) × ¬ NamesNoIdentity self.now.login) }
     {
         match self.login.acts_for {
             [] => Ok(()),
@@ -170,26 +170,16 @@ impl SaslLogin<'_> {
         }
     }
 
-    /// Returns the user name, which is the message of ANONYMOUS and EXTERNAL. The errors are `NotUtf8` and
-    /// `OutOfMemory`.
+    /// Returns the user name, which is the message of ANONYMOUS and EXTERNAL, if the login names no identity. The errors
+    /// are `NotImplemented`, `NotUtf8` and `OutOfMemory`.
     fn message(&self, alloc: Global) -> Result<String, Status>
         ensures ok { IfOk result (λ message. string_bytes message ≡ self.now.login.username.now) }
+        ensures none { IfOk result (λ _. NamesNoIdentity self.now.login) }
         ensures err { IfErr result (λ status. status ≢ StatusOutOfMemory
-            → IsFirst (message_tests ExternalMessage self.now.login) status) }
-    {
-        Ok(text(self.login.username)?.to_string(alloc)?)
-    }
-
-    /// Returns the user name, which is the message of ANONYMOUS, if the login names no identity. The errors are
-    /// `NotImplemented`, `NotUtf8` and `OutOfMemory`.
-    fn trace(&self, alloc: Global) -> Result<String, Status>
-        ensures ok { IfOk result (λ trace. string_bytes trace ≡ self.now.login.username.now) }
-        ensures none { IfOk result (λ _. self.now.login.acts_for.now ≡ []) }
-        ensures err { IfErr result (λ status. status ≢ StatusOutOfMemory
-            → IsFirst (message_tests AnonymousMessage self.now.login) status) }
+            → IsFirst (message_tests self.now.login) status) }
     {
         self.names_none()?;
-        self.message(alloc)
+        Ok(text(self.login.username)?.to_string(alloc)?)
     }
 
     /// Returns the profile. That of SCRAM has the client of the struct.
@@ -208,8 +198,11 @@ impl SaslLogin<'_> {
                 Ok(()) => Ok(SaslProfile::Anonymous),
                 Err(status) => Err(status),
             },
-            3 => Ok(SaslProfile::External),
-            4 => match self.trace(alloc) {
+            3 => match self.names_none() {
+                Ok(()) => Ok(SaslProfile::External),
+                Err(status) => Err(status),
+            },
+            4 => match self.message(alloc) {
                 Ok(trace) => after_init(alloc, SaslProfile::anonymous_as(trace), scram),
                 Err(status) => Err(status),
             },

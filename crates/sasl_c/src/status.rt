@@ -104,7 +104,7 @@ pub enum Status {
     FrameTooLarge,
 
     /// The client cannot answer this frame, the server does not offer this mechanism, or the login names an identity to
-    /// act for and its mechanism is ANONYMOUS.
+    /// act for and its mechanism is ANONYMOUS or EXTERNAL.
     NotImplemented,
 
     /// The server rejected the login: the credentials are wrong.
