@@ -664,7 +664,8 @@ static void identities_of_others(void)
     } rows[] = {
         {FE2O3_ANONYMOUS, FE2O3_NOT_IMPLEMENTED},
         {FE2O3_ANONYMOUS_AS, FE2O3_NOT_IMPLEMENTED},
-        {FE2O3_EXTERNAL, FE2O3_OK},
+        {FE2O3_EXTERNAL, FE2O3_NOT_IMPLEMENTED},
+        {FE2O3_EXTERNAL_AS, FE2O3_NOT_IMPLEMENTED},
     };
     struct fe2o3_scram_record record = record_by(FE2O3_SHA_256);
     struct fe2o3_sasl_server_config config = config_of(&record);
