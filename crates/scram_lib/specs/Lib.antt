@@ -1,4 +1,5 @@
 pub mod Acting
 pub mod Done
+pub mod LoginLine
 pub mod Names
 pub mod private

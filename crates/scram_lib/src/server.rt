@@ -7,11 +7,13 @@ ghost use Rattle.scram_lib.specs.Acting.{AreRightsOf, names_both};
 ghost use Rattle.scram_lib.specs.Done.{AreRulesOf, AreUsers, HasAccepted, IsMessage, IsSameServer, IsServerAsked, HasServed, provider_of};
 
 mod acting;
+mod login_line;
 pub mod mock;
 mod names;
 pub mod source;
 
 use crate::done::Done;
+use crate::server::login_line::login_line;
 use crate::server::mock::Shape;
 use crate::server::source::Source;
 use crate::{frames, nonces};
@@ -23,7 +25,6 @@ use fe2o3_scram::{
 use mock_secret::secret_of;
 use scram_base_lib::channel::server_rules;
 use scram_base_lib::database::Database;
-use scram_base_lib::shown::shown;
 use scram_base_lib::stop::Stop;
 use scram_base_lib::wire;
 use std::alloc::Global;
@@ -98,8 +99,7 @@ where
     over_lines(rt, service, rules, secret, &source, input, output, errors)
 }
 
-/// Prints on the errors who has logged in, and the identity that the user acts for, if the client named one. The user is
-/// printed by the name of its record. So is an identity that is the name which the client sent.
+/// Prints on the errors who has logged in, and the identity that the user acts for, if the client named one.
 pub(crate) fn tell_user<E: Write>(
     alloc: Global,
     service: &Service<'_, '_>,
@@ -114,35 +114,6 @@ pub(crate) fn tell_user<E: Write>(
     if let Ok(line) = login_line(alloc, service, sent, acts_for) {
         let _ = errors.write_all(&line);
     }
-}
-
-/// Returns the line that says who has logged in, and the identity that the user acts for, if any.
-fn login_line(
-    alloc: Global,
-    service: &Service<'_, '_>,
-    sent: &str,
-    acts_for: Option<&str>,
-) -> Result<Vec<u8>, Stop> {
-    let user = shown_user(alloc, service, sent)?;
-    let mut line = b"scram: ".to_vec(alloc)?;
-    line.extend_from_slice(&user)?;
-    line.extend_from_slice(b" logged in")?;
-    if let Some(identity) = acts_for {
-        line.extend_from_slice(b", acts for ")?;
-        if identity == sent {
-            line.extend_from_slice(&user)?;
-        } else {
-            line.extend_from_slice(&shown(alloc, identity.as_bytes())?)?;
-        }
-    }
-    line.push(b'\n')?;
-    Ok(line)
-}
-
-/// Returns the name of the record of the user who sent this name, as it is printed.
-fn shown_user(alloc: Global, service: &Service<'_, '_>, sent: &str) -> Result<Vec<u8>, Stop> {
-    let name = service.name_of(alloc, sent)?;
-    Ok(shown(alloc, name.as_deref().unwrap_or(sent).as_bytes())?)
 }
 
 impl Service<'_, '_> {
