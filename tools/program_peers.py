@@ -3,7 +3,8 @@
 
     tools/program_peers.py [PROGRAM]    the program defaults to crates/scram/out/scram
 
-Each login is played with the right password and with another. `gsasl` is left out if it is not installed.
+Each login is played with the right password and with another, and again for an identity that the user may act for and
+for one that it may not. `gsasl` is left out if it is not installed. As a server it accepts every identity.
 """
 import base64
 import os
@@ -19,6 +20,9 @@ TOP = Path(__file__).resolve().parent.parent
 PROGRAM = str(Path(sys.argv[1] if len(sys.argv) > 1 else TOP / "crates/scram/out/scram").resolve())
 MECHANISMS = ("SCRAM-SHA-1", "SCRAM-SHA-256", "SCRAM-SHA-512")
 USER, PASSWORD = "alice", "pencil"
+ALLOWED, OTHER = "b=o,b", "carol"
+ASKS_ALLOWED, ASKS_OTHER = ("--acts-for", ALLOWED), ("--acts-for", OTHER)
+RIGHT = ("--may-act", f"{USER}:{ALLOWED}")
 SECONDS = 20
 
 
@@ -76,22 +80,22 @@ def carry(client, server):
         tell(client, answer)
 
 
-def over_lines(mechanism, users, password):
+def over_lines(mechanism, users, password, asks=(), rights=()):
     """Both statuses of a login of the program with itself."""
-    client = start(PROGRAM, "client", mechanism, USER)
-    server = start(PROGRAM, "server", mechanism, users)
+    client = start(PROGRAM, "client", mechanism, USER, *asks)
+    server = start(PROGRAM, "server", mechanism, users, *rights)
     tell(client, password.encode() + b"\n")
     carry(client, server)
     return end(client), end(server)
 
 
-def over_bytes(mechanism, users, password):
+def over_bytes(mechanism, users, password, asks=(), rights=()):
     """Plays a login over the bytes of AMQP, by two pipes."""
     (from_client, to_server), (from_server, to_client) = os.pipe(), os.pipe()
     os.write(to_client, password.encode() + b"\n")
-    client = subprocess.Popen([PROGRAM, "client", mechanism, USER, "--frames"], stdin=from_server, stdout=to_server,
+    client = subprocess.Popen([PROGRAM, "client", mechanism, USER, "--frames", *asks], stdin=from_server, stdout=to_server,
                               stderr=subprocess.DEVNULL)
-    server = subprocess.Popen([PROGRAM, "server", mechanism, users, "--frames"], stdin=from_client, stdout=to_client,
+    server = subprocess.Popen([PROGRAM, "server", mechanism, users, "--frames", *rights], stdin=from_client, stdout=to_client,
                               stderr=subprocess.DEVNULL)
     for end_of_pipe in (from_client, to_server, from_server, to_client):
         os.close(end_of_pipe)
@@ -117,17 +121,31 @@ def joined(program, gsasl):
     return program.wait(timeout=SECONDS), gsasl.wait(timeout=SECONDS)
 
 
-def against_gsasl_server(mechanism, _users, password):
+def against_gsasl_server(mechanism, _users, password, asks=()):
     """Statuses of the program's client and of `gsasl` as server."""
-    client = start(PROGRAM, "client", mechanism, USER)
+    client = start(PROGRAM, "client", mechanism, USER, *asks)
     tell(client, password.encode() + b"\n")
     return joined(client, start("gsasl", "--server", "--quiet", "--no-cb", "-m", mechanism, "-p", PASSWORD))
 
 
-def against_gsasl_client(mechanism, users, password):
+def against_gsasl_client(mechanism, users, password, asks=(), rights=()):
     """Statuses of the program's server and of `gsasl` as client."""
-    server = start(PROGRAM, "server", mechanism, users)
-    return joined(server, start("gsasl", "--client", "--quiet", "--no-cb", "-m", mechanism, "-a", USER, "-p", password))
+    server = start(PROGRAM, "server", mechanism, users, *rights)
+    identity = [f"--authorization-id={name}" for name in asks[1:]]
+    return joined(server, start("gsasl", "--client", "--quiet", "--no-cb", "-m", mechanism, "-a", USER, "-p", password,
+                                *identity))
+
+
+def as_others(way, mechanism, users):
+    """Statuses of logins for an identity: with a right, and then without one, by a server that accepts none, and with
+    another password."""
+    if way == against_gsasl_server:
+        return way(mechanism, users, PASSWORD, ASKS_ALLOWED), [way(mechanism, users, "pencils", ASKS_ALLOWED)]
+    return way(mechanism, users, PASSWORD, ASKS_ALLOWED, RIGHT), [
+        way(mechanism, users, PASSWORD, ASKS_OTHER, RIGHT),
+        way(mechanism, users, PASSWORD, ASKS_ALLOWED),
+        way(mechanism, users, "pencils", ASKS_ALLOWED, RIGHT),
+    ]
 
 
 def main():
@@ -147,6 +165,10 @@ def main():
                 holds = right == (0, 0) and 0 not in other
                 wrong += not holds
                 print(f"{way.__name__} {mechanism}: {right} {other}{'' if holds else ' WRONG'}")
+                right, others = as_others(way, mechanism, users)
+                holds = right == (0, 0) and all(0 not in other for other in others)
+                wrong += not holds
+                print(f"{way.__name__} {mechanism} for an identity: {right} {others}{'' if holds else ' WRONG'}")
     sys.exit(1 if wrong else 0)
 
 

@@ -169,6 +169,7 @@ __all__ = [
     "external_verify",
     "library_version",
     "offers",
+    "plain_claimed_identity",
     "plain_claimed_user",
     "plain_message",
     "plain_verify",
@@ -1895,21 +1896,24 @@ class Channel:
 class _OwnLogin(_LoginStruct):
     """A login with its own copies of the password and the keys, which `wipe` reaches."""
 
-    _kept: tuple[bytes, ctypes.Array[ctypes.c_char], _ScramKeysStruct]
+    _kept: tuple[bytes, ctypes.Array[ctypes.c_char], _ScramKeysStruct, bytes]
 
-    def keep(self, username: bytes, password: ctypes.Array[ctypes.c_char], keys: _ScramKeysStruct) -> _OwnLogin:
+    def keep(
+        self, username: bytes, password: ctypes.Array[ctypes.c_char], keys: _ScramKeysStruct, acts_for: bytes
+    ) -> _OwnLogin:
         """Points to the texts and the keys, and keeps them alive."""
-        self._kept = username, password, keys
+        self._kept = username, password, keys, acts_for
         self.username, self.username_len = username, len(username)
+        self.acts_for, self.acts_for_len = acts_for, len(acts_for)
         self.password, self.password_len = ctypes.addressof(password), len(password) - 1
         self.keys = ctypes.pointer(keys)
         return self
 
     def copied(self) -> _OwnLogin:
         """Returns a copy that shares no secret with this login."""
-        username, password, keys = self._kept
+        username, password, keys, acts_for = self._kept
         copies = type(password).from_buffer_copy(password), _ScramKeysStruct.from_buffer_copy(keys)
-        return _OwnLogin.from_buffer_copy(self).keep(username, *copies)
+        return _OwnLogin.from_buffer_copy(self).keep(username, *copies, acts_for)
 
     def secrets(self) -> tuple[Any, ...]:
         return self, self._kept[1], self._kept[2]
@@ -1942,6 +1946,7 @@ class Client(_Guarded):
         channel: Optional[Channel] = None,
         plus_offered: bool = True,
         strict: bool = False,
+        acts_for: Optional[Text] = None,
     ) -> None:
         """A client that has sent nothing. It rejects an iteration count below the minimum, with which a server could
         guess the password sooner (RFC 7677 requires at least 4096), and one above the maximum, which costs time.
@@ -1956,7 +1961,13 @@ class Client(_Guarded):
 
         With `strict`, the client reads messages by the grammar of RFC 5802, section 7. The server's part of the nonce has
         to be printable and not empty, the iteration count without a sign or leading zeros, and what follows the count
-        or the signature an extension. A client that binds a channel tests the extensions in any case."""
+        or the signature an extension. A client that binds a channel tests the extensions in any case.
+
+        The client acts for the identity `acts_for` (RFC 4422, section 2), without escapes, or for itself if that is None
+        or empty. The server has to let the user act for it. The GS2 header is then `n,a=` with the identity, and the
+        client tests the extensions in any case. An identity of more than 256 bytes or with NUL raises `Refused` at the
+        first call, with TOO_LONG or PROHIBITED_CHARACTER. A `ClientConnection` or `ClientSteps` of the client acts for
+        the identity too."""
         if password is None and keys is None:
             raise ValueError("a login takes a password, keys, or both")
         name = _text(username)
@@ -1982,7 +1993,8 @@ class Client(_Guarded):
             self._login.channel_kind, self._login.channel_data_len = bound.kind, len(bound.data)
             self._login.channel_data = bound._array()
         text = _hidden("" if password is None else password)
-        self._login.keep(name, text, _ScramKeysStruct() if keys is None else keys._copied())
+        own_keys = _ScramKeysStruct() if keys is None else keys._copied()
+        self._login.keep(name, text, own_keys, _text("" if acts_for is None else acts_for))
         self._struct = _ScramClientStruct()
         self._lock = _Guard(self)
 
@@ -2010,6 +2022,7 @@ class Client(_Guarded):
         message = _bytes(server_first)
         with self._lock:
             more = 256 if self._login.channel_use == _ChannelUse.BOUND else 128
+            more += 4 * self._login.acts_for_len  # (escaped, and then in base64)
             return _written(
                 len(message) + more,
                 lambda *room: _library.fe2o3_scram_client_final(
@@ -2289,10 +2302,16 @@ class _ClientSide(_Login):
 
     @classmethod
     def _by(
-        cls: type[_Side], mechanism: int, username: Text, password: Text, hostname: Text, strict: bool = False
+        cls: type[_Side],
+        mechanism: int,
+        username: Text,
+        password: Text,
+        hostname: Text,
+        strict: bool = False,
+        acts_for: Optional[Text] = None,
     ) -> _Side:
         side = cls.__new__(cls)
-        with Client(SHA_256, username, password, strict=strict) as client:
+        with Client(SHA_256, username, password, strict=strict, acts_for=acts_for) as client:
             side._begin(cls._login_of(mechanism, client._login, hostname))
         return side
 
@@ -2308,12 +2327,14 @@ class _ClientSide(_Login):
         min_iterations: int = 4096,
         max_iterations: int = 1_000_000,
         signature_by_challenge: bool = False,
+        acts_for: Optional[Text] = None,
     ) -> _Side:
         """A login by the first of the allowed mechanisms that the server offers. Name them from the strongest to the
         weakest: SCRAM-SHA-512, SCRAM-SHA-256 and SCRAM-SHA-1 are the default, and EXTERNAL, PLAIN and ANONYMOUS are
         allowed only if you name them. PLAIN sends the password in clear, so allow it over TLS only. EXTERNAL asks for
         the user that the transport has authenticated. SCRAM and PLAIN take a password. The other arguments are those of
-        `Client`.
+        `Client`. By SCRAM, PLAIN and EXTERNAL the client acts for the identity `acts_for`. ANONYMOUS names no identity, so
+        with one it raises ValueError.
 
         An attacker can alter an offer, but the client never selects a mechanism that is not allowed here. If the server
         offers none of them, the client sends nothing more, and the login fails: `why` is a `MechanismUnavailable`."""
@@ -2328,7 +2349,12 @@ class _ClientSide(_Login):
             if name not in _SCRAM and name not in _OTHERS:
                 raise ValueError("a mechanism is none of " + ", ".join([*_SCRAM, *_OTHERS]))
             mechanism = _OTHERS.get(name, _Mechanism.SCRAM)
-            words = (username, password) if mechanism in (_Mechanism.SCRAM, _Mechanism.PLAIN) else ("", "")
+            if mechanism in (_Mechanism.SCRAM, _Mechanism.PLAIN):
+                words, options["acts_for"] = (username, password), acts_for
+            elif mechanism == _Mechanism.ANONYMOUS and acts_for:
+                raise ValueError("ANONYMOUS names no identity")
+            else:
+                words, options["acts_for"] = (acts_for or "", ""), None  # (EXTERNAL sends the name as its identity)
             with Client(_SCRAM.get(name, SHA_256), *words, **options) as client:
                 allowed.append(cls._login_of(mechanism, client._login, hostname))
         if not allowed:
@@ -2367,13 +2393,22 @@ class _ClientSide(_Login):
             self._refusal_data = view_frame(body).message
 
     @classmethod
-    def plain(cls: type[_Side], username: Text, password: Text, *, hostname: Text = "", strict: bool = False) -> _Side:
-        """A login by PLAIN (RFC 4616), which sends the password in clear.
+    def plain(
+        cls: type[_Side],
+        username: Text,
+        password: Text,
+        *,
+        hostname: Text = "",
+        strict: bool = False,
+        acts_for: Optional[Text] = None,
+    ) -> _Side:
+        """A login by PLAIN (RFC 4616), which sends the password in clear. The client acts for the identity `acts_for`
+        (RFC 4422, section 2), or for itself if that is None or empty.
 
-        With `strict`, the user name and the password have to be ones that a message can have (RFC 4616, section 2).
-        Otherwise the first call raises `Refused`, with NAMES_NO_USER or EMPTY_PASSWORD for an empty one, and with
-        PROHIBITED_CHARACTER for a zero byte."""
-        return cls._by(_Mechanism.PLAIN, username, password, hostname, strict)
+        With `strict` or an identity, the words have to be ones that a message can have (RFC 4616, section 2). Otherwise
+        the first call raises `Refused`, with NAMES_NO_USER or EMPTY_PASSWORD for an empty one, and with
+        PROHIBITED_CHARACTER for a zero byte. An identity of more than 256 bytes is TOO_LONG."""
+        return cls._by(_Mechanism.PLAIN, username, password, hostname, strict, acts_for)
 
     @classmethod
     def anonymous(cls: type[_Side], *, hostname: Text = "") -> _Side:
@@ -2520,7 +2555,7 @@ class _ServerSide(_Login):
         server accepts (`Channel`; RFC 5802, section 6). A client that supports no channel binding still logs in without
         `-PLUS`. `Offer.ACCEPT_CBIND_FLAG_Y` then has no effect.
 
-        With `identities_of` a client of SCRAM may name an identity to act for (RFC 5802, section 5.1). It returns the
+        With `identities_of` a client of SCRAM or PLAIN may name an identity to act for (RFC 4422, section 2). It returns the
         identities that a user may act for besides itself, perhaps none. A user without the right is rejected like one
         with a wrong password. After the login `acts_for` returns the identity. Such a server tests extensions like a
         strict one."""
@@ -2842,26 +2877,38 @@ class Server(_Guarded):
             return _identity_of(self._exchange[1])
 
 
-def plain_message(username: Text, password: Text) -> bytes:
-    """Returns the message by which a client logs in with PLAIN (RFC 4616, section 2). It has the password in clear, so
-    send it over TLS only. Prepare a non-ASCII password first (`saslprep`).
+def plain_message(username: Text, password: Text, *, acts_for: Optional[Text] = None) -> bytes:
+    """Returns the message by which a client logs in with PLAIN (RFC 4616, section 2), and acts for the identity
+    `acts_for`, or for itself if that is None or empty. The message has the password in clear, so send it over TLS only.
+    Prepare a non-ASCII password first (`saslprep`).
 
     Raises `Refused` with NOT_UTF8 if a word is not UTF-8, with NAMES_NO_USER if the user name is empty, with
-    EMPTY_PASSWORD if the password is, and with PROHIBITED_CHARACTER if a word contains a zero byte."""
-    name = _text(username)
+    EMPTY_PASSWORD if the password is, with PROHIBITED_CHARACTER if a word contains a zero byte, and with TOO_LONG if the
+    identity has more than 256 bytes."""
+    name, identity = _text(username), _text("" if acts_for is None else acts_for)
     with _passing(_hidden(password)) as given:
+        words = identity, len(identity), name, len(name), *given
         return _written(
-            len(name) + given[1] + 2, lambda *room: _library.fe2o3_plain_message(name, len(name), *given, *room)
+            len(identity) + len(name) + given[1] + 2, lambda *room: _library.fe2o3_plain_message(*words, *room)
         )
 
 
 def plain_claimed_user(message: Bytes) -> str:
     """Returns the user name that a message of PLAIN claims. Nobody is authenticated yet: use it only to look up the
     record for `plain_verify`. Raises `Refused` with NAMES_NO_USER for a message that `plain_verify` rejects whatever
-    the record is."""
+    its other arguments are."""
     given = _bytes(message)
     name = _written(len(given), lambda *room: _library.fe2o3_plain_claimed_user(given, len(given), *room))
     return name.decode("utf-8")
+
+
+def plain_claimed_identity(message: Bytes) -> Optional[str]:
+    """Returns the identity that a message of PLAIN asks to act for, or None if its user acts for itself. It is only
+    claimed, like the user's name: use it only to look up whether the user may act for it. The errors are those of
+    `plain_claimed_user`."""
+    given = _bytes(message)
+    name = _written(len(given), lambda *room: _library.fe2o3_plain_claimed_identity(given, len(given), *room))
+    return name.decode("utf-8") or None
 
 
 def plain_verify(
@@ -2870,6 +2917,7 @@ def plain_verify(
     *,
     passwords: int = PlainPasswords.TYPED,
     iterations: int = 4096,
+    identities: Optional[Iterable[str]] = None,
 ) -> bool:
     """Returns whether a message of PLAIN has the password of the user that it claims (`plain_claimed_user`), and so
     authenticates that user.
@@ -2877,8 +2925,14 @@ def plain_verify(
     The record is that of the claimed user. For an unknown user pass a `Record.mock`, or None: the password is then
     hashed with SHA-256 and this iteration count, and rejected. That takes as many HMAC values as the login of a known
     user whose record has this count. `passwords`, one of `PlainPasswords`, says which password is tested for the
-    received one: by default the typed one, of printable ASCII."""
-    given, rules = _bytes(message), (_number(passwords), _number(iterations))
+    received one: by default the typed one, of printable ASCII.
+
+    `identities` are those that the user may act for besides itself (RFC 4422, section 2). For a message that asks for
+    another one (`plain_claimed_identity`) the answer is False, as for a wrong password. None accepts the user's own name
+    only."""
+    allowed = _joined(() if identities is None else identities)
+    rules = _number(passwords), _number(iterations), identities is not None, allowed, len(allowed)
+    given = _bytes(message)
     known = _ScramRecordStruct() if record is None else record._copied()
     try:
         status = _library.fe2o3_plain_verify(known, 0 if record is None else 1, *rules, given, len(given))

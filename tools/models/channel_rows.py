@@ -95,14 +95,14 @@ class Keys:
 
 
 class Login:
-    """A login of the user: with this GS2 header, with this channel binding in the client's last message, and with these
-    extensions after the client's and the server's first message."""
+    """A login of the user: with this GS2 header, with this channel binding in the client's last message, with these
+    extensions after the client's and the server's first message, and with this escaped name."""
 
-    def __init__(self, header, bound, mechanism=SHA_256, client_more="", server_more=""):
+    def __init__(self, header, bound, mechanism=SHA_256, client_more="", server_more="", user=USER):
         keys = Keys(mechanism)
         self.keys = keys
         self.bound = bound
-        bare = f"n={USER},r={b64(CLIENT_NONCE)}{client_more}"
+        bare = f"n={user},r={b64(CLIENT_NONCE)}{client_more}"
         self.client_first = header + bare
         self.nonce = b64(CLIENT_NONCE) + b64(SERVER_NONCE)
         self.server_first = f"r={self.nonce},s={b64(SALT)},i={COUNT}{server_more}"
@@ -382,7 +382,7 @@ def explained():
     login = bound("tls-exporter")
     for header, name in (
         ("p=tls-other,,", "An unknown kind."),
-        ("p=tls-unique,a=alice,", "A client that acts for another."),
+        ("p=tls-unique,a=,", "An empty identity."),
     ):
         rows.append(row(name, "explain", ["< " + line(plain(header).client_first)],
             "> client-first: rejected: Cannot parse GS2-header", message_rejected(1), "= 3"))

@@ -3,9 +3,14 @@
 use crate::calls::{done, filled};
 use crate::channels::ClientChannel;
 use crate::keys::NO_KEYS;
-use crate::{generate_nonce, sys, CachedKeys, Channel, Password, ScramErrorKind, ScramVersion, ServerError};
+use crate::{
+    generate_nonce, sys, CachedKeys, Channel, IdentityError, Password, ScramErrorKind, ScramVersion, ServerError,
+};
 use std::fmt;
 use std::marker::PhantomData;
+
+/// The longest identity that a client can act for, in bytes.
+const MAX_IDENTITY_LEN: usize = 256;
 
 pub(crate) const INITIAL: sys::ScramClient =
     sys::ScramClient { state: 0, signature_len: 0, nonce: [0; 32], signature: [0; 64], keys: NO_KEYS };
@@ -14,6 +19,7 @@ pub(crate) const INITIAL: sys::ScramClient =
 #[derive(Clone)]
 pub(crate) struct Who {
     username: String,
+    acts_for: String,
     password: String,
     form: u32,
     keys: sys::ScramKeys,
@@ -44,6 +50,7 @@ impl Who {
         let (password, form) = (password.as_str().to_owned(), password.form());
         Self {
             username,
+            acts_for: String::new(),
             password,
             form,
             keys,
@@ -55,6 +62,11 @@ impl Who {
             strict: false,
             channel: ClientChannel::Absent,
         }
+    }
+
+    /// Returns this login, but for this identity.
+    pub(crate) fn acting_for(self, identity: String) -> Self {
+        Self { acts_for: identity, ..self }
     }
 
     /// Returns the name of the mechanism of SCRAM.
@@ -76,6 +88,8 @@ impl Who {
             max_iterations: self.max_iterations,
             username: self.username.as_ptr(),
             username_len: self.username.len(),
+            acts_for: self.acts_for.as_ptr(),
+            acts_for_len: self.acts_for.len(),
             password: self.password.as_ptr(),
             password_len: self.password.len(),
             keys: &self.keys,
@@ -193,6 +207,37 @@ impl ScramClient {
         self
     }
 
+    /// Makes the client act for this identity (RFC 4422, section 2), without escapes, or for itself if it is empty. The
+    /// server has to let the user act for it. The GS2 header is then `n,a=` with the identity, and the client tests
+    /// extensions like a strict one, so that nobody on the way can change the identity. Set it before the client-first
+    /// message. The errors are `TooLong`, for more than 256 bytes, and `ProhibitedCharacter`.
+    ///
+    /// ```
+    /// use fe2o3_sasl_proved::*;
+    ///
+    /// # fn main() -> Result<(), IdentityError> {
+    /// let mut client = ScramClient::new("alice", "pencil", ScramVersion::Sha256).acting_for("bob")?;
+    /// assert!(client.compute_client_first_message().starts_with(b"n,a=bob,n=alice,r="));
+    /// # Ok(())
+    /// # }
+    /// ```
+    pub fn acting_for(mut self, identity: impl Into<String>) -> Result<Self, IdentityError> {
+        let identity = identity.into();
+        if identity.len() > MAX_IDENTITY_LEN {
+            return Err(IdentityError::of(sys::TOO_LONG));
+        }
+        if identity.contains('\0') {
+            return Err(IdentityError::of(sys::PROHIBITED_CHARACTER));
+        }
+        self.who = self.who.acting_for(identity);
+        Ok(self)
+    }
+
+    /// Returns the identity that the client acts for, or `None` if it acts for itself.
+    pub fn acts_for(&self) -> Option<&str> {
+        Some(self.who.acts_for.as_str()).filter(|name| !name.is_empty())
+    }
+
     /// With `is_strict`, makes the client read messages by the grammar of RFC 5802, section 7. The server's part of the
     /// nonce has to be printable and not empty, and the iteration count without a sign or leading zeros. What follows the
     /// count or the signature has to be an extension, or [`ScramErrorKind::MisplacedAttribute`] is returned. A client that
@@ -221,7 +266,8 @@ impl ScramClient {
         let lent = self.who.lend();
         let state = &mut self.state;
         // (each `,` and each `=` of a name is written with three bytes)
-        let room = self.who.username.len().saturating_mul(3).saturating_add(96);
+        let names = self.who.username.len().saturating_add(self.who.acts_for.len());
+        let room = names.saturating_mul(3).saturating_add(100);
         filled(room, |out, len| {
             // SAFETY: the login's pointers are to what `lent` borrows; the state, the room and its length are borrowed
             // for writing, and so overlap nothing.
@@ -235,7 +281,9 @@ impl ScramClient {
         let lent = self.who.lend();
         let state = &mut self.state;
         let more = if self.who.channel.is_bound() { 256 } else { 128 };
-        filled(server_first.len() + more, |out, len| {
+        // (the identity is escaped, and then in base64)
+        let identity = self.who.acts_for.len().saturating_mul(4);
+        filled((server_first.len() + more).saturating_add(identity), |out, len| {
             // SAFETY: the login's pointers are to what `lent` borrows, and the message is a slice that lives through
             // the call; the state, the room and its length are borrowed for writing, and so overlap nothing.
             unsafe {

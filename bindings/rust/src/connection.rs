@@ -4,7 +4,7 @@ use crate::calls::filled;
 use crate::client::{Who, INITIAL};
 use crate::frames::view_frame;
 use crate::keys::NO_KEYS;
-use crate::messages::plain_message;
+use crate::messages::{plain_message, plain_message_as};
 use crate::peeks::{end_of_input, foreign_header, nonce_for, peek_body, wants_nonce};
 use crate::policies::{refusal_data, Choice};
 use crate::{sys, CachedKeys, ClientPolicy, ConnectionError, Frame, PlainError, ScramClient, ScramVersion};
@@ -37,6 +37,18 @@ pub enum SaslProfile {
         password: String,
     },
 
+    /// PLAIN that asks to act for an identity, made by [`Self::acting_for`].
+    PlainAs {
+        /// The identity.
+        identity: String,
+
+        /// The user name.
+        username: String,
+
+        /// The password.
+        password: String,
+    },
+
     /// EXTERNAL (RFC 4422, appendix A): as the user that the transport has authenticated.
     External,
 
@@ -48,7 +60,7 @@ pub enum SaslProfile {
     /// for the user that the transport has authenticated. The client also answers one empty challenge by it.
     ExternalAs(String),
 
-    /// SCRAM. The client's own exchange is not affected.
+    /// SCRAM, for the identity of [`ScramClient::acting_for`] if it has one. The client's own exchange is not affected.
     Scram(ScramClient),
 }
 
@@ -58,6 +70,31 @@ impl SaslProfile {
     pub fn plain_checked(username: &str, password: &str) -> Result<Self, PlainError> {
         plain_message(username, password)?;
         Ok(SaslProfile::Plain { username: username.to_owned(), password: password.to_owned() })
+    }
+
+    /// Returns this profile, but it asks to act for this identity (RFC 4422, section 2), or for its user if the identity is
+    /// empty. The server has to let the user act for it.
+    ///
+    /// - SCRAM names it in the GS2 header, like [`ScramClient::acting_for`].
+    /// - PLAIN names it in the first part of its message (RFC 4616, section 2).
+    /// - EXTERNAL sends it as its initial response, like [`Self::ExternalAs`].
+    ///
+    /// Returns `None`
+    /// - for ANONYMOUS, which names no identity;
+    /// - if the identity has a zero byte (RFC 4422, section 3.4.1), or for SCRAM and PLAIN more than 256 bytes;
+    /// - for PLAIN if the user name or the password is empty or has a zero byte, as no message may have it.
+    pub fn acting_for(self, identity: impl Into<String>) -> Option<Self> {
+        let identity = identity.into();
+        match self {
+            SaslProfile::Anonymous | SaslProfile::AnonymousAs(_) => None,
+            SaslProfile::Plain { username, password } | SaslProfile::PlainAs { username, password, .. } => {
+                plain_message_as(&identity, &username, &password).ok()?;
+                Some(SaslProfile::PlainAs { identity, username, password })
+            }
+            SaslProfile::External | SaslProfile::ExternalAs(_) if identity.contains('\0') => None,
+            SaslProfile::External | SaslProfile::ExternalAs(_) => Some(SaslProfile::ExternalAs(identity)),
+            SaslProfile::Scram(client) => client.acting_for(identity).ok().map(SaslProfile::Scram),
+        }
     }
 }
 
@@ -74,6 +111,11 @@ impl fmt::Debug for SaslProfile {
             SaslProfile::Plain { username, .. } => {
                 f.debug_struct("Plain").field("username", username).finish_non_exhaustive()
             }
+            SaslProfile::PlainAs { identity, username, .. } => f
+                .debug_struct("PlainAs")
+                .field("identity", identity)
+                .field("username", username)
+                .finish_non_exhaustive(),
             SaslProfile::External => f.write_str("External"),
             SaslProfile::AnonymousAs(trace) => f.debug_tuple("AnonymousAs").field(trace).finish(),
             SaslProfile::ExternalAs(identity) => f.debug_tuple("ExternalAs").field(identity).finish(),
@@ -105,6 +147,9 @@ impl Login {
         let (mechanism, who) = match profile {
             SaslProfile::Scram(client) => (sys::SCRAM, client.who),
             SaslProfile::Plain { username, password } => (sys::PLAIN, words(username, &password)),
+            SaslProfile::PlainAs { identity, username, password } => {
+                (sys::PLAIN, words(username, &password).acting_for(identity))
+            }
             SaslProfile::Anonymous => (sys::ANONYMOUS, words(String::new(), "")),
             SaslProfile::External => (sys::EXTERNAL, words(String::new(), "")),
             SaslProfile::AnonymousAs(trace) => (sys::ANONYMOUS_AS, words(trace, "")),

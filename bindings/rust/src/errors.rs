@@ -191,10 +191,22 @@ kinds! {
         NamesNoUser = NAMES_NO_USER,
         /// The password is empty.
         EmptyPassword = EMPTY_PASSWORD,
-        /// The user name or the password contains a zero byte.
+        /// The user name, the password or the identity contains a zero byte.
         ProhibitedCharacter = PROHIBITED_CHARACTER,
+        /// The identity has more than 256 bytes.
+        TooLong = TOO_LONG,
         /// An allocation failed.
         OutOfMemory = OUT_OF_MEMORY,
+    }
+}
+
+kinds! {
+    /// Why no client can act for an identity.
+    IdentityError {
+        /// The identity has more than 256 bytes.
+        TooLong = TOO_LONG,
+        /// The identity contains a zero byte (RFC 4422, section 3.4.1).
+        ProhibitedCharacter = PROHIBITED_CHARACTER,
     }
 }
 

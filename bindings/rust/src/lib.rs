@@ -59,12 +59,15 @@ pub use channels::{Channel, ChannelDataLength, ChannelKind};
 pub use client::ScramClient;
 pub use connection::{ClientNegotiation, Progress, Received, SaslProfile};
 pub use errors::{
-    ConnectionError, PlainError, RecordError, RecordTextError, SaslprepError, ScramErrorKind, ServerScramErrorKind,
-    Status,
+    ConnectionError, IdentityError, PlainError, RecordError, RecordTextError, SaslprepError, ScramErrorKind,
+    ServerScramErrorKind, Status,
 };
 pub use frames::{offers, view_frame, Frame};
 pub use keys::CachedKeys;
-pub use messages::{external_verify, plain_claimed_user, plain_message, plain_verify};
+pub use messages::{
+    external_verify, plain_claimed_identity, plain_claimed_user, plain_message, plain_message_as, plain_verify,
+    plain_verify_with_rights,
+};
 pub use password::Password;
 pub use policies::ClientPolicy;
 pub use preparation::{saslprep, Unassigned};

@@ -1,6 +1,7 @@
 //! PLAIN and EXTERNAL over messages, for protocols other than AMQP (RFC 4616; RFC 4422, appendix A).
 
 use crate::calls::{done, filled};
+use crate::server::joined;
 use crate::{sys, PlainError, PlainPasswords, ScramRecord, ServerScramErrorKind};
 
 /// The form of passwords as a number, for the library.
@@ -29,11 +30,33 @@ fn number_of(passwords: PlainPasswords) -> u32 {
 /// # }
 /// ```
 pub fn plain_message(username: &str, password: &str) -> Result<Vec<u8>, PlainError> {
-    filled(username.len() + password.len() + 2, |out, len| {
+    plain_message_as("", username, password)
+}
+
+/// Returns the message by which a client that acts for this identity logs in with PLAIN (RFC 4616, section 2), like
+/// [`plain_message`]. The empty identity means the user itself. An identity of more than 256 bytes is an error too.
+///
+/// ```
+/// use fe2o3_sasl_proved::*;
+///
+/// # fn main() -> Result<(), Box<dyn std::error::Error>> {
+/// let record = ScramRecord::from_password(ScramVersion::Sha256, "pencil", &generate_nonce()[..16], 4096)?;
+/// let message = plain_message_as("bob", "alice", "pencil")?; // the client
+/// assert_eq!(plain_claimed_user(&message).as_deref(), Some("alice")); // the server
+/// assert_eq!(plain_claimed_identity(&message).as_deref(), Some("bob"));
+/// let may_act_for = ["bob".to_owned()]; // those that alice may act for
+/// plain_verify_with_rights(Some(&record), PlainPasswords::Typed, 4096, &may_act_for, &message)?;
+/// # Ok(())
+/// # }
+/// ```
+pub fn plain_message_as(identity: &str, username: &str, password: &str) -> Result<Vec<u8>, PlainError> {
+    filled(identity.len() + username.len() + password.len() + 2, |out, len| {
         // SAFETY: the words are slices that live through the call; the room and its length are borrowed for writing,
         // and so overlap nothing.
         unsafe {
             sys::fe2o3_plain_message(
+                identity.as_ptr(),
+                identity.len(),
                 username.as_ptr(),
                 username.len(),
                 password.as_ptr(),
@@ -48,7 +71,7 @@ pub fn plain_message(username: &str, password: &str) -> Result<Vec<u8>, PlainErr
 }
 
 /// Returns the user name that a message of PLAIN claims. Nobody is authenticated yet: use it only to look up the record for
-/// [`plain_verify`]. Returns `None` for a message that `plain_verify` rejects whatever the record is.
+/// [`plain_verify`]. Returns `None` for a message that `plain_verify` rejects whatever its other arguments are.
 pub fn plain_claimed_user(message: &[u8]) -> Option<String> {
     let name = filled(message.len(), |out, len| {
         // SAFETY: the message is a slice that lives through the call; the room and its length are borrowed for writing,
@@ -58,8 +81,22 @@ pub fn plain_claimed_user(message: &[u8]) -> Option<String> {
     Some(String::from_utf8(name.ok()?).expect("a user name is UTF-8"))
 }
 
+/// Returns the identity that a message of PLAIN asks to act for. It is only claimed, like the user's name: use it only to
+/// look up whether the user may act for it. Returns `None` if the user acts for itself, and for a message that
+/// [`plain_verify`] rejects whatever its other arguments are.
+pub fn plain_claimed_identity(message: &[u8]) -> Option<String> {
+    let name = filled(message.len(), |out, len| {
+        // SAFETY: the message is a slice that lives through the call; the room and its length are borrowed for writing,
+        // and so overlap nothing.
+        unsafe { sys::fe2o3_plain_claimed_identity(message.as_ptr(), message.len(), out.as_mut_ptr(), out.len(), len) }
+    });
+    let name = String::from_utf8(name.ok()?).expect("an identity is UTF-8");
+    Some(name).filter(|name| !name.is_empty())
+}
+
 /// Tests a message of PLAIN against the record of the user that it claims ([`plain_claimed_user`]). Only `Ok` means that
-/// this user is authenticated. The error is `AuthenticationFailed`, or `OutOfMemory`.
+/// this user is authenticated. The error is `AuthenticationFailed`, or `OutOfMemory`. A message that asks to act for
+/// another identity than its user is rejected ([`plain_verify_with_rights`]).
 ///
 /// For an unknown user pass a [`ScramRecord::mock`], or `None`: the password is then hashed with SHA-256 and this iteration
 /// count, and rejected. That takes as many HMAC values as the login of a known user whose record has this count.
@@ -69,17 +106,45 @@ pub fn plain_verify(
     iterations: u32,
     message: &[u8],
 ) -> Result<(), ServerScramErrorKind> {
+    verified(record, passwords, iterations, None, message)
+}
+
+/// Tests a message of PLAIN like [`plain_verify`], but the user may also act for these identities besides itself (RFC 4422,
+/// section 2). They are without NUL. Only `Ok` means that the user is authenticated and may act for the identity that the
+/// message asks for ([`plain_claimed_identity`]). The error for another identity is that of a wrong password.
+pub fn plain_verify_with_rights(
+    record: Option<&ScramRecord>,
+    passwords: PlainPasswords,
+    iterations: u32,
+    identities: &[String],
+    message: &[u8],
+) -> Result<(), ServerScramErrorKind> {
+    verified(record, passwords, iterations, Some(identities), message)
+}
+
+/// Tests a message of PLAIN, whose user may act for these identities. With `None` the server accepts no other identity.
+fn verified(
+    record: Option<&ScramRecord>,
+    passwords: PlainPasswords,
+    iterations: u32,
+    identities: Option<&[String]>,
+    message: &[u8],
+) -> Result<(), ServerScramErrorKind> {
+    let allowed = joined(identities.unwrap_or_default());
     let records: &[sys::ScramRecord] = match record {
         Some(record) => std::slice::from_ref(&record.0),
         None => &[],
     };
-    // SAFETY: the records and the message are slices that live through the call.
+    // SAFETY: the records, the identities and the message are slices that live through the call.
     let status = unsafe {
         sys::fe2o3_plain_verify(
             records.as_ptr(),
             records.len(),
             number_of(passwords),
             iterations,
+            identities.is_some().into(),
+            allowed.as_ptr(),
+            allowed.len(),
             message.as_ptr(),
             message.len(),
         )

@@ -23,8 +23,8 @@ pub trait UserRecords {
     /// the first record of that hash, and PLAIN the first record.
     fn records(&self, username: &str) -> Vec<ScramRecord>;
 
-    /// Returns the identities that a user may act for besides itself, in SCRAM (RFC 4422, section 2), without escapes and
-    /// without NUL. It is called only for a server that accepts identities ([`PasswordServer::accept_authzid`]).
+    /// Returns the identities that a user may act for besides itself, in SCRAM and PLAIN (RFC 4422, section 2), without
+    /// escapes and without NUL. It is called only for a server that accepts identities ([`PasswordServer::accept_authzid`]).
     fn identities(&self, _username: &str) -> Vec<String> {
         Vec::new()
     }
@@ -186,7 +186,7 @@ impl<R: UserRecords + Clone> PasswordServer<R> {
         self.with(sys::ACCEPT_CBIND_FLAG_Y, true)
     }
 
-    /// With `accept`, makes SCRAM accept a client that names an identity to act for: see
+    /// With `accept`, makes SCRAM and PLAIN accept a client that names an identity to act for: see
     /// [`ScramAuthenticator::accept_authzid`](crate::ScramAuthenticator::accept_authzid). The store says who may act for
     /// whom ([`UserRecords::identities`]).
     pub fn accept_authzid(self, accept: bool) -> Self {

@@ -219,8 +219,8 @@ fn plain_over_messages() {
         assert_eq!(plain_verify(Some(&known), PlainPasswords::Prepared, 4096, &spelled), failed);
         assert_eq!(plain_verify(Some(&known), PlainPasswords::Saslprep, 4096, &spelled), Ok(()));
     }
-    for none in [&b""[..], b"\0user\0", b"\0\0pencil", b"root\0user\0pencil", b"\0user\0pen\0cil", b"\0\xff\0pencil"] {
-        assert_eq!(plain_claimed_user(none), None);
+    for none in [&b""[..], b"\0user\0", b"\0\0pencil", b"root\0\0pencil", b"\0user\0pen\0cil", b"\0\xff\0pencil"] {
+        assert_eq!((plain_claimed_user(none), plain_claimed_identity(none)), (None, None));
     }
     assert_eq!(plain_message("", "\0"), Err(PlainError::NamesNoUser));
     assert_eq!(plain_message("us\0er", "pencil"), Err(PlainError::ProhibitedCharacter));

@@ -16,6 +16,7 @@ status_of (stops.NoIterations least most) = 2
 status_of stops.WrongChannelKind = 2
 status_of stops.WrongChannelData = 2
 status_of stops.WrongChannelLength = 2
+status_of stops.WrongRight = 2
 status_of stops.NoSuchRecord = 3
 status_of stops.OtherPassword = 3
 status_of (stops.Client kind) = 3

@@ -68,23 +68,24 @@ pub fn client_channel(
     }
 }
 
-/// Returns what a server accepts: only clients that bind the channel of the argument, if there is one. The errors are
-/// those of [`parse_channel`].
+/// Returns what a server accepts: only clients that bind the channel of the argument, if there is one, and an identity to
+/// act for only with `accept_authzid`. The errors are those of [`parse_channel`].
 pub fn server_rules(
     alloc: Global,
     word: Option<&str>,
     accept_y: bool,
     strict: bool,
+    accept_authzid: bool,
 ) -> Result<ServerRules, Stop>
     ensures channels { IfOk result (λ rules. BindsOnly (option_map (λ word. word.now) word.entry) rules.channels) }
     ensures options { IfOk result (λ rules. (rules.accept_cbind_flag_y ≡ accept_y) × (rules.strict ≡ strict)
-        × (rules.accept_authzid ≡ false)) }
+        × (rules.accept_authzid ≡ accept_authzid)) }
 {
     Ok(ServerRules {
         accept_cbind_flag_y: accept_y,
         strict,
         channels: channels(alloc, word)?,
-        accept_authzid: false,
+        accept_authzid,
     })
 }
 

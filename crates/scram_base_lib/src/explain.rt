@@ -4,7 +4,9 @@ ghost use Rattle.std.specs.Prelude.{◌<◌, IfSome};
 
 mod channels;
 
-use crate::explain::channels::{channel_said, header_said, read_final, rules_for};
+use crate::explain::channels::{
+    channel_said, header_said, identity_said, names_identity, read_final, rules_for,
+};
 use crate::stop::Stop;
 use crate::{input, wire};
 use fe2o3_sasl_wire::{Error, FrameView, SymbolsView, view_frame};
@@ -25,6 +27,9 @@ pub struct Heard {
 
     /// The GS2 header of the client-first message.
     header: ChannelBindingFlag,
+
+    /// The identity that the client-first message names, not escaped, if any.
+    acts_for: Option<String>,
 
     /// The user of the client-first message, not escaped.
     pub user: String,
@@ -121,6 +126,7 @@ impl Heard {
             side,
             any_header: false,
             header: ChannelBindingFlag::NotSupported,
+            acts_for: None,
             user: String::new(alloc),
             client_nonce: String::new(alloc),
             nonce: String::new(alloc),
@@ -241,14 +247,20 @@ impl Heard {
 
     /// Returns what a client-first message says.
     fn client_first(&mut self, alloc: Global, message: &[u8]) -> Told {
-        let rules = rules_for(self.any_header, message.starts_with(b"p="));
+        let rules = rules_for(
+            self.any_header,
+            message.starts_with(b"p="),
+            names_identity(message),
+        );
         let first = ClientFirst::parse_with_rules(alloc, message, rules)?;
         self.header = first.header;
+        self.acts_for = copied(alloc, first.acts_for.as_deref())?;
         self.user = first.username.as_str().to_string(alloc)?;
         self.client_nonce = first.client_nonce.to_string(alloc)?;
         let (user, nonce) = (first.username.as_str(), first.client_nonce);
         let channel = header_said(alloc, first.header)?;
-        Ok(format!(in alloc; "{channel}user {user:?}, nonce {nonce:?}")?)
+        let identity = identity_said(alloc, self.acts_for.as_deref())?;
+        Ok(format!(in alloc; "{channel}user {user:?}, {identity}nonce {nonce:?}")?)
     }
 
     /// Returns what a server-first message says.
@@ -264,10 +276,19 @@ impl Heard {
     /// Returns what a client-final message says.
     fn client_final(&self, alloc: Global, message: &[u8]) -> Told {
         let nonce = self.nonce.as_bytes();
-        let (channel, last) = read_final(alloc, self.header, nonce, message)?;
-        let channel = channel_said(alloc, &channel)?;
+        let acts_for = self.acts_for.as_deref();
+        let (channel, last) = read_final(alloc, self.header, acts_for, nonce, message)?;
+        let channel = channel_said(alloc, &channel, acts_for)?;
         let proof = hex::encode(alloc, last.proof.as_slice())?;
         Ok(format!(in alloc; "{channel}proof {proof}, same nonce")?)
+    }
+}
+
+/// Copies a text, if there is one.
+fn copied(alloc: Global, text: Option<&str>) -> Result<Option<String>, AllocError> {
+    match text {
+        Some(text) => Ok(Some(text.to_string(alloc)?)),
+        None => Ok(None),
     }
 }
 

@@ -146,6 +146,10 @@ pub enum Stop {
     #[error("The data of the channel are empty or longer than 64 bytes.")]
     WrongChannelLength,
 
+    /// A right to act for an identity is not `USER:IDENTITY`.
+    #[error("The value of --may-act is not a user, a colon and an identity.")]
+    WrongRight,
+
     /// A line of the input is not in hexadecimal.
     #[error("A line of standard input is not in hexadecimal.")]
     NotHex,
@@ -350,7 +354,8 @@ impl Stop {
             | Stop::NoIterations(_, _)
             | Stop::WrongChannelKind
             | Stop::WrongChannelData
-            | Stop::WrongChannelLength => 2,
+            | Stop::WrongChannelLength
+            | Stop::WrongRight => 2,
             Stop::NoSuchRecord
             | Stop::OtherPassword
             | Stop::Client(_)

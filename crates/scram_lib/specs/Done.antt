@@ -1,5 +1,5 @@
 -- What a command of the program `scram` has done if it ends with status 0.
-use Rattle.std.specs.Prelude.{ℕ, List, [], ◌∷◌, Bool, true, false, Option, Some, None, Result, Ok, ◌≡◌, ◌≤◌, box_value, option_map, string_bytes}
+use Rattle.std.specs.Prelude.{ℕ, List, [], ◌∷◌, Bool, true, false, Option, Some, Result, Ok, ◌≡◌, ◌≤◌, box_value, map, option_map, string_bytes}
 use Rattle.std.specs.List.{Contains}
 use Rattle.fe2o3_scram.specs.declared.hmac.ScramVersion.{ScramVersion}
 use Rattle.fe2o3_scram.specs.declared.hmac.ScramVersion.TheVariants.{Sha1, Sha256, Sha512}
@@ -8,7 +8,7 @@ use Rattle.fe2o3_scram.specs.declared.scram_server.ScramAuthenticator.{ScramAuth
 use Rattle.fe2o3_scram.specs.Credentials.{Provider, Store}
 use Rattle.fe2o3_scram.specs.Mixed.{MultiRecords, provider_for}
 use Rattle.fe2o3_scram.specs.MultiRecordLines.{SpellsMixed}
-use Rattle.fe2o3_scram.specs.ScramClient.{AnswersIn, ClientInitial, ClientSide, VerifiesIn, started}
+use Rattle.fe2o3_scram.specs.ScramClient.{AnswersIn, ClientInitial, ClientSide, VerifiesIn, identity_named, started}
 use Rattle.fe2o3_scram.specs.ScramServer.{ChallengesFrom, ConcludesFrom, Initial, ServerState, mock_in, provider_in, rights_in, rules_in, served_by, state_in}
 use Rattle.fe2o3_sasl_negotiation.specs.Sides.{ServerConnectionSide, client_side, server_side}
 use Rattle.fe2o3_sasl_negotiation.specs.declared.progress.Progress.TheVariants.{Authenticated, InProgress}
@@ -22,15 +22,16 @@ use Rattle.scram_lib.specs.declared.task.Command.TheVariants as commands
 use Rattle.scram_lib.specs.declared.task.Task.{Task}
 use Rattle.scram_lib.specs.declared.task.Task.TheVariants as tasks
 use Rattle.scram_lib.specs.declared.users.Named.{Named}
+use Rattle.scram_lib.specs.Acting.{AreRightsOf}
 use Rattle.scram_lib.specs.private.Passwords.{TellsEach}
 
--- a client that these arguments ask for, which has sent nothing: of the user, by the mechanism, with the channel, strict
--- if that is asked for, and with these bounds of the iteration count
+-- a client that these arguments ask for, which has sent nothing: of the user, who acts for the identity, by the mechanism,
+-- with the channel, strict if that is asked for, and with these bounds of the iteration count
 pub record IsClientAsked (login : Login) (client : ClientSide) : Type 0 where
   pub user : client.user ≡ login.user.now
   pub version : client.version ≡ login.version
   pub channel : SaysChannel (option_map (λ word. word.now) login.channel) login.channel_not_offered client.channel
-  pub own : client.acts_for ≡ None
+  pub identity : client.acts_for ≡ identity_named (option_map (λ name. name.now) login.acts_for)
   pub strict : client.strict ≡ login.strict
   pub least : client.limits.min_iterations ≡ login.min_iterations
   pub most : client.limits.max_iterations ≡ login.max_iterations
@@ -57,12 +58,17 @@ pub record AreRulesOf (service : Service) (rules : ServerRules) : Type 0 where
   pub channels : BindsOnly (option_map (λ word. word.now) service.channel) rules.channels
   pub accept_y : rules.accept_cbind_flag_y ≡ service.accept_y
   pub strict : rules.strict ≡ service.strict
+  pub accept_authzid : rules.accept_authzid ≡ service.accept_authzid
 
--- a server that these arguments ask for, which has sent nothing: of the users of some lines
+-- a server that these arguments ask for, which has sent nothing: of the users of some lines, and with the rights of the
+-- user of some name
 pub record IsServerAsked (service : Service) (server : ScramAuthenticator Store) : Type 0 where
   pub lines : List ℕ
   pub users : AreUsers service.version lines (provider_in server)
   pub rules : AreRulesOf service (rules_in server)
+  pub claimed : Option (List ℕ)
+  pub rights : AreRightsOf service.saslprep (option_map (λ words. map (λ word. word.now) words.now) service.may_act) claimed
+      (rights_in server)
   pub state : state_in server ≡ Initial
 
 -- the provider that a server of these users answers by

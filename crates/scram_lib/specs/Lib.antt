@@ -1,3 +1,4 @@
+pub mod Acting
 pub mod Done
 pub mod Names
 pub mod private

@@ -1,6 +1,6 @@
 //! `client`: the client side of a login. The input has the server's messages.
 
-ghost use Rattle.std.specs.Prelude.{◌≡◌, ◌≤◌, ◌↔◌, Ok, IfOk, IfErr, IsOk, OnOk, box_value};
+ghost use Rattle.std.specs.Prelude.{◌≡◌, ◌≤◌, ◌↔◌, Ok, IfOk, IfErr, IsOk, OnOk, box_value, option_map, string_bytes};
 ghost use Rattle.fe2o3_scram.specs.ScramClient.{AnswersIn, VerifiesIn};
 ghost use Rattle.scram_lib.specs.Done.{HasVerified, IsClientAsked, HasLoggedIn};
 
@@ -24,6 +24,9 @@ pub struct Login<'a> {
 
     /// The user name, not escaped.
     pub user: &'a str,
+
+    /// The identity that the client asks to act for, not escaped, if any.
+    pub acts_for: Option<&'a str>,
 
     /// The minimum iteration count that the client accepts.
     pub min_iterations: u32,
@@ -112,13 +115,25 @@ impl Login<'_> {
         let secret = self.secret(rt, input)?;
         let secret = secret.lent().ok_or(Stop::NoPassword)?;
         let user = self.user.to_string(rt.alloc())?;
+        let acts_for = self.identity(rt.alloc())?;
         let client = ScramClient::with_secret(rt.alloc(), user, secret, self.version)?;
         let client = client
+            .acting_for(acts_for)
             .with_min_iterations(self.min_iterations)
             .with_iteration_limit(self.max_iterations)
             .with_channel(channel)
             .strict(self.strict);
         Ok(Box::new(rt.alloc(), client)?)
+    }
+
+    /// Copies the identity that the client asks to act for, if any.
+    fn identity(&self, alloc: Global) -> Result<Option<String>, Stop>
+        ensures { IfOk result (λ name. option_map string_bytes name ≡ option_map (λ name. name.now) self.now.acts_for) }
+    {
+        match self.acts_for {
+            Some(name) => Ok(Some(name.to_string(alloc)?)),
+            None => Ok(None),
+        }
     }
 
     /// Checks that the minimum iteration count is not above the maximum.

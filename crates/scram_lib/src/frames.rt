@@ -146,7 +146,7 @@ fn negotiation(
 /// user name.
 pub(crate) fn serve<R, I, O, E, D>(
     rt: &R,
-    service: &Service<'_>,
+    service: &Service<'_, '_>,
     rules: ServerRules,
     secret: Option<Vec<u8>>,
     source: &Source<'_, D>,
@@ -168,12 +168,13 @@ where
     let server = server_for(rt, service, rules, secret, source, claimed.as_deref())?;
     let mut server = Box::new(alloc, continued(alloc, &opener, server)?)?;
     serve_over(rt, service, &mut *server, input, output)?;
-    tell_user(alloc, service, server.authenticated_user(), errors);
+    let user = server.authenticated_user();
+    tell_user(alloc, service, user, server.acts_for(), errors);
     Ok(Done::ServerOfFrames(server))
 }
 
 /// Returns a server's side without users, which offers the mechanism.
-fn opener(alloc: Global, service: &Service<'_>, rules: ServerRules) -> Side {
+fn opener(alloc: Global, service: &Service<'_, '_>, rules: ServerRules) -> Side {
     let nobody = RecordStore::new(alloc, service.version);
     ServerNegotiation::new(alloc, ScramAuthenticator::new(nobody).with_rules(rules))
 }
@@ -181,7 +182,7 @@ fn opener(alloc: Global, service: &Service<'_>, rules: ServerRules) -> Side {
 /// Answers the client up to its init, and returns the user name that the init claims, if any. The init is not taken.
 fn receive_init<R, I, O>(
     rt: &R,
-    service: &Service<'_>,
+    service: &Service<'_, '_>,
     opener: &mut Side,
     input: &mut I,
     output: &mut O,
@@ -254,7 +255,7 @@ fn continued(
 /// Serves a login with a server's side. After `Ok` the side has logged its client in.
 fn serve_over<R, S, I, O>(
     rt: &R,
-    service: &Service<'_>,
+    service: &Service<'_, '_>,
     server: &mut ServerNegotiation<S>,
     input: &mut I,
     output: &mut O,

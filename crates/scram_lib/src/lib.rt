@@ -143,7 +143,7 @@ fn end<R: Files + AllocGlobal, E: Write>(
 /// Does what is asked.
 fn do_command<R, I, O, E, A, D>(
     rt: &R,
-    command: &Command<'_>,
+    command: &Command<'_, '_>,
     streams: &mut Streams<'_, '_, I, O, D>,
     errors: &mut E,
     audit: A,

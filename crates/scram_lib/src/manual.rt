@@ -13,6 +13,9 @@ pub enum Kind {
     /// An option with a text.
     Text,
 
+    /// An option with a text that can be repeated.
+    Texts,
+
     /// An option with the name of a mechanism.
     Mechanism,
 
@@ -195,6 +198,13 @@ const USER: Word = Word {
     help: "The user name",
 };
 
+const ACTS_FOR: Word = Word {
+    kind: Kind::Text,
+    name: "acts-for",
+    value: "IDENTITY",
+    help: "The identity to act for (RFC 4422, section 2); default the user itself",
+};
+
 const MIN_ITERATIONS: Word = Word {
     kind: Kind::Count,
     name: "min-iterations",
@@ -267,6 +277,20 @@ const FRAMES: Word = Word {
     help: "Uses the bytes of an AMQP connection in place of lines",
 };
 
+const ACCEPT_AUTHZID: Word = Word {
+    kind: Kind::Flag,
+    name: "accept-authzid",
+    value: "",
+    help: "Accepts clients that name an identity to act for; each user may act for its own name",
+};
+
+const MAY_ACT: Word = Word {
+    kind: Kind::Texts,
+    name: "may-act",
+    value: "USER:IDENTITY",
+    help: "Lets this user act for this identity too, and implies --accept-authzid; can be repeated",
+};
+
 const SASLPREP: Word = Word {
     kind: Kind::Flag,
     name: "saslprep",
@@ -316,6 +340,7 @@ pub static COMMANDS: [Words; 5] = [
         words: &[
             M,
             USER,
+            ACTS_FOR,
             MIN_ITERATIONS,
             MAX_ITERATIONS,
             KEYS,
@@ -338,6 +363,8 @@ pub static COMMANDS: [Words; 5] = [
             TELL_UNKNOWN_USERS,
             CHANNEL_ACCEPTED,
             ACCEPT_Y,
+            ACCEPT_AUTHZID,
+            MAY_ACT,
             STRICT,
             NONCE,
             FRAMES,
@@ -395,6 +422,7 @@ impl Word {
             Kind::FlagWithout(other) => return self.flag(arg).conflicts_with(other),
             Kind::FlagOf(other) => return self.flag(arg).requires_arg(other),
             Kind::Text => self.option(arg),
+            Kind::Texts => self.option(arg).action(ArgAction::Append),
             Kind::Mechanism => mechanism(self.option(arg)),
             Kind::DefaultMechanism => mechanism(self.option(arg)).default_value("SCRAM-SHA-256"),
             Kind::Iterations => count(self.option(arg)).default_value("4096"),

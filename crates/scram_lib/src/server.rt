@@ -1,9 +1,12 @@
 //! `server`: the server side of a login, for the users of a file. The input has the client's messages.
 
-ghost use Rattle.std.specs.Prelude.{◌≡◌, ◌↔◌, ℕ, List, Ok, Some, IsSome, IfOk, OnOk, false};
+ghost use Rattle.std.specs.Prelude.{◌≡◌, ◌↔◌, ℕ, List, Option, Ok, Some, IsSome, IfOk, IfSome, OnOk, false, true, map, option_map};
+ghost use Rattle.std.specs.List.{list_all};
 ghost use Rattle.fe2o3_scram.specs.ScramServer.{ChallengesFrom, ConcludesFrom, provider_in, rights_in, rules_in, state_in};
+ghost use Rattle.scram_lib.specs.Acting.{AreRightsOf, names_both};
 ghost use Rattle.scram_lib.specs.Done.{AreRulesOf, AreUsers, HasAccepted, IsMessage, IsSameServer, IsServerAsked, HasServed, provider_of};
 
+mod acting;
 pub mod mock;
 mod names;
 pub mod source;
@@ -14,8 +17,8 @@ use crate::server::source::Source;
 use crate::{frames, nonces};
 use fe2o3_sasl_negotiation::{AuthenticatedUser, claimed_user};
 use fe2o3_scram::{
-    MultiRecordStore, RecordStore, ScramAuthenticator, ScramVersion, ServerError, ServerRules,
-    ServerScramErrorKind,
+    ActingRights, MultiRecordStore, RecordStore, ScramAuthenticator, ScramVersion, ServerError,
+    ServerRules, ServerScramErrorKind,
 };
 use mock_secret::secret_of;
 use scram_base_lib::channel::server_rules;
@@ -24,13 +27,14 @@ use scram_base_lib::shown::shown;
 use scram_base_lib::stop::Stop;
 use scram_base_lib::wire;
 use std::alloc::Global;
-use std::io::{BufRead, Result as Written, Write};
+use std::io::{BufRead, Write};
 use std::random::RandomSource;
 use std::rt::Files;
+use std::sync::Arc;
 
 /// The arguments of a server.
 #[derive(Clone, Copy)]
-pub struct Service<'a> {
+pub struct Service<'a, 'm> {
     /// The mechanism.
     pub version: ScramVersion,
 
@@ -52,6 +56,12 @@ pub struct Service<'a> {
     /// Whether the GS2 header `y,,` is accepted too. It has no effect beside `channel`.
     pub accept_y: bool,
 
+    /// Whether a client may name an identity to act for.
+    pub accept_authzid: bool,
+
+    /// The rights to act for identities, each `USER:IDENTITY`, if any. They have no effect without `accept_authzid`.
+    pub may_act: Option<&'m [&'a str]>,
+
     /// Whether the server is strict.
     pub strict: bool,
 
@@ -66,7 +76,7 @@ pub struct Service<'a> {
 pub fn serve<R, I, O, E, D>(
     rt: &R,
     db: &D,
-    service: &Service<'_>,
+    service: &Service<'_, '_>,
     input: &mut I,
     output: &mut O,
     errors: &mut E,
@@ -88,46 +98,68 @@ where
     over_lines(rt, service, rules, secret, &source, input, output, errors)
 }
 
-/// Prints on the errors who has logged in: the name of the record of the user who sent this name.
+/// Prints on the errors who has logged in, and the identity that the user acts for, if the client named one. The user is
+/// printed by the name of its record. So is an identity that is the name which the client sent.
 pub(crate) fn tell_user<E: Write>(
     alloc: Global,
-    service: &Service<'_>,
+    service: &Service<'_, '_>,
     sent: Option<&str>,
+    acts_for: Option<&str>,
     errors: &mut E,
 ) {
     let Some(sent) = sent else {
         return;
     };
     // The user has logged in, whether or not that can be written.
-    if let Ok(user) = shown_user(alloc, service, sent) {
-        let _ = print_user(&user, errors);
+    if let Ok(line) = login_line(alloc, service, sent, acts_for) {
+        let _ = errors.write_all(&line);
     }
 }
 
+/// Returns the line that says who has logged in, and the identity that the user acts for, if any.
+fn login_line(
+    alloc: Global,
+    service: &Service<'_, '_>,
+    sent: &str,
+    acts_for: Option<&str>,
+) -> Result<Vec<u8>, Stop> {
+    let user = shown_user(alloc, service, sent)?;
+    let mut line = b"scram: ".to_vec(alloc)?;
+    line.extend_from_slice(&user)?;
+    line.extend_from_slice(b" logged in")?;
+    if let Some(identity) = acts_for {
+        line.extend_from_slice(b", acts for ")?;
+        if identity == sent {
+            line.extend_from_slice(&user)?;
+        } else {
+            line.extend_from_slice(&shown(alloc, identity.as_bytes())?)?;
+        }
+    }
+    line.push(b'\n')?;
+    Ok(line)
+}
+
 /// Returns the name of the record of the user who sent this name, as it is printed.
-fn shown_user(alloc: Global, service: &Service<'_>, sent: &str) -> Result<Vec<u8>, Stop> {
+fn shown_user(alloc: Global, service: &Service<'_, '_>, sent: &str) -> Result<Vec<u8>, Stop> {
     let name = service.name_of(alloc, sent)?;
     Ok(shown(alloc, name.as_deref().unwrap_or(sent).as_bytes())?)
 }
 
-/// Prints who has logged in.
-fn print_user<E: Write>(user: &[u8], errors: &mut E) -> Written<()> {
-    errors.write_all(b"scram: ")?;
-    errors.write_all(user)?;
-    errors.write_all(b" logged in\n")
-}
-
-impl Service<'_> {
+impl Service<'_, '_> {
     /// Returns the name of the mechanism, with `-PLUS` if the server binds a channel.
     fn mechanism(&self) -> &'static str {
         self.version.mechanism_with(self.channel.is_some())
     }
 
-    /// Returns what the server accepts.
+    /// Returns what the server accepts, if each of its rights names a user and an identity.
     fn rules(&self, alloc: Global) -> Result<ServerRules, Stop>
-        ensures { IfOk result (λ rules. AreRulesOf self.now rules) }
+        ensures rules { IfOk result (λ rules. AreRulesOf self.now rules) }
+        ensures rights { IfOk result (λ _. IfSome self.now.may_act (λ words.
+            list_all (λ word. names_both word.now) words.now ≡ true)) }
     {
-        server_rules(alloc, self.channel, self.accept_y, self.strict)
+        self.test_rights()?;
+        let (accept_y, accept_authzid) = (self.accept_y, self.accept_authzid);
+        server_rules(alloc, self.channel, accept_y, self.strict, accept_authzid)
     }
 
     /// Returns the secret of mock records, or `None` if mock authentication is off.
@@ -144,7 +176,7 @@ impl Service<'_> {
 /// Returns the server for a client that claims this name, if any. It has only the records of that user.
 pub(crate) fn server_for<R: AllocGlobal, D: Database<R>>(
     rt: &R,
-    service: &Service<'_>,
+    service: &Service<'_, '_>,
     rules: ServerRules,
     secret: Option<Vec<u8>>,
     source: &Source<'_, D>,
@@ -157,29 +189,36 @@ pub(crate) fn server_for<R: AllocGlobal, D: Database<R>>(
         Source::Text(text) => text.as_str(),
         Source::Database(_) => own.as_str(),
     };
-    server(rt.alloc(), service, rules, secret, text, &own)
+    let rights = service.rights(rt.alloc(), claimed)?;
+    server(rt.alloc(), service, rules, rights, secret, text, &own)
 }
 
-/// Returns the server of the users in these lines, with these rules. Mock records have the shape of those in the text.
+/// Returns the server of the users in these lines, with these rules and these rights. Mock records have the shape of those
+/// in the text.
 fn server(
     alloc: Global,
-    service: &Service<'_>,
+    service: &Service<'_, '_>,
     rules: ServerRules,
+    rights: ActingRights,
     secret: Option<Vec<u8>>,
     text: &str,
     lines: &str,
 ) -> Result<ScramAuthenticator<RecordStore>, Stop>
-    ensures { AreRulesOf service.now rules → IfOk result (λ server. IsServerAsked service.now server) }
+    ensures { AreRulesOf service.now rules → (claimed : Option (List ℕ))
+        → AreRightsOf service.now.saslprep
+        (option_map (λ words. map (λ word. word.now) words.now) service.now.may_act) claimed rights
+        → IfOk result (λ server. IsServerAsked service.now server) }
 {
     let users = users_of(alloc, service, text, lines)?;
     let server = with_mock(alloc, service, ScramAuthenticator::new(users), secret, text)?;
-    Ok(server.with_rules(rules))
+    let rights = Arc::new(alloc, rights)?;
+    Ok(server.with_rules(rules).with_acting_rights(rights))
 }
 
 /// Returns this server, with mock authentication if there is a secret.
 fn with_mock(
     alloc: Global,
-    service: &Service<'_>,
+    service: &Service<'_, '_>,
     server: ScramAuthenticator<RecordStore>,
     secret: Option<Vec<u8>>,
     text: &str,
@@ -197,7 +236,7 @@ fn with_mock(
 /// the whole text, which has the line's number.
 fn users_of(
     alloc: Global,
-    service: &Service<'_>,
+    service: &Service<'_, '_>,
     text: &str,
     lines: &str,
 ) -> Result<RecordStore, Stop>
@@ -210,7 +249,7 @@ fn users_of(
 }
 
 /// Parses the users of a text that have records for the mechanism.
-fn users(alloc: Global, service: &Service<'_>, text: &str) -> Result<RecordStore, Stop>
+fn users(alloc: Global, service: &Service<'_, '_>, text: &str) -> Result<RecordStore, Stop>
     ensures { IfOk result (λ users. AreUsers service.now.version text.now users) }
 {
     let users = MultiRecordStore::parse_lines(alloc, text)?;
@@ -220,7 +259,7 @@ fn users(alloc: Global, service: &Service<'_>, text: &str) -> Result<RecordStore
 /// Serves a login over lines.
 fn over_lines<R, I, O, E, D>(
     rt: &R,
-    service: &Service<'_>,
+    service: &Service<'_, '_>,
     rules: ServerRules,
     secret: Option<Vec<u8>>,
     source: &Source<'_, D>,
@@ -245,7 +284,7 @@ where
 /// Answers the messages of a login, of which the first is received.
 fn log_in<R, I, O, E>(
     rt: &R,
-    service: &Service<'_>,
+    service: &Service<'_, '_>,
     server: ScramAuthenticator<RecordStore>,
     message: &[u8],
     input: &mut I,
@@ -263,7 +302,8 @@ where
     let mut server = Box::new(alloc, server)?;
     let nonce = nonces::nonce(rt, service.nonce)?;
     exchange(alloc, &mut *server, message, &nonce, input, output)?;
-    tell_user(alloc, service, server.authenticated_user(), errors);
+    let user = server.authenticated_user();
+    tell_user(alloc, service, user, server.acts_for(), errors);
     Ok(Done::Server(server))
 }
 

@@ -1,7 +1,7 @@
 //! The task that the arguments ask for.
 
-ghost use Rattle.std.specs.Prelude.{◌≡◌, true, false, Some, None, IfOk, codes, option_map};
-ghost use Rattle.clap.specs.Matches.{first_value, found_of, one_text};
+ghost use Rattle.std.specs.Prelude.{◌≡◌, true, false, Some, None, IfOk, codes, is_some, map, option_map};
+ghost use Rattle.clap.specs.Matches.{first_value, found_of, matched_of, one_text, raw_values};
 ghost use Rattle.scram_lib.specs.Done.{IsDone};
 
 use crate::client::{Login, log_in};
@@ -36,9 +36,9 @@ pub struct Streams<'a, 'd, I, O, D> {
 
 /// The command that the arguments ask for.
 #[derive(Clone, Copy)]
-pub enum Command<'a> {
+pub enum Command<'a, 'm> {
     /// A task of this library.
-    Task(Task<'a>),
+    Task(Task<'a, 'm>),
 
     /// An audit of both sides of a login, which the caller does.
     Audit(Audited<'a>),
@@ -46,7 +46,7 @@ pub enum Command<'a> {
 
 /// A task of this library.
 #[derive(Clone, Copy)]
-pub enum Task<'a> {
+pub enum Task<'a, 'm> {
     /// Prints a record.
     Record(NewRecord<'a>),
 
@@ -69,7 +69,7 @@ pub enum Task<'a> {
     Client(Login<'a>),
 
     /// Serves a login.
-    Server(Service<'a>),
+    Server(Service<'a, 'm>),
 
     /// Explains messages. The flag says that the lines are frame bodies.
     Explain(bool),
@@ -78,9 +78,9 @@ pub enum Task<'a> {
     Man,
 }
 
-impl<'a> Command<'a> {
+impl<'a, 'm> Command<'a, 'm> {
     /// Returns the command of the parsed arguments.
-    pub fn of(matches: &ArgMatches<'a>) -> Command<'a> {
+    pub fn of(matches: &'m ArgMatches<'a>) -> Command<'a, 'm> {
         match matches.subcommand() {
             Some(("explain", found)) => Command::of_explain(found),
             _ => Command::Task(Task::of(matches)),
@@ -96,7 +96,7 @@ impl<'a> Command<'a> {
     }
 
     /// Returns the command of the parsed arguments of `explain`.
-    fn of_explain(matches: &ArgMatches<'a>) -> Command<'a> {
+    fn of_explain(matches: &ArgMatches<'a>) -> Command<'a, 'm> {
         match matches.get_str("audit") {
             Some(file) => Command::Audit(Audited {
                 file,
@@ -107,13 +107,16 @@ impl<'a> Command<'a> {
     }
 }
 
-impl<'a> Task<'a> {
+impl<'a, 'm> Task<'a, 'm> {
     /// Returns the task of the parsed arguments. They are not those of `explain`.
-    fn of(matches: &ArgMatches<'a>) -> Task<'a> {
+    fn of(matches: &'m ArgMatches<'a>) -> Task<'a, 'm> {
+        // The other tasks borrow nothing of the parsed arguments.
+        if let Some(("server", found)) = matches.subcommand() {
+            return Task::Server(service(found));
+        }
         match matches.subcommand() {
             Some(("users", found)) => Task::of_users(found),
             Some(("client", found)) => Task::Client(login(found)),
-            Some(("server", found)) => Task::Server(service(found)),
             Some(("man", _)) => Task::Man,
             Some((_, found)) => Task::Record(new_record(found)),
             None => Task::Record(new_record(matches)),
@@ -121,7 +124,7 @@ impl<'a> Task<'a> {
     }
 
     /// Returns the task of the parsed arguments of `users`.
-    fn of_users(matches: &ArgMatches<'a>) -> Task<'a> {
+    fn of_users(matches: &ArgMatches<'a>) -> Task<'a, 'm> {
         match matches.subcommand() {
             Some(("add", found)) => Task::Add(named(found), new_record(found)),
             Some(("passwd", found)) => Task::ChangePassword(password_of(found)),
@@ -227,6 +230,8 @@ impl<'a> Task<'a> {
 fn login<'a>(matches: &ArgMatches<'a>) -> Login<'a>
     ensures channel { option_map (λ word. word.now) result.channel
         ≡ first_value (found_of matches.now) (codes "channel") }
+    ensures acts_for { option_map (λ word. word.now) result.acts_for
+        ≡ first_value (found_of matches.now) (codes "acts-for") }
     ensures not_offered { (one_text (found_of matches.now) (codes "channel-not-offered") ≡ Some (codes "true"))
         → result.channel_not_offered ≡ true }
     ensures strict { (one_text (found_of matches.now) (codes "strict") ≡ Some (codes "true"))
@@ -235,6 +240,7 @@ fn login<'a>(matches: &ArgMatches<'a>) -> Login<'a>
     Login {
         version: version_of(matches, "M").unwrap_or(ScramVersion::Sha256),
         user: text(matches, "USER"),
+        acts_for: matches.get_str("acts-for"),
         min_iterations: matches.get_one::<u32>("min-iterations").unwrap_or(4096),
         max_iterations: max_iterations(matches),
         keys: matches.get_str("keys"),
@@ -254,13 +260,19 @@ fn max_iterations(matches: &ArgMatches<'_>) -> u32 {
 }
 
 /// Returns the arguments of `server`.
-fn service<'a>(matches: &ArgMatches<'a>) -> Service<'a>
+fn service<'a, 'm>(matches: &'m ArgMatches<'a>) -> Service<'a, 'm>
     ensures channel { option_map (λ word. word.now) result.channel
         ≡ first_value (found_of matches.now) (codes "channel") }
     ensures saslprep { (one_text (found_of matches.now) (codes "saslprep") ≡ Some (codes "true"))
         → result.saslprep ≡ true }
     ensures no_y { (one_text (found_of matches.now) (codes "accept-y") ≡ Some (codes "false"))
         → result.accept_y ≡ false }
+    ensures rights { option_map (λ words. map (λ word. word.now) words.now) result.may_act
+        ≡ option_map raw_values (matched_of (found_of matches.now) (codes "may-act")) }
+    ensures no_authzid { (one_text (found_of matches.now) (codes "accept-authzid") ≡ Some (codes "false"))
+        → is_some (matched_of (found_of matches.now) (codes "may-act")) ≡ false → result.accept_authzid ≡ false }
+    ensures authzid { is_some (matched_of (found_of matches.now) (codes "may-act")) ≡ true
+        → result.accept_authzid ≡ true }
     ensures strict { (one_text (found_of matches.now) (codes "strict") ≡ Some (codes "true"))
         → result.strict ≡ true }
 {
@@ -272,6 +284,8 @@ fn service<'a>(matches: &ArgMatches<'a>) -> Service<'a>
         tells_unknown_users: matches.get_flag("tell-unknown-users"),
         channel: matches.get_str("channel"),
         accept_y: matches.get_flag("accept-y"),
+        accept_authzid: matches.get_flag("accept-authzid") || matches.contains_id("may-act"),
+        may_act: matches.get_strs("may-act"),
         strict: matches.get_flag("strict"),
         nonce: matches.get_str("nonce"),
         frames: matches.get_flag("frames"),

@@ -36,7 +36,7 @@ fn replay<W: Write>(
 }
 
 /// The files of runs.
-static FILES: [&str; 11] = [
+static FILES: [&str; 12] = [
     "words.txt",
     "records.txt",
     "users.txt",
@@ -44,6 +44,7 @@ static FILES: [&str; 11] = [
     "names.txt",
     "frames.txt",
     "channels.txt",
+    "identities.txt",
     "explained.txt",
     "bodies.txt",
     "audits.txt",

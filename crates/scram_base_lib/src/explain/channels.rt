@@ -1,7 +1,8 @@
-//! What the messages of a login say of its channel (RFC 5802, sections 6 and 7).
+//! What the messages of a login say of its channel, and of the identity that the client acts for (RFC 5802, sections 6
+//! and 7).
 
-ghost use Rattle.std.specs.Prelude.{None, ◌≡◌, ◌≤◌, true, false, length, Ok, IfOk};
-ghost use Rattle.fe2o3_scram.specs.ChannelBinding.{AcceptsFlag, data_bytes, flag_of, is_bound};
+ghost use Rattle.std.specs.Prelude.{◌&&◌, ◌≡◌, ◌≤◌, true, false, length, Ok, IfOk, option_map};
+ghost use Rattle.fe2o3_scram.specs.ChannelBinding.{AcceptsFlag, ClientHeader as ClientHeaderOf, data_bytes, flag_of, header_text, needs_strict};
 ghost use Rattle.fe2o3_scram.specs.ClientFinal.{ReadsFinalText, client_final_values};
 ghost use Rattle.fe2o3_scram.specs.ClientFirst.{default_rules};
 ghost use Rattle.fe2o3_scram.specs.declared.channel_binding.ChannelKind.TheVariants.{TlsUnique, TlsServerEndPoint, TlsExporter};
@@ -11,13 +12,14 @@ use base64::DecodeAllocError;
 use base64::engine::general_purpose::STANDARD;
 use fe2o3_scram::{
     ChannelBinding, ChannelBindingFlag, ChannelBindings, ChannelData, ClientChannel, ClientFinal,
-    ClientHeader, ServerRules, ServerScramErrorKind,
+    ClientHeader, ServerRules, ServerScramErrorKind, escape_username,
 };
 use std::alloc::{AllocError, Global};
 
 /// Returns the rules that accept the GS2 header of a client-first message: of one that binds a channel, each kind, and
-/// otherwise `n,,` and, with `any_header`, `y,,`.
-pub fn rules_for(any_header: bool, bound: bool) -> ServerRules
+/// otherwise `n,,` and, with `any_header`, `y,,`. With `any_header` they accept the identity of a message that names one.
+pub fn rules_for(any_header: bool, bound: bool, named: bool) -> ServerRules
+    ensures identity { result.accept_authzid ≡ (any_header && named) }
     ensures plain { any_header ≡ false → result ≡ default_rules }
     ensures unbound { any_header ≡ true → bound ≡ false → AcceptsFlag result NotSupported
         × AcceptsFlag result ClientSupports }
@@ -42,11 +44,26 @@ pub fn rules_for(any_header: bool, bound: bool) -> ServerRules
         } else {
             None
         },
-        accept_authzid: false,
+        accept_authzid: any_header && named,
     }
 }
 
-/// Returns what a GS2 header says, before the rest of its message. `n,,` says nothing.
+/// Returns whether a client-first message names an identity to act for: `a=` follows its first comma.
+pub fn names_identity(message: &[u8]) -> bool {
+    let text = str::from_utf8(message).unwrap_or("");
+    let (_, rest) = text.split_once(',').unwrap_or(("", ""));
+    rest.starts_with("a=")
+}
+
+/// Returns what a client-first message says of the identity that the client acts for, if it names one.
+pub fn identity_said(alloc: Global, acts_for: Option<&str>) -> Result<String, AllocError> {
+    match acts_for {
+        Some(name) => format!(in alloc; "acts for {name:?}, "),
+        None => Ok(String::new(alloc)),
+    }
+}
+
+/// Returns what a GS2 header says of the channel, before the rest of its message. `n,,` says nothing.
 pub fn header_said(alloc: Global, header: ChannelBindingFlag) -> Result<String, AllocError> {
     match header {
         ChannelBindingFlag::NotSupported => Ok(String::new(alloc)),
@@ -61,11 +78,19 @@ pub fn header_said(alloc: Global, header: ChannelBindingFlag) -> Result<String, 
 }
 
 /// Returns what the channel binding of a client-final message says, before the rest of it. That of `n,,` says nothing.
-pub fn channel_said(alloc: Global, channel: &ClientChannel) -> Result<String, AllocError> {
-    let header = channel.flag().text();
+pub fn channel_said(
+    alloc: Global,
+    channel: &ClientChannel,
+    acts_for: Option<&str>,
+) -> Result<String, AllocError> {
+    let header = header_of(alloc, channel.flag(), acts_for)?;
+    let header = String::from_utf8_lossy(alloc, &header)?;
+    let header = header.as_str();
     match channel {
-        ClientChannel::Absent => Ok(String::new(alloc)),
-        ClientChannel::NotOffered => format!(in alloc; "header {header:?}, "),
+        ClientChannel::Absent if acts_for.is_none() => Ok(String::new(alloc)),
+        ClientChannel::Absent | ClientChannel::NotOffered => format!(in alloc;
+            "header {header:?}, "
+        ),
         ClientChannel::Bound(binding) => {
             let digits = hex::encode(alloc, binding.cbind_data.as_slice())?;
             format!(in alloc; "header {header:?}, data {digits}, ")
@@ -73,26 +98,45 @@ pub fn channel_said(alloc: Global, channel: &ClientChannel) -> Result<String, Al
     }
 }
 
-/// Reads a client-final message after this GS2 header, of a client that binds a channel with the data in the message.
+/// Returns the GS2 header with this flag of a client that acts for this identity, or for itself (RFC 5802, section 7).
+fn header_of(
+    alloc: Global,
+    flag: ChannelBindingFlag,
+    acts_for: Option<&str>,
+) -> Result<Vec<u8>, AllocError>
+    ensures { IfOk result (λ text. text.items ≡ header_text (record {
+      flag = flag;
+      acts_for = option_map (λ name. name.now) acts_for.entry;
+    })) }
+{
+    let Some(name) = acts_for else {
+        return flag.text().as_bytes().to_vec(alloc);
+    };
+    let mut text = flag.name().as_bytes().to_vec(alloc)?;
+    text.extend_from_slice(b",a=")?;
+    text.extend_from_slice(&escape_username(alloc, name.as_bytes())?)?;
+    text.push(b',')?;
+    Ok(text)
+}
+
+/// Reads a client-final message after the GS2 header with this flag and this identity, of a client that binds a channel
+/// with the data in the message.
 pub fn read_final<'a>(
     alloc: Global,
     header: ChannelBindingFlag,
+    acts_for: Option<&str>,
     nonce: &[u8],
     message: &'a [u8],
 ) -> Result<(ClientChannel, ClientFinal<'a>), ServerScramErrorKind>
     ensures channel { IfOk result (λ read. flag_of read.0 ≡ header) }
-    ensures text { IfOk result (λ read. ReadsFinalText (record { channel = read.0; acts_for = None }) (is_bound read.0) nonce.now message.now
-        (Ok (client_final_values read.1))) }
+    ensures text { IfOk result (λ read.
+        let sent : ClientHeaderOf = record { channel = read.0; acts_for = option_map (λ name. name.now) acts_for.entry } in
+        ReadsFinalText sent (needs_strict sent) nonce.now message.now (Ok (client_final_values read.1))) }
 {
-    let channel = channel_in(alloc, header, message)?;
-    let strict = channel.is_bound();
-    let last = ClientFinal::parse_with_header(
-        alloc,
-        &ClientHeader::new(channel, None),
-        strict,
-        nonce,
-        message,
-    )?;
+    let channel = channel_in(alloc, header, acts_for, message)?;
+    let sent = ClientHeader::new(channel, acts_for);
+    let strict = sent.needs_strict();
+    let last = ClientFinal::parse_with_header(alloc, &sent, strict, nonce, message)?;
     Ok((channel, last))
 }
 
@@ -100,6 +144,7 @@ pub fn read_final<'a>(
 fn channel_in(
     alloc: Global,
     header: ChannelBindingFlag,
+    acts_for: Option<&str>,
     message: &[u8],
 ) -> Result<ClientChannel, ServerScramErrorKind>
     ensures { IfOk result (λ channel. flag_of channel ≡ header) }
@@ -109,14 +154,18 @@ fn channel_in(
         ChannelBindingFlag::ClientSupports => Ok(ClientChannel::NotOffered),
         ChannelBindingFlag::Required(kind) => Ok(ClientChannel::Bound(ChannelBinding {
             kind,
-            cbind_data: data_in(alloc, header.text(), message)?,
+            cbind_data: data_in(alloc, &header_of(alloc, header, acts_for)?, message)?,
         })),
     }
 }
 
 /// Returns the data of the channel in a client-final message, after the text of a GS2 header. The errors are those of
 /// the library's parser up to its test of the channel binding.
-fn data_in(alloc: Global, header: &str, message: &[u8]) -> Result<ChannelData, ServerScramErrorKind>
+fn data_in(
+    alloc: Global,
+    header: &[u8],
+    message: &[u8],
+) -> Result<ChannelData, ServerScramErrorKind>
     ensures { IfOk result (λ found. 1 ≤ length (data_bytes found)) }
 {
     let text = str::from_utf8(message).map_err(|_| ServerScramErrorKind::Utf8Error)?;
@@ -129,7 +178,7 @@ fn data_in(alloc: Global, header: &str, message: &[u8]) -> Result<ChannelData, S
         Err(DecodeAllocError::OutOfMemory) => return Err(ServerScramErrorKind::OutOfMemory),
         Err(_) => return Err(ServerScramErrorKind::Base64DecodeError),
     };
-    let Some(cbind_data) = input.strip_prefix(header.as_bytes()) else {
+    let Some(cbind_data) = input.strip_prefix(header) else {
         return Err(ServerScramErrorKind::InvalidChannelBinding);
     };
     ChannelData::new(cbind_data).map_err(|_| ServerScramErrorKind::InvalidChannelBinding)

@@ -8,7 +8,7 @@ use saslprep::{SaslprepError, Unassigned, saslprep};
 use scram_base_lib::stop::Stop;
 use std::alloc::Global;
 
-impl Service<'_> {
+impl Service<'_, '_> {
     /// Returns the name of the records of the user who sends this name, or `None` if no record can have it.
     pub(crate) fn name_of(&self, alloc: Global, sent: &str) -> Result<Option<String>, Stop>
         ensures { IfOk result (λ name. IsLookedUp self.now.saslprep sent.now (option_map string_bytes name)) }

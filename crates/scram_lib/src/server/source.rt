@@ -21,7 +21,7 @@ impl<'a, D> Source<'a, D> {
     pub(crate) fn open<R: Files + AllocGlobal>(
         rt: &R,
         db: &'a D,
-        service: &Service<'_>,
+        service: &Service<'_, '_>,
     ) -> Result<Source<'a, D>, Stop> {
         if service.is_db {
             return Ok(Source::Database(db));
@@ -34,7 +34,7 @@ impl<'a, D> Source<'a, D> {
     pub(crate) fn lines_for<R: AllocGlobal>(
         &self,
         rt: &R,
-        service: &Service<'_>,
+        service: &Service<'_, '_>,
         claimed: Option<&str>,
     ) -> Result<String, Stop>
     where
@@ -55,7 +55,7 @@ impl<'a, D> Source<'a, D> {
     fn lines_of<R: AllocGlobal>(
         &self,
         rt: &R,
-        service: &Service<'_>,
+        service: &Service<'_, '_>,
         name: &str,
     ) -> Result<String, Stop>
     where

@@ -1,4 +1,4 @@
-use Rattle.std.proofs.Common.{◌≡◌, Ok, subst}
+use Rattle.std.proofs.Common.{Ok, subst}
 use Rattle.std.proofs.lemmas.Result.{on_ok_weaker}
 use Rattle.fe2o3_scram.specs.ScramClient.{AnswersIn, ClientSide}
 use Rattle.scram_lib.proofs.client.exchange.Goals as goal
