@@ -59,7 +59,7 @@ static int read_channel(const char *word)
 }
 
 /* The rules of the server, and the identity that a client acts for. */
-static struct fe2o3_scram_rules rules;
+static struct fe2o3_scram_rules rules = {.identities = FE2O3_NONE};
 static const char *client_acts_for = "";
 
 /* Reads an identity that each user may act for, or the client, for:IDENTITY. Returns 0 if the word is none. */

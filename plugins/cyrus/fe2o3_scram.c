@@ -416,7 +416,7 @@ static int server_first(struct exchange *one, sasl_server_params_t *params, cons
     sasl_out_params_t *result)
 {
     const sasl_utils_t *utils = params->utils;
-    struct fe2o3_scram_rules rules = {.accept_authzid = 1};
+    struct fe2o3_scram_rules rules = {.accept_authzid = 1, .identities = FE2O3_NONE};
     uint8_t name[sizeof one->server.user + 1], nonce[32];
     size_t len = 0;
     uint32_t status;
