@@ -1,15 +1,16 @@
 /* A login by libsasl2 over standard input and output, a message a line, as lines.c has it:
  *
  *     cyrus client PLUGINS MECHANISM USER PASSWORD [may | choose | must | late | tls-unique HEX] [as IDENTITY]
- *     cyrus server PLUGINS MECHANISM SASLDB COUNT [NAME | tls-unique HEX]
+ *     cyrus server PLUGINS MECHANISM SASLDB COUNT [NAME | tls-unique HEX] [as IDENTITY]
  *     cyrus version
  *
  * PLUGINS is a folder of plugins, and SASLDB a file of users in the realm localhost. With `may`, `choose` and `must`
  * the client has a binding of its channel, made up, which it may use, or must; with `choose` it may, and has another
  * mechanism to choose from. With `late` it sends no initial response: its first message answers an empty line of the
  * server. With `tls-unique` either side has to bind a channel with these data, and the name of the mechanism that is sent
- * ends with -PLUS; libsasl2 itself does not say so. IDENTITY is the authorization identity, or the trace information of ANONYMOUS. NAME is the name that the
- * transport authenticated, for EXTERNAL; on the client's side it is USER. The status is 0 where the login is done;
+ * ends with -PLUS; libsasl2 itself does not say so. IDENTITY is the authorization identity, or the trace information of
+ * ANONYMOUS. At a server each user may act for IDENTITY only, and has to. NAME is the name that the transport
+ * authenticated, for EXTERNAL; on the client's side it is USER. The status is 0 where the login is done;
  * standard error says why it is not. */
 #define _POSIX_C_SOURCE 200112L
 #include <sasl/sasl.h>
@@ -91,6 +92,27 @@ static int say_nothing(void *context, int level, const char *words_of_log)
     return SASL_OK;
 }
 
+/* Whether a name is this one, also with the realm that libsasl2 appends. */
+static int is_name(const char *name, unsigned len, const char *expected)
+{
+    size_t whole = strlen(expected);
+    return len >= whole && strncmp(name, expected, whole) == 0
+        && (len == whole || (len == whole + 10 && strncmp(name + whole, "@localhost", 10) == 0));
+}
+
+static int may_act(sasl_conn_t *connection, void *context, const char *asked, unsigned len, const char *user,
+    unsigned user_len, const char *realm, unsigned realm_len, struct propctx *properties)
+{
+    (void)connection;
+    (void)context;
+    (void)user;
+    (void)user_len;
+    (void)realm;
+    (void)realm_len;
+    (void)properties;
+    return is_name(asked, len, identity) ? SASL_OK : SASL_NOAUTHZ;
+}
+
 #define CALL(function) (int (*)(void))(void (*)(void))(function)
 
 static const sasl_callback_t of_client[] = {{SASL_CB_GETPATH, CALL(get_path), NULL},
@@ -98,6 +120,8 @@ static const sasl_callback_t of_client[] = {{SASL_CB_GETPATH, CALL(get_path), NU
     {SASL_CB_AUTHNAME, CALL(get_name), NULL}, {SASL_CB_PASS, CALL(get_password), NULL},
     {SASL_CB_LIST_END, NULL, NULL}};
 static const sasl_callback_t of_server[] = {{SASL_CB_GETPATH, CALL(get_path), NULL},
+    {SASL_CB_LOG, CALL(say_nothing), NULL}, {SASL_CB_GETOPT, CALL(get_option), NULL}, {SASL_CB_LIST_END, NULL, NULL}};
+static const sasl_callback_t with_policy[] = {{SASL_CB_PROXY_POLICY, CALL(may_act), NULL},
     {SASL_CB_LOG, CALL(say_nothing), NULL}, {SASL_CB_GETOPT, CALL(get_option), NULL}, {SASL_CB_LIST_END, NULL, NULL}};
 
 static char message[4096];
@@ -163,13 +187,14 @@ static int run_client(const char *how)
 
 static int run_server(const char *name)
 {
+    const sasl_callback_t *calls = *identity != '\0' ? with_policy : of_server;
     sasl_conn_t *connection = NULL;
-    const char *out = NULL;
+    const char *out = NULL, *acts_for = NULL;
     unsigned len = 0;
     int status = sasl_server_init(of_server, "interop");
     if (status == SASL_OK)
         status = sasl_server_new(
-            "amqp", "localhost", "localhost", NULL, NULL, of_server, SASL_SUCCESS_DATA, &connection);
+            "amqp", "localhost", "localhost", NULL, NULL, calls, SASL_SUCCESS_DATA, &connection);
     if (status == SASL_OK && channel.len > 0)
         status = sasl_setprop(connection, SASL_CHANNEL_BINDING, &channel);
     else if (status == SASL_OK && *name != '\0')
@@ -180,6 +205,10 @@ static int run_server(const char *name)
         status = hear() ? sasl_server_start(connection, words[3], message, message_len, &out, &len) : SASL_FAIL;
     while (status == SASL_CONTINUE && say(out, len) && hear())
         status = sasl_server_step(connection, message, message_len, &out, &len);
+    if (status == SASL_OK && *identity != '\0')
+        status = sasl_getprop(connection, SASL_USERNAME, (const void **)&acts_for);
+    if (status == SASL_OK && acts_for != NULL && !is_name(acts_for, (unsigned)strlen(acts_for), identity))
+        status = SASL_FAIL;
     if (status == SASL_OK && !(say(out, len) && hear() && say("", 0)))
         status = SASL_FAIL;
     return ended(connection, status);
@@ -195,7 +224,7 @@ int main(int count, char **given)
         puts(version);
         return 0;
     }
-    if (strcmp(what, "client") == 0 && count >= 8 && strcmp(given[count - 2], "as") == 0) {
+    if (count >= 8 && strcmp(given[count - 2], "as") == 0) {
         identity = given[count - 1];
         count -= 2;
     }

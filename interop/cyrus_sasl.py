@@ -51,7 +51,7 @@ class CyrusSasl(Peer):
     def start(self, folder: Path) -> None:
         self.passwords, self.records = folder / "passwords", folder / "records"
         self.authority = tls.Authority(folder / "authority")
-        for user in (USER, COMMA, PAST_USER, SOFT_USER):
+        for user in (USER, COMMA, PAST_USER, SOFT_USER, User(identities.BOB, "bob's"), User("carol", "carol's")):
             make_user(self.passwords, user)
         make_user(self.records, USER, records=True)
 
@@ -71,11 +71,14 @@ class CyrusSasl(Peer):
         words += [known.name] if client.mechanism == "EXTERNAL" else []
         return lambda side: side.log_in(client, lambda channel: self.run(channel, *words))
 
-    def log_in(self, client: Client, count: int = 4096, users: Optional[Path] = None, mar=None):
-        """A login of our client to a server of libsasl2."""
+    def log_in(
+        self, client: Client, count: int = 4096, users: Optional[Path] = None, mar=None, allowed: str = ""
+    ):
+        """A login of our client to a server of libsasl2, where the user may act for an identity, if it is not empty."""
 
         def login(side: Side) -> Ending:
             words = ["server", client.mechanism, str(users or self.passwords), str(count)]
+            words += ["as", allowed] if allowed else []
             return side.log_in(client, lambda channel: self.run(channel, *words), mar)
 
         return login
@@ -94,14 +97,18 @@ class CyrusSasl(Peer):
 
         return login
 
-    def bound_server(self, mechanism: str, password: str = USER.password, relayed: bool = False):
+    def bound_server(
+        self, mechanism: str, password: str = USER.password, relayed: bool = False, identity: str = ""
+    ):
         """A login of our client to a server of libsasl2, with the channel of one connection under TLS, or each side with
-        that of another, since somebody between them relays all messages."""
+        that of another, since somebody between them relays all messages. The user may act for the identity."""
 
         def login(side: Side) -> Ending:
             tunnel, other = tls.Tunnel(self.authority), tls.Tunnel(self.authority)
             words = ["server", mechanism, str(self.passwords), "4096", "tls-unique", (other if relayed else tunnel).other()]
-            of = Client(mechanism + "-PLUS", USER._replace(password=password), channel=tunnel.channel())
+            words += ["as", identity] if identity else []
+            user, channel = USER._replace(password=password), tunnel.channel()
+            of = Client(mechanism + "-PLUS", user, channel=channel, acts_for=identity)
             return side.log_in(of, lambda ours: tunnel.between(ours, lambda end: self.run(end, *words)))
 
         return login
@@ -133,6 +140,7 @@ class CyrusSasl(Peer):
         yield cell("client", "a login, `tls-unique`", self.bound_server(mechanism), DONE)
         yield cell("client", "a wrong password", self.bound_server(mechanism, "pencils"), ENDED)
         yield cell("client", relayed, self.bound_server(mechanism, relayed=True), ENDED)
+        yield cell("client", identities.ALLOWED, self.bound_server(mechanism, identity=identities.BOB), DONE)
         yield cell("server", "a login, `tls-unique`", self.bound_client(mechanism), Ending("logged in: user", True))
         yield cell("server", "a wrong password", self.bound_client(mechanism, "pencils"),
                    Ending("not logged in: Server: Authentication failed", False))
@@ -156,6 +164,8 @@ class CyrusSasl(Peer):
             yield by_client(self.log_in_by_message, "PLAIN", what, user, ends=ends)
         yield by_client(self.log_in_by_message, "ANONYMOUS", "no trace information", NO_ONE)
         yield from messages.our_servers(self.run_client)
+        yield from self.clients_with_identities("PLAIN")
+        yield from identities.our_servers(messages.by_identity(self.run_client), "PLAIN")
 
     def our_clients(self, mechanism: str) -> Iterator[Cell]:
         done, refused = Ending("logged in: Done", True), Ending("not logged in: the other side ended", False)
@@ -193,6 +203,17 @@ class CyrusSasl(Peer):
         yield cell("non-ASCII password, prepared", self.log_in(prepared(PAST_USER)), done,
                    PAST_USER if mechanism == "SCRAM-SHA-512" else None, "prepared")
         yield cell("password with a soft hyphen, which it does not prepare", self.log_in(prepared(SOFT_USER)), refused)
+        yield from self.clients_with_identities(mechanism)
+
+    def clients_with_identities(self, mechanism: str) -> Iterator[Cell]:
+        """Cells of our clients that name an authorization identity."""
+
+        def of_identity(client: Client, allowed: str):
+            return self.log_in(client, allowed=allowed)
+
+        yield from identities.our_clients(of_identity, mechanism)
+        yield Cell("client", mechanism, "an authorization identity, by its default policy",
+                   self.log_in(Client(mechanism, acts_for=identities.BOB)), ENDED)
 
     def our_servers(self, mechanism: str) -> Iterator[Cell]:
         done, refused = Ending("logged in: user", True), Ending("not logged in: Server: Authentication failed", False)

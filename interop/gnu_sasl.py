@@ -78,6 +78,14 @@ def log_in_by_message(client: Client, known: User):
     return lambda side: side.log_in(client, lambda channel: worker(channel, "server", client.mechanism, known.name))
 
 
+def log_in_for(client: Client, allowed: str):
+    """A login of our client to a server of the library, which accepts one authorization identity."""
+    words = ("scram", "server", client.mechanism, USER.password, allowed, "")
+    if client.mechanism == "PLAIN":
+        words = ("server", "PLAIN", USER.name, USER.password, allowed)
+    return lambda side: side.log_in(client, lambda channel: worker(channel, *words))
+
+
 def made_by_gsasl(mechanism: str, user: User) -> str:
     """The text of a record that gsasl makes."""
     salt = base64.b64encode(SALT).decode()
@@ -102,7 +110,7 @@ class GnuSasl(Peer):
 
         def login(side: Side) -> Ending:
             tunnel, other = tls.Tunnel(self.authority), tls.Tunnel(self.authority)
-            words = ("bound", "server", client.mechanism, password, (other if relayed else tunnel).other())
+            words = ("scram", "server", client.mechanism, password, client.acts_for, (other if relayed else tunnel).other())
             of = client._replace(channel=tunnel.channel())
             return side.log_in(of, lambda ours: tunnel.between(ours, lambda end: worker(end, *words)))
 
@@ -115,7 +123,7 @@ class GnuSasl(Peer):
         def login(side: Side) -> Ending:
             tunnel, other = tls.Tunnel(self.authority), tls.Tunnel(self.authority)
             theirs = (other if relayed else tunnel).other()
-            words = ("bound", "client", mechanism, user.name, user.password, identity, theirs)
+            words = ("scram", "client", mechanism, user.name, user.password, identity, theirs)
             record = side.record(mechanism.removesuffix("-PLUS"), known)
             rights = identities.may_act(identity) if identity else ()
             return side.serve(mechanism, {known.name: record},
@@ -137,6 +145,8 @@ class GnuSasl(Peer):
         yield cell("client", "a wrong password", self.bound_server(Client(plus), "pencils"), ENDED)
         yield cell("client", "all messages relayed between two connections under TLS",
                    self.bound_server(Client(plus), USER.password, relayed=True), ENDED)
+        yield cell("client", identities.ALLOWED,
+                   self.bound_server(Client(plus, acts_for=identities.BOB), USER.password), done)
         yield cell("server", "a login, `tls-unique`", self.bound_client(plus, USER, USER),
                    Ending("logged in: user", True), kept)
         yield cell("server", "a wrong password", self.bound_client(plus, User("user", "pencils"), USER),
@@ -172,6 +182,8 @@ class GnuSasl(Peer):
         # (RFC 4505, section 2, allows an empty message)
         yield by_client(log_in_by_message, "ANONYMOUS", "no trace information, which it rejects", NO_ONE, ends=ENDED)
         yield from messages.our_servers(run_client)
+        yield from identities.our_clients(log_in_for, "PLAIN")
+        yield from identities.our_servers(messages.by_identity(run_client), "PLAIN")
         yield messages.anonymous(run_client, "no trace information", "")
 
     def our_clients(self, mechanism: str) -> Iterator[Cell]:
@@ -204,6 +216,7 @@ class GnuSasl(Peer):
                    "prepared")
         yield cell("password with a soft hyphen, which it prepares", server(of._replace(user=HARD), SOFT.password),
                    done)
+        yield from identities.our_clients(log_in_for, mechanism)
 
     def our_servers(self, mechanism: str) -> Iterator[Cell]:
         kept = COMMA if mechanism == "SCRAM-SHA-256" else None

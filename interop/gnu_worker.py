@@ -1,17 +1,22 @@
 #!/usr/bin/python3
 """A login by libgsasl over standard input and output, a message a line in base64, by PLAIN, ANONYMOUS, EXTERNAL, or SCRAM
-with a channel:
+with a channel or an authorization identity:
 
     gnu_worker.py client MECHANISM USER PASSWORD IDENTITY
     gnu_worker.py server MECHANISM NAME
-    gnu_worker.py bound client MECHANISM USER PASSWORD IDENTITY TLS_UNIQUE
-    gnu_worker.py bound server MECHANISM PASSWORD TLS_UNIQUE
+    gnu_worker.py server PLAIN NAME PASSWORD IDENTITY
+    gnu_worker.py scram client MECHANISM USER PASSWORD IDENTITY TLS_UNIQUE
+    gnu_worker.py scram server MECHANISM PASSWORD IDENTITY TLS_UNIQUE
 
-The program `gsasl` cannot do these: as a client it ends with the status 0 before the server has accepted its message,
-and as a server it has no callbacks for ANONYMOUS and EXTERNAL; and it takes a channel only from its own TLS. IDENTITY is the authorization identity, or the trace
-information of ANONYMOUS. NAME is the trace information that the server expects, or the name that the transport
-authenticated. TLS_UNIQUE is the data of a channel in hexadecimal. The library passes both to a callback, which accepts NAME, and an empty identity of EXTERNAL. The status
-is 0 if the login succeeds.
+The program `gsasl` cannot do these. As a client it ends with the status 0 before the server has accepted its message. As a
+server it has no callbacks for ANONYMOUS and EXTERNAL, and ignores the authorization identity of SCRAM. It takes a channel
+only from its own TLS.
+
+IDENTITY is the authorization identity, or the trace information of ANONYMOUS. A server of SCRAM or PLAIN accepts only a client
+that names this identity, or names none if it is empty. NAME is the trace information that the server expects, or the name that
+the transport authenticated. TLS_UNIQUE is the data of a channel in hexadecimal, or empty for none. The library passes the
+trace information and the identity of EXTERNAL to a callback, which accepts NAME, and an empty identity of EXTERNAL. The
+status is 0 if the login succeeds.
 """
 
 import base64
@@ -20,7 +25,8 @@ import sys
 
 OK, NEEDS_MORE, AUTHENTICATION_ERROR, NO_CALLBACK = 0, 1, 31, 51
 #: Properties of gsasl.h.
-AUTHID, AUTHZID, PASSWORD, ANONYMOUS_TOKEN, VALIDATE_EXTERNAL, VALIDATE_ANONYMOUS = 1, 2, 3, 4, 501, 502
+AUTHID, AUTHZID, PASSWORD, ANONYMOUS_TOKEN = 1, 2, 3, 4
+VALIDATE_SIMPLE, VALIDATE_EXTERNAL, VALIDATE_ANONYMOUS = 500, 501, 502
 SCRAM_ITER, SCRAM_SALT, CB_TLS_UNIQUE = 15, 16, 18
 
 CALLBACK = ctypes.CFUNCTYPE(ctypes.c_int, ctypes.c_void_p, ctypes.c_void_p, ctypes.c_int)
@@ -66,6 +72,10 @@ class Session:
     def set(self, name, text):
         self.gsasl.gsasl_property_set(self.session, name, text.encode())
 
+    def text(self, name):
+        """The text of a property that the library has read from a message, or an empty one."""
+        return (self.gsasl.gsasl_property_fast(self.session, name) or b"").decode()
+
     def step(self, line):
         """Takes a line, and returns the status and the next line."""
         out = ctypes.c_char_p()
@@ -99,14 +109,18 @@ def run_client(mechanism, user, password, identity):
     hear()
 
 
-def run_server(mechanism, name):
+def run_server(mechanism, name, password="", identity=""):
+    accepted = {
+        VALIDATE_EXTERNAL: {AUTHZID: ("", name)},
+        VALIDATE_ANONYMOUS: {ANONYMOUS_TOKEN: (name,)},
+        VALIDATE_SIMPLE: {AUTHID: (name,), PASSWORD: (password,), AUTHZID: (identity,)},
+    }
+
     def validate(_, session, asked):
-        given = {VALIDATE_EXTERNAL: (AUTHZID, ("", name)), VALIDATE_ANONYMOUS: (ANONYMOUS_TOKEN, (name,))}.get(asked)
-        if given is None:
+        if asked not in accepted:
             return NO_CALLBACK
-        which, accepted = given
-        text = server.gsasl.gsasl_property_fast(session, which) or b""
-        return OK if text.decode() in accepted else AUTHENTICATION_ERROR
+        texts = {which: (server.gsasl.gsasl_property_fast(session, which) or b"").decode() for which in accepted[asked]}
+        return OK if all(texts[which] in accepted[asked][which] for which in texts) else AUTHENTICATION_ERROR
 
     server = Session("server", mechanism, validate)
     say(mechanism)
@@ -131,21 +145,22 @@ def properties(known):
     return tell
 
 
-def run_bound(side, mechanism, *words):
-    """A login by SCRAM with `-PLUS`."""
-    *names, data = words
-    known = dict(zip((AUTHID, PASSWORD, AUTHZID) if side == "client" else (PASSWORD,), names))
-    # (an empty identity is none)
-    known = {which: text for which, text in known.items() if text}
+def run_scram(side, mechanism, *words):
+    """A login by SCRAM, with `-PLUS` if there is a channel."""
+    *names, identity, data = words
+    known = dict(zip((AUTHID, PASSWORD, AUTHZID), (*names, identity))) if side == "client" else {PASSWORD: names[0]}
     known |= {SCRAM_ITER: "4096", SCRAM_SALT: base64.b64encode(b"a salt").decode()}
     known[CB_TLS_UNIQUE] = base64.b64encode(bytes.fromhex(data)).decode()
-    session = Session(side, mechanism, properties(known))
+    # (an empty text is none)
+    session = Session(side, mechanism, properties({which: text for which, text in known.items() if text}))
     say(mechanism)
     # (a server sends an empty challenge first, which our client expects)
     if side == "server":
         say("")
     status, message = session.step(None if side == "client" else hear())
     while status == NEEDS_MORE or message:
+        if status == OK and side == "server" and session.text(AUTHZID) != identity:
+            raise Failure("the user may not act for this identity")
         say(message)
         if status == OK:
             break
@@ -159,7 +174,7 @@ def run_bound(side, mechanism, *words):
 
 def main():
     side, *words = sys.argv[1:]
-    runs = {"client": run_client, "server": run_server, "bound": run_bound}
+    runs = {"client": run_client, "server": run_server, "scram": run_scram}
     try:
         runs[side](*words)
     except (Failure, BrokenPipeError) as why:

@@ -3,9 +3,9 @@
  * writes an empty line, the client first. A server that accepts the only message of a mechanism writes an empty line
  * before these.
  *
- *     lines client PORT MECHANISM USER LEAST MOST [prepared] [again] [KIND:HEX]
+ *     lines client PORT MECHANISM USER LEAST MOST [prepared] [again] [for:IDENTITY] [KIND:HEX]
  *     lines server USERS MECHANISM LOGINS [unbound] [for:IDENTITY].. [KIND:HEX]
- *     lines server USERS PLAIN LOGINS [prepared | saslprep]
+ *     lines server USERS PLAIN LOGINS [prepared | saslprep] [for:IDENTITY]..
  *     lines server USERS EXTERNAL LOGINS NAME
  *     lines record MECHANISM SALT COUNT [prepared]
  *     lines verify RECORD [prepared]
@@ -16,8 +16,8 @@
  * first one, without the password. With `unbound` the server takes the GS2 header `y,,` too. With a kind of
  * channel binding, such as `tls-exporter`, and the data of the channel in hexadecimal, either side binds that channel:
  * the name of the mechanism then ends with `-PLUS`. With `for:` the server accepts authorization identities, and each
- * user may act for these; an empty one adds none. The server prints its port; each login has a line that says how it
- * ended, for which user, and for which identity the user acts.
+ * user may act for these; an empty one adds none. A client of SCRAM or PLAIN acts for its IDENTITY. The server prints its
+ * port; each login has a line that says how it ended, for which user, and for which identity the user acts.
  *
  * For ANONYMOUS the USER is the trace information, and for EXTERNAL the authorization identity; both can be empty. NAME
  * is the name that the transport authenticated. With `prepared` a server of PLAIN expects a prepared password, and with
@@ -58,16 +58,18 @@ static int read_channel(const char *word)
     return 0;
 }
 
-/* The rules of the server. */
-static struct fe2o3_scram_rules rules;
+/* The rules of the server, and the identity that a client acts for. */
+static struct fe2o3_scram_rules rules = {.identities = FE2O3_NONE};
+static const char *client_acts_for = "";
 
-/* Reads an identity that each user may act for, for:IDENTITY. Returns 0 if the word is none. */
+/* Reads an identity that each user may act for, or the client, for:IDENTITY. Returns 0 if the word is none. */
 static int read_identity(const char *word)
 {
     static uint8_t identities[1024];
     size_t len = strlen(word) - (strncmp(word, "for:", 4) == 0 ? 4 : 0);
     if (len == strlen(word) || len + 1 > sizeof identities - rules.identities_len)
         return 0;
+    client_acts_for = word + 4;
     rules.accept_authzid = 1;
     rules.identities = identities;
     memcpy(identities + rules.identities_len, word + 4, len + 1);
@@ -162,8 +164,8 @@ static uint32_t log_in_by_message(FILE *in, FILE *out, const char *mechanism, co
     struct text message = {{0}, 0}, answer;
     uint32_t status = FE2O3_OK;
     if (strcmp(mechanism, "PLAIN") == 0)
-        status = fe2o3_plain_message(login->username, login->username_len, login->password, login->password_len,
-            message.bytes, sizeof message.bytes, &message.len);
+        status = fe2o3_plain_message(login->acts_for, login->acts_for_len, login->username, login->username_len,
+            login->password, login->password_len, message.bytes, sizeof message.bytes, &message.len);
     else
         set_text(&message, login->username, login->username_len);
     if (status != FE2O3_OK)
@@ -222,6 +224,8 @@ static int run_client(char **words, int prepared, int again, const char *typed)
     login.max_iterations = (uint32_t)strtoul(words[4], NULL, 10);
     login.username = (const uint8_t *)words[2];
     login.username_len = strlen(words[2]);
+    login.acts_for = (const uint8_t *)client_acts_for;
+    login.acts_for_len = strlen(client_acts_for);
     login.password = password.bytes;
     login.password_len = password.len;
     login.keys = &keys;
@@ -289,26 +293,31 @@ static uint32_t serve_scram(
         : fe2o3_scram_server_authenticated_user(&server, name->bytes, sizeof name->bytes, &name->len);
 }
 
-/* Tests a message of PLAIN, and writes the name of its user. */
-static uint32_t serve_plain(const struct text *message, struct text *name)
+/* Tests a message of PLAIN, and writes the name of its user, and the identity that it acts for if the server accepts one. */
+static uint32_t serve_plain(const struct text *message, struct text *name, struct text *acts_for)
 {
     struct fe2o3_scram_record record = {0};
     uint32_t claims = fe2o3_plain_claimed_user(
         message->bytes, message->len, name->bytes, sizeof name->bytes, &name->len);
     if (claims == FE2O3_OK)
         fetch(name, FE2O3_SHA_256, &record);
-    return fe2o3_plain_verify(&record, claims == FE2O3_OK, plain_passwords, 4096, message->bytes, message->len);
+    if (claims == FE2O3_OK && rules.accept_authzid)
+        fe2o3_plain_claimed_identity(
+            message->bytes, message->len, acts_for->bytes, sizeof acts_for->bytes, &acts_for->len);
+    return fe2o3_plain_verify(&record, claims == FE2O3_OK, plain_passwords, 4096, rules.accept_authzid, rules.identities,
+        rules.identities_len, message->bytes, message->len);
 }
 
 /* Tests the only message of a mechanism, and writes the name of its user: an empty one for ANONYMOUS. */
-static uint32_t serve_message(FILE *out, const char *mechanism, const struct text *message, struct text *name)
+static uint32_t serve_message(
+    FILE *out, const char *mechanism, const struct text *message, struct text *name, struct text *acts_for)
 {
     const uint8_t *transport = (const uint8_t *)transport_name;
     size_t len = strlen(transport_name);
     uint32_t status = FE2O3_OK;
     name->len = 0;
     if (strcmp(mechanism, "PLAIN") == 0)
-        status = serve_plain(message, name);
+        status = serve_plain(message, name, acts_for);
     if (strcmp(mechanism, "EXTERNAL") == 0) {
         status = fe2o3_external_verify(transport, len, message->bytes, message->len);
         set_text(name, transport, len);
@@ -327,7 +336,7 @@ static uint32_t serve(FILE *in, FILE *out, const char *mechanism, struct text *n
         return OTHER_SIDE_ENDED;
     if ((status = read_message(in, &message)) != FE2O3_OK)
         return status;
-    status = has_one_message(mechanism) ? serve_message(out, mechanism, &message, name)
+    status = has_one_message(mechanism) ? serve_message(out, mechanism, &message, name, acts_for)
                                         : serve_scram(in, out, mechanism, &message, name, acts_for);
     if (status == FE2O3_OK) {
         read_message(in, &message);

@@ -69,9 +69,13 @@ class Client(NamedTuple):
     most: int = 1_000_000
     again: bool = False
     channel: str = ""
+    #: The identity that the client of SCRAM or PLAIN acts for, if there is one.
+    acts_for: str = ""
 
     def words(self, port: int) -> list[str]:
-        more = prepared(self.user) + (["again"] if self.again else []) + ([self.channel] if self.channel else [])
+        more = prepared(self.user) + (["again"] if self.again else [])
+        more += [f"for:{self.acts_for}"] if self.acts_for else []
+        more += [self.channel] if self.channel else []
         return ["client", str(port), self.mechanism, self.user.name, str(self.least), str(self.most), *more]
 
 

@@ -15,11 +15,10 @@
 #define MOST_ITERATIONS 1000000
 #define SALT_LEN 16
 
-/* Those of Cyrus SASL's own plugin, and its features; but a client does not act for another user. */
+/* Those of Cyrus SASL's own plugin, and its features. */
 #define SECURITY(bits) (SASL_SET_HASH_STRENGTH_BITS(bits) | SASL_SEC_NOPLAINTEXT | SASL_SEC_NOACTIVE \
     | SASL_SEC_NOANONYMOUS | SASL_SEC_MUTUAL_AUTH)
-#define FEATURES (SASL_FEAT_SUPPORTS_HTTP | SASL_FEAT_CHANNEL_BINDING)
-#define SERVER_FEATURES (FEATURES | SASL_FEAT_ALLOWS_PROXY)
+#define FEATURES (SASL_FEAT_SUPPORTS_HTTP | SASL_FEAT_CHANNEL_BINDING | SASL_FEAT_ALLOWS_PROXY)
 #define EXPORTED __attribute__((visibility("default")))
 #define UNUSED __attribute__((unused))
 
@@ -46,7 +45,7 @@ enum expected { FIRST, SECOND, THIRD, ENDED };
 struct exchange {
     const struct mechanism *mechanism;
     enum expected expected;
-    int asked, prepares, acts; /* acts: of the server, whether the client names an identity other than its own name */
+    int asked, prepares, acts; /* acts: whether the client names an identity other than its own name */
     sasl_cbinding_disp_t channel; /* of the server: what the client's header says of the channel */
     struct fe2o3_scram_client client;
     struct fe2o3_scram_server server;
@@ -177,8 +176,9 @@ static int identify(struct exchange *one, sasl_client_params_t *params, sasl_int
         return code;
     if (name->len == 0 || memchr(name->text, 0, name->len))
         return refused(one, utils, SASL_BADPARAM, "the name of the user is empty, or has a zero byte");
-    if (user->len > 0 && (user->len != name->len || memcmp(user->text, name->text, name->len) != 0))
-        return refused(one, utils, SASL_NOAUTHZ, "an authorization identity is not supported");
+    if (user->len > 0 && memchr(user->text, 0, user->len))
+        return refused(one, utils, SASL_BADPARAM, "the authorization identity has a zero byte");
+    one->acts = user->len > 0 && (user->len != name->len || memcmp(user->text, name->text, name->len) != 0);
     code = prepare(one, utils, &word->text, &word->len, FE2O3_UNASSIGNED_ALLOWED);
     if (code != SASL_OK)
         return code == SASL_NOVERIFY ? SASL_BADPARAM : code;
@@ -186,7 +186,12 @@ static int identify(struct exchange *one, sasl_client_params_t *params, sasl_int
         return refused(one, utils, SASL_BUFOVER, "the password is too long");
     memmove(one->password, word->text, word->len);
     one->password_len = word->len;
-    return params->canon_user(utils->conn, name->text, (unsigned)name->len, SASL_CU_AUTHID | SASL_CU_AUTHZID, result);
+    if (!one->acts)
+        return params->canon_user(
+            utils->conn, name->text, (unsigned)name->len, SASL_CU_AUTHID | SASL_CU_AUTHZID, result);
+    code = params->canon_user(utils->conn, name->text, (unsigned)name->len, SASL_CU_AUTHID, result);
+    return code != SASL_OK ? code
+        : params->canon_user(utils->conn, user->text, (unsigned)user->len, SASL_CU_AUTHZID, result);
 }
 
 /* Puts into the login what the client says of its channel, as libsasl2 has decided it by the server's mechanisms. */
@@ -215,6 +220,7 @@ static int client_answer(struct exchange *one, enum expected expected, const sas
     struct fe2o3_login login = {.version = one->mechanism->version, .secret = FE2O3_BY_PASSWORD,
         .form = one->prepares ? FE2O3_PREPARED : FE2O3_TYPED, .min_iterations = LEAST_ITERATIONS,
         .max_iterations = MOST_ITERATIONS, .username = (const uint8_t *)who->authid, .username_len = who->alen,
+        .acts_for = (const uint8_t *)who->user, .acts_for_len = one->acts ? who->ulen : 0,
         .password = (const uint8_t *)one->password, .password_len = one->password_len, .keys = &no_keys};
     uint8_t nonce[32];
     int code = expected == ENDED ? SASL_OK : say_channel(one, params, &login);
@@ -410,7 +416,7 @@ static int server_first(struct exchange *one, sasl_server_params_t *params, cons
     sasl_out_params_t *result)
 {
     const sasl_utils_t *utils = params->utils;
-    struct fe2o3_scram_rules rules = {.accept_authzid = 1};
+    struct fe2o3_scram_rules rules = {.accept_authzid = 1, .identities = FE2O3_NONE};
     uint8_t name[sizeof one->server.user + 1], nonce[32];
     size_t len = 0;
     uint32_t status;
@@ -499,7 +505,7 @@ EXPORTED int sasl_server_plug_init(const sasl_utils_t *utils UNUSED, int most, i
     static sasl_server_plug_t plugs[MECHANISMS];
     for (int i = 0; i < MECHANISMS; i++)
         plugs[i] = (sasl_server_plug_t){.mech_name = mechanisms[i].name, .security_flags = mechanisms[i].security,
-            .features = SERVER_FEATURES, .glob_context = (void *)&mechanisms[i], .mech_new = server_new,
+            .features = FEATURES, .glob_context = (void *)&mechanisms[i], .mech_new = server_new,
             .mech_step = server_step, .mech_dispose = dispose};
     *version = SASL_SERVER_PLUG_VERSION;
     *list = plugs;

@@ -329,10 +329,8 @@ def cell(one, client, server, mechanism):
         strangers.append((recorded(mechanism), "pencil"))
     tried = [(user, LOGGED_IN) for user in users.items() for _ in range(TIMES)]
     tried += [(user, REFUSED) for user in strangers]
-    # (a client of ours names no identity)
-    if client == "theirs":
-        for acting, due, times in ((one.acting, LOGGED_IN, TIMES), (one.not_acting, REFUSED, 1)):
-            tried += [((name, USERS[name], identity), due) for name, identity in acting for _ in range(times)]
+    for acting, due, times in ((one.acting, LOGGED_IN, TIMES), (one.not_acting, REFUSED, 1)):
+        tried += [((name, USERS[name], identity), due) for name, identity in acting for _ in range(times)]
     with one.server(server, mechanism) as serving:
         hows = [(one.login(client, serving, *words), due) for words, due in tried]
     others += [how for how, due in hows if how != due]

@@ -221,8 +221,9 @@ static int start_client(sasl_conn_t *conn, const char **out, unsigned *len, cons
     if (code != SASL_INTERACT)
         return code;
     for (sasl_interact_t *prompt = prompts; prompt->id != SASL_CB_LIST_END; prompt++) {
-        prompt->result = prompt->id == SASL_CB_PASS ? now->password : prompt->id == SASL_CB_AUTHNAME ? now->name : "";
-        prompt->len = (unsigned)strlen(prompt->result);
+        prompt->result = prompt->id == SASL_CB_PASS ? now->password : prompt->id == SASL_CB_AUTHNAME ? now->name
+            : now->user ? now->user : "";
+        prompt->len = (unsigned)strlen(prompt->result) + (prompt->id == SASL_CB_USER && now->flags & ZERO);
     }
     return sasl_client_start(conn, names, &prompts, out, len, chosen);
 }

@@ -1,6 +1,7 @@
 //! The program of `../lines.c`, by the crate for Rust: the same words, the same lines.
 
-use fe2o3_sasl_proved::{external_verify, plain_claimed_user, plain_message, plain_verify, saslprep};
+use fe2o3_sasl_proved::{external_verify, plain_claimed_identity, plain_claimed_user, plain_message_as};
+use fe2o3_sasl_proved::{plain_verify, plain_verify_with_rights, saslprep};
 use fe2o3_sasl_proved::{Password, PlainPasswords, ScramClient, ScramRecord, ScramVersion, ServerScramErrorKind};
 use fe2o3_sasl_proved::{Unassigned, UserRecords};
 use interop::{channel_of, from_base64, password, to_base64, told, version_of, Failure, Users};
@@ -61,12 +62,12 @@ fn log_in(port: u16, client: &mut ScramClient) -> Result<(), Failure> {
     lines.say(b"")
 }
 
-/// The message of a mechanism with one message: that of PLAIN, or the user name itself.
-fn message_of(mechanism: &str, user: &str, prepared: bool) -> Result<Vec<u8>, Failure> {
-    let password = password()?;
-    Ok(match (mechanism, prepared) {
-        ("PLAIN", true) => plain_message(user, saslprep(&password, Unassigned::Allowed)?.as_ref())?,
-        ("PLAIN", false) => plain_message(user, &password)?,
+/// The message of a mechanism with one message: that of PLAIN, for the identity of the options, or the user name itself.
+fn message_of(mechanism: &str, user: &str, options: &[&str]) -> Result<Vec<u8>, Failure> {
+    let (password, identity) = (password()?, identities(options).pop().unwrap_or(""));
+    Ok(match (mechanism, options.contains(&"prepared")) {
+        ("PLAIN", true) => plain_message_as(identity, user, saslprep(&password, Unassigned::Allowed)?.as_ref())?,
+        ("PLAIN", false) => plain_message_as(identity, user, &password)?,
         _ => user.as_bytes().to_vec(),
     })
 }
@@ -85,7 +86,7 @@ fn client_of(user: &str, version: ScramVersion, prepared: bool) -> Result<ScramC
 fn run_client(words: &[&str], options: &[&str]) -> Result<i32, Failure> {
     let (port, user) = (words[0].parse()?, words[2]);
     if ONE_MESSAGE.contains(&words[1]) {
-        let message = message_of(words[1], user, options.contains(&"prepared"))?;
+        let message = message_of(words[1], user, options)?;
         return Ok(told("logged in", &log_in_by_message(port, &message)));
     }
     let (least, most) = (words[3].parse()?, words[4].parse()?);
@@ -95,6 +96,9 @@ fn run_client(words: &[&str], options: &[&str]) -> Result<i32, Failure> {
     let channel = options.iter().find_map(|word| channel_of(word));
     if let Some(channel) = channel.clone() {
         client = client.with_channel(channel);
+    }
+    if let Some(identity) = identities(options).pop() {
+        client = client.acting_for(identity)?;
     }
     let ended = log_in(port, &mut client);
     let status = told("logged in", &ended);
@@ -114,6 +118,19 @@ fn run_client(words: &[&str], options: &[&str]) -> Result<i32, Failure> {
     Ok(told("logged in by keys", &again))
 }
 
+/// Whether a server of these options accepts authorization identities.
+fn accepts_identities(options: &[&str]) -> bool {
+    options.iter().any(|word| word.starts_with("for:"))
+}
+
+/// What a server says of a user who acts for an identity, if there is one.
+fn named(name: String, acts_for: Option<String>) -> String {
+    match acts_for {
+        Some(identity) => format!("{name} for {identity}"),
+        None => name,
+    }
+}
+
 /// The identities of words, for:IDENTITY; an empty one adds none.
 fn identities<'a>(options: &[&'a str]) -> Vec<&'a str> {
     options.iter().filter_map(|word| word.strip_prefix("for:")).filter(|name| !name.is_empty()).collect()
@@ -121,8 +138,8 @@ fn identities<'a>(options: &[&'a str]) -> Vec<&'a str> {
 
 /// Lets the client log in that sent this first message, and returns its name, and the identity that it acts for.
 fn serve_scram(lines: &mut Lines, first: &[u8], users: Users, options: &[&str]) -> Result<String, Failure> {
-    let accepts = options.iter().any(|word| word.starts_with("for:"));
-    let mut server = users.acting_for(&identities(options)).authenticator().accept_authzid(accepts);
+    let users = users.acting_for(&identities(options));
+    let mut server = users.authenticator().accept_authzid(accepts_identities(options));
     if options.contains(&"unbound") {
         server = server.accept_cbind_flag_y();
     }
@@ -135,18 +152,20 @@ fn serve_scram(lines: &mut Lines, first: &[u8], users: Users, options: &[&str]) 
     let answer = server.compute_server_final_message(&last)?.ok_or("no such user")?;
     lines.say(&answer)?;
     let name = server.authenticated_user().ok_or("no name")?;
-    Ok(match server.acts_for() {
-        Some(identity) => format!("{name} for {identity}"),
-        None => name,
-    })
+    Ok(named(name, server.acts_for()))
 }
 
-/// Tests a message of PLAIN, and returns the name of its user.
-fn serve_plain(message: &[u8], users: &Users, passwords: PlainPasswords) -> Result<String, ServerScramErrorKind> {
+/// Tests a message of PLAIN, and returns the name of its user, and the identity that it acts for if the server accepts one.
+fn serve_plain(message: &[u8], users: &Users, options: &[&str]) -> Result<String, ServerScramErrorKind> {
     let name = plain_claimed_user(message).unwrap_or_default();
     let record = users.records(&name).pop();
-    plain_verify(record.as_ref(), passwords, 4096, message)?;
-    Ok(name)
+    if !accepts_identities(options) {
+        plain_verify(record.as_ref(), passwords(options), 4096, message)?;
+        return Ok(name);
+    }
+    let identities: Vec<String> = identities(options).into_iter().map(String::from).collect();
+    plain_verify_with_rights(record.as_ref(), passwords(options), 4096, &identities, message)?;
+    Ok(named(name, plain_claimed_identity(message)))
 }
 
 /// Tests a message of EXTERNAL against the name that the transport authenticated, and returns this name.
@@ -164,7 +183,7 @@ fn serve(channel: TcpStream, users: Users, words: &[&str], options: &[&str]) -> 
     }
     let message = lines.message()?;
     let name = match words[1] {
-        "PLAIN" => serve_plain(&message, &users, passwords(options))?,
+        "PLAIN" => serve_plain(&message, &users, options)?,
         "ANONYMOUS" => String::new(),
         "EXTERNAL" => serve_external(&message, words.get(3).unwrap_or(&""))?,
         _ => serve_scram(&mut lines, &message, users, options)?,
@@ -179,9 +198,9 @@ fn serve(channel: TcpStream, users: Users, words: &[&str], options: &[&str]) -> 
 
 /// Which passwords a server of PLAIN expects.
 fn passwords(options: &[&str]) -> PlainPasswords {
-    match options {
-        ["prepared"] => PlainPasswords::Prepared,
-        ["saslprep"] => PlainPasswords::Saslprep,
+    match options.first() {
+        Some(&"prepared") => PlainPasswords::Prepared,
+        Some(&"saslprep") => PlainPasswords::Saslprep,
         _ => PlainPasswords::Typed,
     }
 }
