@@ -356,7 +356,7 @@ static void bind_channel(struct fe2o3_login *login, uint32_t kind, uint32_t len)
 
 static struct fe2o3_scram_rules binding(uint32_t kind, uint32_t len)
 {
-    struct fe2o3_scram_rules rules = {.channels.binds_channel = 1};
+    struct fe2o3_scram_rules rules = {.channels.binds_channel = 1, .identities = FE2O3_NONE};
     *(kind == FE2O3_TLS_UNIQUE ? &rules.channels.tls_unique_len : kind == FE2O3_TLS_SERVER_END_POINT
         ? &rules.channels.tls_server_end_point_len : &rules.channels.tls_exporter_len) = len;
     memcpy(rules.channels.tls_unique, channel_data, sizeof channel_data);
@@ -398,7 +398,9 @@ static void channels(uint32_t version)
     struct fe2o3_scram_record record = {0};
     const struct fe2o3_login plain = {.version = version, .min_iterations = 4096, .max_iterations = 100000,
         .username = TEXT("user"), .acts_for = FE2O3_NONE, .password = TEXT("pencil"), .keys = &no_keys};
-    const struct fe2o3_scram_rules no_rules = {0}, no_data = {.channels.binds_channel = 1}, with_y = {.accept_cbind_flag_y = 1};
+    const struct fe2o3_scram_rules no_rules = FE2O3_SCRAM_RULES_INIT,
+        no_data = {.channels.binds_channel = 1, .identities = FE2O3_NONE},
+        with_y = {.accept_cbind_flag_y = 1, .identities = FE2O3_NONE};
     struct exchange one;
     fe2o3_scram_record_make(version, FE2O3_TYPED, TEXT("pencil"), salt, sizeof salt, 4096, &record);
     for (uint32_t kind = FE2O3_TLS_UNIQUE; kind <= FE2O3_TLS_EXPORTER; kind++) {
@@ -531,7 +533,7 @@ static void identities_of_each_form(void)
 /* What the grammar of RFC 5802, section 7, does not allow, at a side of each kind that is strict and one that is not. */
 static void strict_sides(void)
 {
-    const struct fe2o3_scram_rules strict = {.strict = 1}, lax = {0};
+    const struct fe2o3_scram_rules strict = {.strict = 1, .identities = FE2O3_NONE}, lax = FE2O3_SCRAM_RULES_INIT;
     struct fe2o3_scram_keys no_keys = {0};
     struct fe2o3_login login = {.version = FE2O3_SHA_256, .min_iterations = 4096, .max_iterations = 4096,
         .username = TEXT("user"), .acts_for = FE2O3_NONE, .password = TEXT("pencil"), .keys = &no_keys};
