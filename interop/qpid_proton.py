@@ -12,6 +12,7 @@ from typing import Iterator, Optional
 
 from cells import Cell, Peer, none
 from cyrus_sasl import make_user
+from identities import ALLOWED, BOB, acting, may_act
 from sides import ANONYMOUS_AS, BY_CHALLENGE, COMMA, EXTERNAL_AS, SCRAM, TRACE, USER
 from sides import Ending, Side, User, ended_after, marred, unsigned
 from tls import HOST, Authority, serve_external, to_tls
@@ -121,11 +122,26 @@ class QpidProton(Peer):
 
         return lambda side: serve_external(side, self.authority, by)
 
-    def serve(self, mechanism: str, user: User = USER, known: User = USER, mar=None, more=()):
+    def log_in_for(self, mechanism: str, identity: str, more=()):
+        """A login of our client with an authorization identity to a server of Proton, which accepts each. The peer says yes
+        if it has both names."""
+        more = (*more, f"for:{identity}")
+
+        def login(side: Side) -> Ending:
+            worker = self.worker()
+            self.ask(worker, side="server", mechanisms=mechanism, settings=str(self.folder / "4096"))
+            ours = side.log_in_by_frames(self.told(worker)["port"], mechanism, USER, *more)
+            told = self.told(worker)
+            names = [told[which].partition("@")[0] for which in ("user", "acts_as")]
+            return Ending(ours, told["in"] and names == [USER.name, identity])
+
+        return login
+
+    def serve(self, mechanism: str, user: User = USER, known: User = USER, mar=None, more=(), identity: str = ""):
         """A login of a client of Proton to our server, which knows one user, and has more words."""
 
         def by(port: int) -> bool:
-            words = {"mechanism": mechanism, "user": user.name, "password": user.password}
+            words = {"mechanism": mechanism, "user": user.name, "password": user.password, "acts_as": identity}
             self.ask(self.worker(), side="client", port=port, **words)
             return self.told(self.worker())["in"]
 
@@ -150,6 +166,18 @@ class QpidProton(Peer):
                 known = USER._replace(count=count)
                 yield cell(f"count {count:,}", self.serve(mechanism, known=known), done)
             yield cell("our signature, altered on the way: it does not look", self.serve(mechanism, mar=marred), done)
+
+    def with_identities(self, mechanism: str) -> Iterator[Cell]:
+        """Clients of Proton that name an authorization identity."""
+
+        def cell(what: str, identity: str, words: tuple[str, ...], ends: Ending, user: User = USER) -> Cell:
+            return Cell("server", mechanism, what, self.serve(mechanism, user, more=("", *words), identity=identity), ends)
+
+        yield cell("the user's own name as the authorization identity", USER.name, may_act(BOB), acting(USER.name))
+        yield cell(ALLOWED, BOB, may_act(BOB), acting(BOB))
+        yield cell(f"{ALLOWED}, and a wrong password", BOB, may_act(BOB), REFUSED, User("user", "pencils"))
+        yield cell("an authorization identity that the user may not act for", "carol", may_act(BOB), REFUSED)
+        yield cell("an authorization identity, at a server that accepts none", BOB, (), REFUSED)
 
     def external(self, without: Ending) -> Iterator[Cell]:
         """EXTERNAL over TLS, and how a login of our client without an initial response ends."""
@@ -183,6 +211,7 @@ class QpidProton(Peer):
                        Ending("not logged in: Connection: Not implemented", False))
         yield Cell("server", "ANONYMOUS", "a login", self.serve("ANONYMOUS"), Ending("logged in:", True), kept=USER)
         yield from self.our_servers("PLAIN")
+        yield from self.with_identities("PLAIN")
         yield from self.external(DONE)
         yield none("server", ", ".join(SCRAM), "a login", "Debian builds it without Cyrus SASL")
 
@@ -203,7 +232,7 @@ class ProtonWithCyrus(QpidProton):
     def start(self, folder: Path) -> None:
         super().start(folder)
         users = folder / "users"
-        for user in (USER, COMMA):
+        for user in (USER, COMMA, User(BOB, "bob's")):
             # (Proton's server has the host's name for a realm, in one of its forms)
             for realm in {"localhost", socket.gethostname(), socket.getfqdn()}:
                 make_user(users, user, realm=realm)
@@ -218,8 +247,13 @@ class ProtonWithCyrus(QpidProton):
             yield from self.our_scram_clients(mechanism)
             yield from self.our_servers(mechanism)
             yield from self.our_servers_by_challenge(mechanism)
+            yield from self.with_identities(mechanism)
+            yield Cell("client", mechanism, "signature by a challenge: an authorization identity",
+                       self.log_in_for(mechanism, BOB, (BY_CHALLENGE,)), DONE)
         yield from self.our_plain_clients()
+        yield Cell("client", "PLAIN", "an authorization identity", self.log_in_for("PLAIN", BOB), DONE)
         yield from self.our_servers("PLAIN")
+        yield from self.with_identities("PLAIN")
         # (without an initial response it sends an empty challenge)
         yield from self.external(Ending("not logged in: Connection: Not implemented", False))
         yield Cell("client", "ANONYMOUS", "a login", self.log_in("ANONYMOUS"), DONE)

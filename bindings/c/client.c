@@ -1,9 +1,10 @@
 /* Logs in to a server of AMQP 1.0 over TCP:
  *
- *     client HOST PORT MECHANISM USER [challenge]
+ *     client HOST PORT MECHANISM USER [challenge] [for:IDENTITY]
  *
  * with the password on the first line of standard input. `EXTERNAL as` and `ANONYMOUS as` send USER as the initial
- * response, which can be empty. With `challenge` the client also accepts the server's signature in a challenge.
+ * response, which can be empty. With `challenge` the client also accepts the server's signature in a challenge. With `for:`
+ * a client of SCRAM or PLAIN acts for IDENTITY.
  *
  * It says how the login ended, with the status 0 where the client is logged in, 1 where it is not, and 2 where the
  * words, the password or the connection are none. */
@@ -115,6 +116,7 @@ int main(int count, char **words)
     struct fe2o3_scram_keys no_keys = {0};
     struct fe2o3_sasl_client client = {0};
     struct fe2o3_sasl_login login = {0};
+    const char *acts_for = count > 5 && strncmp(words[count - 1], "for:", 4) == 0 ? words[--count] + 4 : "";
     int by_challenge = count == 6 && strcmp(words[5], "challenge") == 0;
     size_t which = count == 5 || by_challenge ? known(words[3]) : known("");
     int64_t answer;
@@ -122,7 +124,7 @@ int main(int count, char **words)
     /* (so that no buffer of stdio keeps the password) */
     setvbuf(stdin, NULL, _IONBF, 0);
     if (which == known("") || fgets(password, sizeof password, stdin) == NULL) {
-        fputs("client HOST PORT MECHANISM USER [challenge], with the password on standard input\n", stderr);
+        fputs("client HOST PORT MECHANISM USER [challenge] [for:IDENTITY], with the password on standard input\n", stderr);
         return 2;
     }
     password[strcspn(password, "\n")] = '\0';
@@ -135,7 +137,8 @@ int main(int count, char **words)
     login.login.max_iterations = 1000000;
     login.login.username = (const uint8_t *)words[4];
     login.login.username_len = strlen(words[4]);
-    login.login.acts_for = (const uint8_t *)"";
+    login.login.acts_for = (const uint8_t *)acts_for;
+    login.login.acts_for_len = strlen(acts_for);
     login.login.password = (const uint8_t *)password;
     login.login.password_len = strlen(password);
     login.login.keys = &no_keys;

@@ -1,11 +1,12 @@
 /* Serves logins of AMQP 1.0 over TCP on the loopback, by SCRAM-SHA-512, SCRAM-SHA-256 and, as if under TLS, by PLAIN:
  *
- *     server USERS LOGINS [MECHANISM [PEER [challenge | ask]..]]
+ *     server USERS LOGINS [MECHANISM [PEER [challenge | ask | for:IDENTITY]..]]
  *
  * or by this mechanism only, where EXTERNAL accepts the name PEER, as if the transport had authenticated it. With
  * `challenge` SCRAM sends the server's signature in a challenge. With `ask` an init without an initial response is
- * answered by an empty challenge. USERS is a file of users, a line for each (fe2o3_scram_line writes one). It prints
- * the port that it listens on, serves so many connections, one after another, and says of each who has logged in, or
+ * answered by an empty challenge. With `for:` clients of SCRAM and PLAIN may name an identity to act for, and each user may
+ * act for IDENTITY. USERS is a file of users, a line for each (fe2o3_scram_line writes one). It prints the port that it
+ * listens on, serves so many connections, one after another, and says of each who has logged in, and for which identity, or
  * why nobody. */
 #define _POSIX_C_SOURCE 200112L
 #include "fe2o3_sasl.h"
@@ -23,7 +24,8 @@
 
 static const uint32_t versions[3] = {FE2O3_SHA_512, FE2O3_SHA_256, FE2O3_SHA_1};
 static uint32_t mechanisms = FE2O3_OFFER_SCRAM_SHA_512 | FE2O3_OFFER_SCRAM_SHA_256 | FE2O3_OFFER_PLAIN;
-static const char *peer = "";
+static const char *peer = "", *identity = "";
+static uint32_t accept_authzid;
 static uint8_t users[65536], secret[32];
 static size_t users_len;
 
@@ -54,7 +56,10 @@ static int add_options(int count, char **words)
             mechanisms |= FE2O3_SIGNATURE_BY_CHALLENGE;
         else if (strcmp(words[i], "ask") == 0)
             mechanisms |= FE2O3_INITIAL_RESPONSE_BY_CHALLENGE;
-        else
+        else if (strncmp(words[i], "for:", 4) == 0) {
+            accept_authzid = 1;
+            identity = words[i] + 4;
+        } else
             known = 0;
     }
     return known;
@@ -111,7 +116,8 @@ static int64_t serve(int channel, struct fe2o3_sasl_server *server, struct secre
     size_t len = 0, at = 0, taken = 0, out_len = 0, name_len = 0;
     while (server->connection.progress == FE2O3_IN_PROGRESS) {
         struct fe2o3_sasl_server_config config = {
-            mechanisms, 4096, name, 0, keep->records, 3, (const uint8_t *)peer, strlen(peer), {0}, 0, FE2O3_NONE};
+            mechanisms, 4096, name, 0, keep->records, 3, (const uint8_t *)peer, strlen(peer), {0}, accept_authzid,
+            (const uint8_t *)identity, strlen(identity) + 1};
         uint32_t status;
         memset(keep->records, 0, sizeof keep->records);
         if (at == len) {
@@ -162,12 +168,14 @@ static void hang_up(int channel)
 static void told(int64_t answer, const struct fe2o3_sasl_server *server)
 {
     struct fe2o3_text text = FE2O3_TEXT_INIT;
-    uint8_t user[256];
-    size_t len = 0;
+    uint8_t user[256], acts_for[256];
+    size_t len = 0, acts_for_len = 0;
     if (answer == FE2O3_OK && server->connection.progress == FE2O3_AUTHENTICATED) {
         /* (by ANONYMOUS it names nobody) */
         fe2o3_scram_server_authenticated_user(&server->scram, user, sizeof user, &len);
-        printf("logged in: %.*s\n", (int)len, (const char *)user);
+        fe2o3_scram_server_acts_for(&server->scram, acts_for, sizeof acts_for, &acts_for_len);
+        printf("logged in: %.*s%s%.*s\n", (int)len, (const char *)user, acts_for_len > 0 ? " for " : "",
+            (int)acts_for_len, (const char *)acts_for);
     } else if (answer < 0) {
         puts("no connection");
     } else {
@@ -184,7 +192,7 @@ int main(int count, char **words)
     int listener, logins = count == 3 || alone ? atoi(words[2]) : 0;
     FILE *file = logins > 0 ? fopen(words[1], "rb") : NULL;
     if (file == NULL || !random_bytes(secret, sizeof secret)) {
-        fputs("server USERS LOGINS [MECHANISM [PEER [challenge | ask]..]]\n", stderr);
+        fputs("server USERS LOGINS [MECHANISM [PEER [challenge | ask | for:IDENTITY]..]]\n", stderr);
         return 2;
     }
     /* (a client that resets the connection must not end the server) */

@@ -5,6 +5,7 @@ server.c by that and by a client that is made here: `tcp.py CLIENT SERVER`.
 Prints a line for each login, and ends with 1 where one of them does not end as it should.
 """
 import contextlib
+import itertools
 import socket
 import subprocess
 import sys
@@ -150,6 +151,25 @@ def without_initial_response(server):
                         yield what, (logged_in, said), (wanted != REFUSED, wanted)
 
 
+#: The identity that a client names, the words of the server, and what the server should say of the user.
+IDENTITIES = [("", ["for:bob"], "logged in: user"), ("user", ["for:bob"], "logged in: user for user"),
+              ("bob", ["for:bob"], "logged in: user for bob"), ("carol", ["for:bob"], REFUSED),
+              ("bobby", ["for:bob"], REFUSED), ("bob", [], REFUSED)]
+
+
+def for_identities(client, server):
+    """Logins of clients that name an authorization identity, to the program of server.c."""
+    for mechanism in ("SCRAM-SHA-256", "PLAIN"):
+        for identity, words, wanted in IDENTITIES:
+            with server_program(server, 1, mechanism, "", *words) as (program, port):
+                done = subprocess.run(
+                    [client, "127.0.0.1", str(port), mechanism, "user", *([f"for:{identity}"] if identity else [])],
+                    input="pencil\n", capture_output=True, text=True, timeout=60, check=False,
+                )
+                what = " ".join([f"{mechanism} as {identity or 'itself'}", *words])
+                yield what, (done.returncode, program.stdout.readline().strip()), (int(wanted == REFUSED), wanted)
+
+
 def main():
     differ = 0
     for mechanism, password, broker, wanted in cases():
@@ -158,7 +178,9 @@ def main():
             found = logged_in(sys.argv[1], mechanism, password, broker_again, piece)
             differ += found != wanted
             print(mechanism, f"in pieces of {piece}:", *found, "" if found == wanted else f"DIFFERS: {wanted}")
-    for what, found, wanted in (*to_the_server(*sys.argv[1:3]), *without_initial_response(sys.argv[2])):
+    programs = sys.argv[1:3]
+    runs = (to_the_server(*programs), without_initial_response(sys.argv[2]), for_identities(*programs))
+    for what, found, wanted in itertools.chain(*runs):
         differ += found != wanted
         print(what, *found, "" if found == wanted else f"DIFFERS: {wanted}")
     return 1 if differ else 0

@@ -63,6 +63,29 @@ pub fn version_of(mechanism: &str) -> Option<ScramVersion> {
         .find(|version| version.mechanism() == mechanism)
 }
 
+/// Whether a word is an identity, for:IDENTITY.
+pub fn is_identity(word: &str) -> bool {
+    word.starts_with("for:")
+}
+
+/// Whether a server of these options accepts authorization identities.
+pub fn accepts_identities(options: &[&str]) -> bool {
+    options.iter().any(|word| is_identity(word))
+}
+
+/// The identities of words, for:IDENTITY; an empty one adds none.
+pub fn identities<'a>(options: &[&'a str]) -> Vec<&'a str> {
+    options.iter().filter_map(|word| word.strip_prefix("for:")).filter(|name| !name.is_empty()).collect()
+}
+
+/// What a server says of a user who acts for an identity, if there is one.
+pub fn named(name: String, acts_for: Option<String>) -> String {
+    match acts_for {
+        Some(identity) => format!("{name} for {identity}"),
+        None => name,
+    }
+}
+
 /// The users of a file, their records of one version, and the identities that each of them may act for.
 pub struct Users {
     version: ScramVersion,
@@ -103,6 +126,10 @@ impl Users {
 impl UserRecords for Users {
     fn records(&self, username: &str) -> Vec<ScramRecord> {
         self.records.iter().filter(|(name, _)| name == username).map(|(_, record)| record.clone()).collect()
+    }
+
+    fn identities(&self, _username: &str) -> Vec<String> {
+        self.identities.clone()
     }
 }
 

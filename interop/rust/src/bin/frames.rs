@@ -2,17 +2,18 @@
 //! `bindings/c/server.c` do in C.
 //!
 //! ```text
-//! frames client HOST PORT MECHANISM USER [challenge]
-//! frames server USERS LOGINS MECHANISM [PEER [challenge | ask]..]
+//! frames client HOST PORT MECHANISM USER [challenge] [for:IDENTITY]
+//! frames server USERS LOGINS MECHANISM [PEER [challenge | ask | for:IDENTITY]..]
 //! ```
 //!
 //! The client takes the password from standard input. `EXTERNAL as` and `ANONYMOUS as` send USER as the initial
 //! response, which can be empty. With `challenge` the client also accepts the server's signature in a challenge, and the
-//! server sends it there. With `ask` the server answers an init without an initial response by an empty challenge. The
-//! server offers this mechanism only, where EXTERNAL accepts the name PEER.
+//! server sends it there. With `ask` the server answers an init without an initial response by an empty challenge. With
+//! `for:` the client acts for IDENTITY, and each user of the server may act for it. The server offers this mechanism only,
+//! where EXTERNAL accepts the name PEER.
 
 use fe2o3_sasl_proved::{ClientNegotiation, Progress, SaslProfile, ScramClient, ScramVersion, ServerNegotiation};
-use interop::{password, told, version_of, Failure, Users};
+use interop::{accepts_identities, identities, is_identity, named, password, told, version_of, Failure, Users};
 use std::io::{Read, Write};
 use std::net::{Shutdown, TcpListener, TcpStream};
 use std::time::{Duration, Instant};
@@ -64,7 +65,10 @@ fn log_in(host: &str, port: u16, profile: SaslProfile) -> Result<(), Failure> {
 }
 
 fn run_client(words: &[&str]) -> Result<i32, Failure> {
-    let profile = profile(words[2], words[3], words.len() == 5)?;
+    let mut profile = profile(words[2], words[3], words.contains(&"challenge"))?;
+    if let Some(identity) = identities(&words[4..]).pop() {
+        profile = profile.acting_for(identity).ok_or("this identity is not sent")?;
+    }
     match log_in(words[0], words[1].parse()?, profile) {
         Err(why) if why.to_string() == NO_CONNECTION => {
             println!("{NO_CONNECTION}");
@@ -88,7 +92,9 @@ fn serve(channel: &mut TcpStream, users: Users, offer: &Offer) -> Result<String,
     let mechanism = offer.mechanism;
     let hashes: Vec<_> = version_of(mechanism).into_iter().collect();
     let server = users
+        .acting_for(&identities(offer.options))
         .server()
+        .accept_authzid(accepts_identities(offer.options))
         .hashes(&hashes)
         .plain_under_tls(mechanism == "PLAIN")
         .anonymous(mechanism == "ANONYMOUS")
@@ -103,7 +109,7 @@ fn serve(channel: &mut TcpStream, users: Users, offer: &Offer) -> Result<String,
         channel.write_all(&received.sent)?;
     }
     ended(side.progress())?;
-    Ok(side.authenticated_user().unwrap_or_default())
+    Ok(named(side.authenticated_user().unwrap_or_default(), side.acts_for()))
 }
 
 /// Closes a connection like `bindings/c/server.c`: ends the sending side, and discards what arrives until the client
@@ -145,9 +151,12 @@ fn main() -> Result<(), Failure> {
     let words: Vec<String> = std::env::args().skip(1).collect();
     let words: Vec<&str> = words.iter().map(String::as_str).collect();
     let status = match (words.first().copied(), words.len()) {
-        (Some("client"), 5) => run_client(&words[1..])?,
-        (Some("client"), 6) if words[5] == "challenge" => run_client(&words[1..])?,
-        (Some("server"), 4..) if words.iter().skip(5).all(|word| OPTIONS.contains(word)) => run_server(&words[1..])?,
+        (Some("client"), 5..) if words[5..].iter().all(|word| *word == "challenge" || is_identity(word)) => {
+            run_client(&words[1..])?
+        }
+        (Some("server"), 4..) if words.iter().skip(5).all(|word| OPTIONS.contains(word) || is_identity(word)) => {
+            run_server(&words[1..])?
+        }
         _ => 2,
     };
     std::process::exit(status)

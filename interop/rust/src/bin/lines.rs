@@ -4,6 +4,7 @@ use fe2o3_sasl_proved::{external_verify, plain_claimed_identity, plain_claimed_u
 use fe2o3_sasl_proved::{plain_verify, plain_verify_with_rights, saslprep};
 use fe2o3_sasl_proved::{Password, PlainPasswords, ScramClient, ScramRecord, ScramVersion, ServerScramErrorKind};
 use fe2o3_sasl_proved::{Unassigned, UserRecords};
+use interop::{accepts_identities, identities, is_identity, named};
 use interop::{channel_of, from_base64, password, to_base64, told, version_of, Failure, Users};
 use std::io::{BufRead, BufReader, Write};
 use std::net::{TcpListener, TcpStream};
@@ -116,24 +117,6 @@ fn run_client(words: &[&str], options: &[&str]) -> Result<i32, Failure> {
         None => Err("no keys".into()),
     };
     Ok(told("logged in by keys", &again))
-}
-
-/// Whether a server of these options accepts authorization identities.
-fn accepts_identities(options: &[&str]) -> bool {
-    options.iter().any(|word| word.starts_with("for:"))
-}
-
-/// What a server says of a user who acts for an identity, if there is one.
-fn named(name: String, acts_for: Option<String>) -> String {
-    match acts_for {
-        Some(identity) => format!("{name} for {identity}"),
-        None => name,
-    }
-}
-
-/// The identities of words, for:IDENTITY; an empty one adds none.
-fn identities<'a>(options: &[&'a str]) -> Vec<&'a str> {
-    options.iter().filter_map(|word| word.strip_prefix("for:")).filter(|name| !name.is_empty()).collect()
 }
 
 /// Lets the client log in that sent this first message, and returns its name, and the identity that it acts for.
@@ -263,9 +246,7 @@ fn main() -> Result<(), Failure> {
     let words: Vec<String> = std::env::args().skip(1).collect();
     let words: Vec<&str> = words.iter().map(String::as_str).collect();
     let is_option = |word: &&str| {
-        ["prepared", "again", "unbound", "saslprep"].contains(word)
-            || word.starts_with("for:")
-            || channel_of(word).is_some()
+        ["prepared", "again", "unbound", "saslprep"].contains(word) || is_identity(word) || channel_of(word).is_some()
     };
     let count = words.len() - words.iter().rev().take_while(|word| is_option(word)).count();
     let (words, options) = words.split_at(count);
