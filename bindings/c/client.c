@@ -135,6 +135,7 @@ int main(int count, char **words)
     login.login.max_iterations = 1000000;
     login.login.username = (const uint8_t *)words[4];
     login.login.username_len = strlen(words[4]);
+    login.login.acts_for = (const uint8_t *)"";
     login.login.password = (const uint8_t *)password;
     login.login.password_len = strlen(password);
     login.login.keys = &no_keys;

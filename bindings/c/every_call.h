@@ -143,6 +143,28 @@ static void messages(const struct fe2o3_login *login, const struct fe2o3_scram_r
     expect(status, due);
 }
 
+/* A login over messages that acts for an identity. */
+static void acting_messages(const struct fe2o3_login *login)
+{
+    static struct fe2o3_scram_rules rules;
+    rules.accept_authzid = 1;
+    rules.identities = (const uint8_t *)"app,=x";
+    rules.identities_len = 6;
+    memset(&all.client, 0, sizeof all.client);
+    memset(&all.server, 0, sizeof all.server);
+    expect(CALL(scram_client_first, login, &all.client, nonce, ROOM(all.client_first)), FE2O3_OK);
+    expect(CALL(scram_server_claimed_user_with_rules, &rules, GIVEN(all.client_first), ROOM(all.user)), FE2O3_OK);
+    expect(CALL(scram_server_claimed_identity, &rules, GIVEN(all.client_first), ROOM(all.out)), FE2O3_OK);
+    expect(CALL(scram_server_first_with_rules, &rules, &all.record, &all.server, nonce, GIVEN(all.client_first),
+        ROOM(all.server_first)), FE2O3_OK);
+    expect(CALL(scram_client_final, login, &all.client, GIVEN(all.server_first), ROOM(all.client_final)), FE2O3_OK);
+    expect(CALL(scram_server_final_with_rules, &rules, &all.record, &all.server, GIVEN(all.client_final),
+        ROOM(all.server_final)), FE2O3_OK);
+    expect(CALL(scram_client_verify, login, &all.client, GIVEN(all.server_final)), FE2O3_OK);
+    expect(CALL(scram_server_acts_for, &all.server, ROOM(all.out)), FE2O3_OK);
+    expect((uint32_t)all.out.len, 6);
+}
+
 /* PLAIN and EXTERNAL over messages. */
 static void plain_messages(void)
 {
@@ -253,13 +275,15 @@ static void both(const struct fe2o3_sasl_login *login, struct fe2o3_sasl_server_
 
 static void logins(uint32_t version)
 {
-    static struct fe2o3_login login, by_keys, by_both, wrong;
+    static struct fe2o3_login login, by_keys, by_both, wrong, acting;
     static struct fe2o3_sasl_login sasl;
     static struct fe2o3_sasl_server_config config;
     const uint32_t failed = FE2O3_SERVER_AUTHENTICATION_FAILED, rejected = FE2O3_REFUSED_AUTH;
     login = (struct fe2o3_login){.version = version, .min_iterations = 1, .max_iterations = 4096, .username = USER,
         .acts_for = FE2O3_NONE, .password = GIVEN(all.password), .keys = &no_keys, .signature_by_challenge = 1};
-    wrong = by_keys = by_both = login;
+    acting = wrong = by_keys = by_both = login;
+    acting.acts_for = (const uint8_t *)"app,=x";
+    acting.acts_for_len = 6;
     wrong.password_len = all.wrong.len;
     by_keys.secret = FE2O3_BY_KEYS;
     by_both.secret = FE2O3_BY_PASSWORD_AND_KEYS;
@@ -271,12 +295,13 @@ static void logins(uint32_t version)
     messages(&by_keys, &all.other, FE2O3_CLIENT_STALE_KEYS);
     messages(&wrong, &all.record, failed);
     messages(&login, &all.mock, failed);
+    acting_messages(&acting);
     plain_messages();
     config = (struct fe2o3_sasl_server_config){.mechanisms = FE2O3_OFFER_PLAIN | FE2O3_OFFER_ANONYMOUS
             | FE2O3_OFFER_EXTERNAL | (version == FE2O3_SHA_1 ? FE2O3_OFFER_SCRAM_SHA_1
             : version == FE2O3_SHA_256 ? FE2O3_OFFER_SCRAM_SHA_256 : FE2O3_OFFER_SCRAM_SHA_512),
         .iterations = ITERATIONS, .username = all.user.bytes, .records = &all.record, .records_count = 1,
-        .external_authcid = TEXT("peer")};
+        .external_authcid = TEXT("peer"), .identities = FE2O3_NONE};
     for (uint32_t mechanism = FE2O3_SCRAM; mechanism <= FE2O3_EXTERNAL; mechanism++) {
         sasl = (struct fe2o3_sasl_login){mechanism, TEXT("host"), login};
         config.records = &all.record;
@@ -285,6 +310,16 @@ static void logins(uint32_t version)
             continue;
         sasl.login = wrong;
         both(&sasl, &config, rejected, FE2O3_FAILED);
+        config.accept_authzid = 1;
+        sasl.login = acting;
+        both(&sasl, &config, rejected, FE2O3_FAILED);
+        config.identities = acting.acts_for;
+        config.identities_len = acting.acts_for_len;
+        both(&sasl, &config, FE2O3_AUTHENTICATED, FE2O3_AUTHENTICATED);
+        expect(CALL(scram_server_acts_for, &all.server_side.scram, ROOM(all.out)), FE2O3_OK);
+        expect((uint32_t)all.out.len, 6);
+        config.accept_authzid = 0;
+        config.identities_len = 0;
         sasl.login = login;
         config.records = &all.mock;
         both(&sasl, &config, rejected, FE2O3_FAILED);

@@ -49,7 +49,7 @@ void __wrap_free(void *block)
 }
 
 struct text {
-    uint8_t bytes[1024];
+    uint8_t bytes[2048];
     size_t len;
 };
 
@@ -174,6 +174,10 @@ static uint32_t user_by_rules(void)
 {
     return fe2o3_scram_server_claimed_user_with_rules(&rules, GIVEN(all.client_first), ROOM(all.user));
 }
+static uint32_t identity_by_rules(void)
+{
+    return fe2o3_scram_server_claimed_identity(&rules, GIVEN(all.client_first), ROOM(all.out));
+}
 static uint32_t challenge_by_rules(void)
 {
     return fe2o3_scram_server_first_with_rules(
@@ -280,12 +284,13 @@ static void late_connection(const uint8_t *init, size_t init_len, const uint8_t 
 
 int main(void)
 {
+    struct fe2o3_server_channels channels;
     login = (struct fe2o3_login){.version = FE2O3_SHA_256, .min_iterations = 4096, .max_iterations = 4096,
         .username = TEXT("us,er"), .acts_for = FE2O3_NONE, .password = TEXT("pencil"), .keys = &no_keys};
     sasl_login = (struct fe2o3_sasl_login){.hostname = TEXT("host"), .login = login};
     config = (struct fe2o3_sasl_server_config){.mechanisms = FE2O3_OFFER_SCRAM_SHA_256 | FE2O3_OFFER_PLAIN
             | FE2O3_OFFER_ANONYMOUS | FE2O3_OFFER_EXTERNAL, .iterations = 4096, .username = FE2O3_NONE,
-        .records = &all.record, .records_count = 1, .external_authcid = TEXT("pe,er")};
+        .records = &all.record, .records_count = 1, .external_authcid = TEXT("pe,er"), .identities = FE2O3_NONE};
     tried("record_make", make);
     tried("record_text", spell);
     tried("record_parse", parse);
@@ -333,7 +338,27 @@ int main(void)
     tried("client_final, with a channel", answer);
     tried("server_final_with_rules", conclude_by_rules);
     tried("client_verify, with a channel", verify);
+    channels = rules.channels;
     login.channel_use = FE2O3_CHANNEL_ABSENT;
+    rules = (struct fe2o3_scram_rules)FE2O3_SCRAM_RULES_INIT;
+    rules.accept_authzid = config.accept_authzid = 1;
+    rules.identities = config.identities = (const uint8_t *)"app";
+    rules.identities_len = config.identities_len = 3;
+    sasl_login.login.acts_for = login.acts_for = (const uint8_t *)"app";
+    sasl_login.login.acts_for_len = login.acts_for_len = 3;
+    tried("client_first, with an identity", first);
+    tried("server_claimed_identity", identity_by_rules);
+    tried("server_first_with_rules, with an identity", challenge_by_rules);
+    tried("client_final, with an identity", answer);
+    tried("server_final_with_rules, with an identity", conclude_by_rules);
+    tried("client_verify, with an identity", verify);
+    puts("a connection, SCRAM-SHA-256 with an identity");
+    connection(FE2O3_SCRAM, "us,er");
+    puts("a connection, PLAIN with an identity");
+    connection(FE2O3_PLAIN, "us,er");
+    config.accept_authzid = 0;
+    sasl_login.login.acts_for_len = 0;
+    rules.channels = channels;
     puts("a connection, SCRAM-SHA-256");
     connection(FE2O3_SCRAM, "us,er");
     puts("a connection, SCRAM-SHA-256-PLUS");

@@ -111,7 +111,7 @@ static int64_t serve(int channel, struct fe2o3_sasl_server *server, struct secre
     size_t len = 0, at = 0, taken = 0, out_len = 0, name_len = 0;
     while (server->connection.progress == FE2O3_IN_PROGRESS) {
         struct fe2o3_sasl_server_config config = {
-            mechanisms, 4096, name, 0, keep->records, 3, (const uint8_t *)peer, strlen(peer), {0}};
+            mechanisms, 4096, name, 0, keep->records, 3, (const uint8_t *)peer, strlen(peer), {0}, 0, FE2O3_NONE};
         uint32_t status;
         memset(keep->records, 0, sizeof keep->records);
         if (at == len) {

@@ -2,7 +2,6 @@
 use Rattle.std.proofs.Common.{arith, refl, sym, ap, inl, inr, ◌∙◌, ◌≡◌, ◌≢◌, ◌≤◌, ◌<◌, ◌⊎◌, ℕ, List, [], ◌∷◌, length, IsTrue, true}
 use Rattle.std.specs.Prelude.{Bool, ◌||◌, is_some, Option, Some, None, false, replicate, IfSome, MatchOption, Ok, Err, nat_eq, if◌then◌else◌}
 use Rattle.std.specs.Str.{IsUtf8}
-use Rattle.fe2o3_sasl_wire.specs.FrameView.{shown}
 use Rattle.fe2o3_scram.specs.Readings.{IsFirst, NoneHolds}
 use Rattle.fe2o3_scram.specs.ScramClient.{ClientSide, identity_named}
 use Rattle.fe2o3_sasl_core.specs.PlainWords.{ArePlainWords}
@@ -29,7 +28,6 @@ use Rattle.sasl_c.specs.Plain.{word_tests}
 use Rattle.sasl_c.specs.Connection.{Keeps, KeepsNoPartOf, accepts_extended, expected_number, side_tests, connection_struct}
 use Rattle.sasl_c.specs.SaslClient.{ClientTakes, ProfileIsReached, HasNoHostname, CanSendMessage, CanSendWords, HasNoClientWords, IsClient, IsDueIn, IsPlainOf, message_number, message_tests, IsHostname, IsNoClient, IsNoProfile, IsProfile, client_word_tests, is_strict_plain, ReadsClient, ReceivesAsClient, WritesProfile, WritesSide}
 use Rattle.sasl_c.proofs.StatusLemmas.{carried}
-use Rattle.fe2o3_sasl_core.specs.declared.sasl_profile.error.ProfileError.TheVariants.{OutOfMemory}
 
 -- ---- structs
 
