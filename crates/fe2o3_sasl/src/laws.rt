@@ -236,7 +236,8 @@ pub fn worked_clients()
 /// Laws of every mechanism: each acceptor and each profile has at most one reply to a frame; a server offers what a
 /// profile asks for exactly if both are of one mechanism; PLAIN lets in the same user with the same password and
 /// rejects all others, in words without zero bytes (RFC 4616, section 2); a server of PLAIN over records names the user
-/// and the identity of the profile that it logs in; ANONYMOUS lets in each client that asks for it; a server always offers something; and the six profiles have six names.
+/// and the identity of the profile that it logs in; ANONYMOUS lets in each client that asks for it; a server always
+/// offers something; and the six profiles have six names.
 pub fn mechanisms()
     ensures one_acceptor_reply { OneAcceptorReply }
     ensures one_profile_reply { OneProfileReply }

@@ -43,7 +43,8 @@ strict_plain_machine plain nonce frame reply next = (LogsOneIn plain.user plain.
 
 -- a message is rejected that is not accepted for a test, and every other that is not of the user with the password
 abbrev pub OneRejected : List ℕ → List ℕ → List ℕ → Rejection → Type 0
-OneRejected user password text reasons.InvalidMessage = (message : PlainParts) → SpellsPlain message text → ¬ IsTaken false message
+OneRejected user password text reasons.InvalidMessage =
+    (message : PlainParts) → SpellsPlain message text → ¬ IsTaken false message
 OneRejected user password text reasons.WrongPassword = (message : PlainParts) × SpellsPlain message text × IsTaken false message
     × ¬ IsMessageOf user password message
 OneRejected user password text reason = ⊥

@@ -21,7 +21,8 @@ use Rattle.sasl_c.specs.declared.client.ScramClient.{ScramClient as ScramStruct}
 use Rattle.sasl_c.specs.declared.sasl_client.SaslLogin.{SaslLogin as Login}
 use Rattle.sasl_c.specs.Client.{IsReached}
 use Rattle.sasl_c.specs.SaslClient.{ProfileIsReached, IsProfile, ClientIsReached}
-use Rattle.sasl_c.proofs.ClientLemmas.{answer_fits, answering_login, verifying_login, moved_login, concluding_login, signing_login}
+use Rattle.sasl_c.proofs.ClientRoomLemmas.{answer_fits}
+use Rattle.sasl_c.proofs.ClientLemmas.{answering_login, verifying_login, moved_login, concluding_login, signing_login}
 use Rattle.sasl_c.proofs.StateLemmas.{reached}
 use Rattle.sasl_c.proofs.StatusLemmas.{carried}
 use Rattle.fe2o3_sasl_core.specs.declared.sasl_profile.error.ProfileError.{ProfileError}

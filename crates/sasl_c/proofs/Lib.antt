@@ -2,6 +2,7 @@ pub mod RoomLemmas
 pub mod StatusLemmas
 pub mod TextLemmas
 pub mod RecordLemmas
+pub mod ClientRoomLemmas
 pub mod ClientLemmas
 pub mod IdentityLemmas
 pub mod ServerLemmas
@@ -15,6 +16,7 @@ pub mod SaslClientLemmas
 pub mod LineLemmas
 pub mod ExchangeLemmas
 pub mod SaslServerLemmas
+pub mod PasswordReplyLemmas
 pub mod ServerReplyLemmas
 pub mod ServerCallLemmas
 pub mod ReadingLemmas

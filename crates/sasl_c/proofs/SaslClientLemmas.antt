@@ -309,7 +309,8 @@ pub ruleset no_profiles = (no_scram, no_plain, no_anonymous, no_external, no_tra
 -- a profile of a single message, as the struct says whether its init was sent last
 pub message_begun : (login : Login) (scram : ScramStruct) (mechanism : MessageMechanism) (message : List ℕ)
     (begun after : Profile) → login.mechanism ≡ message_number mechanism → message ≡ login.login.username.now
-    → NamesNoIdentity login.login → begun ≡ MessageProfile mechanism message false → (scram.state ≡ 1 → after ≡ after_init begun (replicate 32 0))
+    → NamesNoIdentity login.login → begun ≡ MessageProfile mechanism message false
+    → (scram.state ≡ 1 → after ≡ after_init begun (replicate 32 0))
     → (scram.state ≢ 1 → after ≡ begun) → IsProfile login scram after
 message_begun login scram mechanism message begun after number same can is sent not_sent = go (same_number_or scram.state 1)
   where

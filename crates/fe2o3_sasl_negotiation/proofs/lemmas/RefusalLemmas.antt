@@ -104,7 +104,7 @@ machine_refused (ScramProfile client) hostname nonce (frames.Init mechanism resp
 machine_refused (ScramProfile client) hostname nonce (frames.Response text) reply fault moved is m = m.1
 machine_refused (PlainProfile identity user password) hostname nonce (frames.Challenge text) reply fault moved is m = m.1
 machine_refused (PlainProfile identity user password) hostname nonce (frames.Outcome code more) reply fault moved is m = m.1
-machine_refused (PlainProfile identity user password) hostname nonce (frames.Init mechanism response host) reply fault moved is m =
+machine_refused (PlainProfile identity user word) hostname nonce (frames.Init mechanism response host) reply fault moved is m =
     m.1
 machine_refused (PlainProfile identity user password) hostname nonce (frames.Response text) reply fault moved is m = m.1
 machine_refused AnonymousProfile hostname nonce (frames.Challenge text) reply fault moved is m = m.1

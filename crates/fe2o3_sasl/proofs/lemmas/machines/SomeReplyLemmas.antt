@@ -88,7 +88,8 @@ pub some_profile_reply : SomeProfileReply
 some_profile_reply (ScramProfile client) hostname nonce frame =
     let move = some_move hostname client nonce frame in (move.0, ScramProfile move.1, move.2)
 some_profile_reply (PlainProfile identity user password) hostname nonce (frames.Mechanisms names) = listed
-    (PlainProfile identity user password) hostname nonce names (contains_or names (profile_name (PlainProfile identity user password)))
+    (PlainProfile identity user password) hostname nonce names
+    (contains_or names (profile_name (PlainProfile identity user password)))
 some_profile_reply (PlainProfile identity user password) hostname nonce (frames.Outcome code more) =
     (Ok (frames.Outcome code more), PlainProfile identity user password, (refl, refl))
 some_profile_reply (PlainProfile identity user password) hostname nonce (frames.Init mechanism response host) =
