@@ -185,7 +185,8 @@ class Tunnel:
 
 def handed_over(plain: socket.socket, secure: ssl.SSLSocket) -> None:
     """Hands bytes over until one side ends, and then ends the other."""
-    with contextlib.suppress(OSError), secure:
+    # (ValueError where the login has ended, and its socket is closed)
+    with contextlib.suppress(OSError, ValueError), secure:
         relay(plain, secure)
     with contextlib.suppress(OSError):
         plain.shutdown(socket.SHUT_WR)

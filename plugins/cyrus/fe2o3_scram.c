@@ -162,7 +162,22 @@ static uint32_t known_kind(const struct exchange *one, const sasl_utils_t *utils
     return 0;
 }
 
-/* The client. Learns who logs in, and keeps the password until it is used. */
+/* The client. Passes the names to libsasl2, which makes them canonical. A client that is to act for another never acts for
+ * itself in its place. */
+static int pass_names(const struct exchange *one, const sasl_client_params_t *params, const struct question *name,
+    const struct question *user, sasl_out_params_t *result)
+{
+    sasl_conn_t *conn = params->utils->conn;
+    unsigned whose = one->acts ? SASL_CU_AUTHID : SASL_CU_AUTHID | SASL_CU_AUTHZID;
+    int code = params->canon_user(conn, name->text, (unsigned)name->len, whose, result);
+    if (code == SASL_OK && one->acts)
+        code = params->canon_user(conn, user->text, (unsigned)user->len, SASL_CU_AUTHZID, result);
+    if (code == SASL_OK && one->acts && result->ulen == 0)
+        return refused(one, params->utils, SASL_BADPARAM, "the authorization identity is empty");
+    return code;
+}
+
+/* Learns who logs in, and keeps the password until it is used. */
 static int identify(struct exchange *one, sasl_client_params_t *params, sasl_interact_t **prompts,
     sasl_out_params_t *result)
 {
@@ -186,12 +201,7 @@ static int identify(struct exchange *one, sasl_client_params_t *params, sasl_int
         return refused(one, utils, SASL_BUFOVER, "the password is too long");
     memmove(one->password, word->text, word->len);
     one->password_len = word->len;
-    if (!one->acts)
-        return params->canon_user(
-            utils->conn, name->text, (unsigned)name->len, SASL_CU_AUTHID | SASL_CU_AUTHZID, result);
-    code = params->canon_user(utils->conn, name->text, (unsigned)name->len, SASL_CU_AUTHID, result);
-    return code != SASL_OK ? code
-        : params->canon_user(utils->conn, user->text, (unsigned)user->len, SASL_CU_AUTHZID, result);
+    return pass_names(one, params, name, user, result);
 }
 
 /* Puts into the login what the client says of its channel, as libsasl2 has decided it by the server's mechanisms. */

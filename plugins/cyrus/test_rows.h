@@ -161,6 +161,8 @@ static const struct login logins[] = {
         .ours = SASL_BUFOVER, .theirs = SASL_NOUSER, .says = "too small", .flags = ALLOWS | THEIR_CLIENT},
     {.what = "acting as a name of 300 bytes", .name = "user", .user = LONG, .password = "pencil", .side = CLIENT,
         .ours = SASL_BUFOVER, .theirs = SKIP, .says = "Too long", .flags = ALLOWS},
+    {.what = "an authorization identity of spaces", .name = "user", .user = "  ", .password = "pencil", .side = CLIENT,
+        .ours = SASL_BADPARAM, .theirs = SKIP, .says = "the authorization identity is empty", .flags = ALLOWS},
     {.what = "an empty authorization identity", .name = "user", .user = "other", .password = "pencil", .side = SERVER,
         .ours = SASL_BADPROT, .theirs = SKIP, .says = "the authorization identity is empty", .message = 1,
         .at = "a=other", .with = "a=", .flags = ALLOWS},
