@@ -4,7 +4,7 @@ use crate::calls::filled;
 use crate::client::{Who, INITIAL};
 use crate::frames::view_frame;
 use crate::keys::NO_KEYS;
-use crate::messages::{plain_message, plain_message_as};
+use crate::messages::plain_message;
 use crate::peeks::{end_of_input, foreign_header, nonce_for, peek_body, wants_nonce};
 use crate::policies::{refusal_data, Choice};
 use crate::{sys, CachedKeys, ClientPolicy, ConnectionError, Frame, PlainError, ScramClient, ScramVersion};
@@ -68,7 +68,7 @@ impl SaslProfile {
     /// Returns PLAIN with this user name and this password, if a message can have them (RFC 4616, section 2): like
     /// [`plain_message`], an empty word and a zero byte are errors. `SaslProfile::Plain` sends every word.
     pub fn plain_checked(username: &str, password: &str) -> Result<Self, PlainError> {
-        plain_message(username, password)?;
+        plain_message(None, username, password)?;
         Ok(SaslProfile::Plain { username: username.to_owned(), password: password.to_owned() })
     }
 
@@ -88,7 +88,7 @@ impl SaslProfile {
         match self {
             SaslProfile::Anonymous | SaslProfile::AnonymousAs(_) => None,
             SaslProfile::Plain { username, password } | SaslProfile::PlainAs { username, password, .. } => {
-                plain_message_as(&identity, &username, &password).ok()?;
+                plain_message(Some(&identity), &username, &password).ok()?;
                 Some(SaslProfile::PlainAs { identity, username, password })
             }
             SaslProfile::External | SaslProfile::ExternalAs(_) if identity.contains('\0') => None,

@@ -64,10 +64,7 @@ pub use errors::{
 };
 pub use frames::{offers, view_frame, Frame};
 pub use keys::CachedKeys;
-pub use messages::{
-    external_verify, plain_claimed_identity, plain_claimed_user, plain_message, plain_message_as, plain_verify,
-    plain_verify_with_rights,
-};
+pub use messages::{external_verify, plain_claimed_identity, plain_claimed_user, plain_message, plain_verify};
 pub use password::Password;
 pub use policies::ClientPolicy;
 pub use preparation::{saslprep, Unassigned};

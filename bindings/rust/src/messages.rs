@@ -13,43 +13,42 @@ fn number_of(passwords: PlainPasswords) -> u32 {
     }
 }
 
-/// Returns the message by which a client logs in with PLAIN (RFC 4616, section 2). It has the password in clear, so send
-/// it over TLS only. Prepare a non-ASCII password first ([`saslprep`](crate::saslprep)).
+/// Returns the message by which a client logs in with PLAIN (RFC 4616, section 2). It asks to act for this identity, or with
+/// `None` for the user itself. It has the password in clear, so send it over TLS only. Prepare a non-ASCII password first
+/// ([`saslprep`](crate::saslprep)).
 ///
-/// An empty user name, an empty password and a zero byte in a word are errors.
+/// An empty user name, an empty password, a zero byte in a word and an identity of more than 256 bytes are errors. The empty
+/// identity is that of `None`.
 ///
 /// ```
 /// use fe2o3_sasl_proved::*;
 ///
 /// # fn main() -> Result<(), Box<dyn std::error::Error>> {
 /// let record = ScramRecord::from_password(ScramVersion::Sha256, "pencil", &generate_nonce()[..16], 4096)?;
-/// let message = plain_message("user", "pencil")?; // the client
+/// let message = plain_message(None, "user", "pencil")?; // the client
 /// assert_eq!(plain_claimed_user(&message).as_deref(), Some("user")); // the server
-/// plain_verify(Some(&record), PlainPasswords::Typed, 4096, &message)?;
+/// plain_verify(Some(&record), PlainPasswords::Typed, 4096, None, &message)?;
 /// # Ok(())
 /// # }
 /// ```
-pub fn plain_message(username: &str, password: &str) -> Result<Vec<u8>, PlainError> {
-    plain_message_as("", username, password)
-}
-
-/// Returns the message by which a client that acts for this identity logs in with PLAIN (RFC 4616, section 2), like
-/// [`plain_message`]. The empty identity means the user itself. An identity of more than 256 bytes is an error too.
+///
+/// A client that acts for another identity:
 ///
 /// ```
 /// use fe2o3_sasl_proved::*;
 ///
 /// # fn main() -> Result<(), Box<dyn std::error::Error>> {
 /// let record = ScramRecord::from_password(ScramVersion::Sha256, "pencil", &generate_nonce()[..16], 4096)?;
-/// let message = plain_message_as("bob", "alice", "pencil")?; // the client
+/// let message = plain_message(Some("bob"), "alice", "pencil")?; // the client
 /// assert_eq!(plain_claimed_user(&message).as_deref(), Some("alice")); // the server
 /// assert_eq!(plain_claimed_identity(&message).as_deref(), Some("bob"));
 /// let may_act_for = ["bob".to_owned()]; // those that alice may act for
-/// plain_verify_with_rights(Some(&record), PlainPasswords::Typed, 4096, &may_act_for, &message)?;
+/// plain_verify(Some(&record), PlainPasswords::Typed, 4096, Some(&may_act_for), &message)?;
 /// # Ok(())
 /// # }
 /// ```
-pub fn plain_message_as(identity: &str, username: &str, password: &str) -> Result<Vec<u8>, PlainError> {
+pub fn plain_message(acts_for: Option<&str>, username: &str, password: &str) -> Result<Vec<u8>, PlainError> {
+    let identity = acts_for.unwrap_or_default();
     filled(identity.len() + username.len() + password.len() + 2, |out, len| {
         // SAFETY: the words are slices that live through the call; the room and its length are borrowed for writing,
         // and so overlap nothing.
@@ -95,35 +94,15 @@ pub fn plain_claimed_identity(message: &[u8]) -> Option<String> {
 }
 
 /// Tests a message of PLAIN against the record of the user that it claims ([`plain_claimed_user`]). Only `Ok` means that
-/// this user is authenticated. The error is `AuthenticationFailed`, or `OutOfMemory`. A message that asks to act for
-/// another identity than its user is rejected ([`plain_verify_with_rights`]).
+/// this user is authenticated, and may act for the identity that the message asks for ([`plain_claimed_identity`]). The
+/// error is `AuthenticationFailed`, or `OutOfMemory`.
+///
+/// The user may act for these identities besides itself (RFC 4422, section 2), which have no NUL. With `None` the server
+/// rejects a message that names another identity than its user, before it tests the password.
 ///
 /// For an unknown user pass a [`ScramRecord::mock`], or `None`: the password is then hashed with SHA-256 and this iteration
 /// count, and rejected. That takes as many HMAC values as the login of a known user whose record has this count.
 pub fn plain_verify(
-    record: Option<&ScramRecord>,
-    passwords: PlainPasswords,
-    iterations: u32,
-    message: &[u8],
-) -> Result<(), ServerScramErrorKind> {
-    verified(record, passwords, iterations, None, message)
-}
-
-/// Tests a message of PLAIN like [`plain_verify`], but the user may also act for these identities besides itself (RFC 4422,
-/// section 2). They are without NUL. Only `Ok` means that the user is authenticated and may act for the identity that the
-/// message asks for ([`plain_claimed_identity`]). The error for another identity is that of a wrong password.
-pub fn plain_verify_with_rights(
-    record: Option<&ScramRecord>,
-    passwords: PlainPasswords,
-    iterations: u32,
-    identities: &[String],
-    message: &[u8],
-) -> Result<(), ServerScramErrorKind> {
-    verified(record, passwords, iterations, Some(identities), message)
-}
-
-/// Tests a message of PLAIN, whose user may act for these identities. With `None` the server accepts no other identity.
-fn verified(
     record: Option<&ScramRecord>,
     passwords: PlainPasswords,
     iterations: u32,

@@ -232,22 +232,22 @@ fn a_client_that_names_an_identity_is_strict() {
 
 #[test]
 fn plain_messages() {
-    let message = plain_message_as("bob", "user", "pencil").unwrap();
+    let message = plain_message(Some("bob"), "user", "pencil").unwrap();
     assert_eq!(message, b"bob\0user\0pencil");
     assert_eq!(plain_claimed_user(&message).as_deref(), Some("user"));
     assert_eq!(plain_claimed_identity(&message).as_deref(), Some("bob"));
     assert_eq!(plain_claimed_identity(b"user\0user\0pencil").as_deref(), Some("user"));
     assert_eq!(plain_claimed_identity(b"\0user\0pencil"), None);
-    assert_eq!(plain_message_as("", "user", "pencil"), plain_message("user", "pencil"));
+    assert_eq!(plain_message(Some(""), "user", "pencil"), plain_message(None, "user", "pencil"));
     for (identity, username, password, error) in [
         ("bo\0b", "user", "pencil", PlainError::ProhibitedCharacter),
         (&"x".repeat(257), "user", "pencil", PlainError::TooLong),
         ("bob", "", "pencil", PlainError::NamesNoUser),
         ("bob", "user", "", PlainError::EmptyPassword),
     ] {
-        assert_eq!(plain_message_as(identity, username, password), Err(error));
+        assert_eq!(plain_message(Some(identity), username, password), Err(error));
     }
-    assert!(plain_message_as(&"x".repeat(256), "user", "pencil").is_ok());
+    assert!(plain_message(Some(&"x".repeat(256)), "user", "pencil").is_ok());
 }
 
 #[test]
@@ -264,11 +264,11 @@ fn plain_rights() {
         (b"bob\0user\0pencils", &["bob"], refused),
     ] {
         let identities: Vec<String> = identities.iter().map(|name| name.to_string()).collect();
-        let verify = |record| plain_verify_with_rights(record, PlainPasswords::Typed, 4096, &identities, message);
+        let verify = |record| plain_verify(record, PlainPasswords::Typed, 4096, Some(&identities), message);
         assert_eq!(verify(Some(&record)), wanted, "{:?}", (text(message), &identities));
         assert_eq!(verify(None), refused);
         // (without rights, only the user's own name)
-        let own = plain_verify(Some(&record), PlainPasswords::Typed, 4096, message);
+        let own = plain_verify(Some(&record), PlainPasswords::Typed, 4096, None, message);
         assert_eq!(own, if message.starts_with(b"bob") { refused } else { wanted });
     }
 }

@@ -197,7 +197,7 @@ fn records_of_fields() {
 
 #[test]
 fn plain_over_messages() {
-    let message = plain_message("user", "pencil").unwrap();
+    let message = plain_message(None, "user", "pencil").unwrap();
     assert_eq!(message, b"\0user\0pencil");
     assert_eq!(plain_claimed_user(&message).as_deref(), Some("user"));
     let failed = Err(ServerScramErrorKind::AuthenticationFailed);
@@ -205,7 +205,7 @@ fn plain_over_messages() {
         let known = record(version, &SALT);
         let unknown = ScramRecord::mock(version, &SECRET, "user", 16, 4096).unwrap();
         for passwords in [PlainPasswords::Typed, PlainPasswords::Prepared, PlainPasswords::Saslprep] {
-            let tested = |kept, message: &[u8]| plain_verify(kept, passwords, 4096, message);
+            let tested = |kept, message: &[u8]| plain_verify(kept, passwords, 4096, None, message);
             assert_eq!(tested(Some(&known), &message), Ok(()));
             assert_eq!(tested(Some(&known), b"user\0user\0pencil"), Ok(()));
             assert_eq!(tested(Some(&unknown), &message), failed);
@@ -214,19 +214,19 @@ fn plain_over_messages() {
                 assert_eq!(tested(Some(&known), other), failed);
             }
         }
-        let spelled = plain_message("user", "p\u{ad}encil").unwrap();
-        assert_eq!(plain_verify(Some(&known), PlainPasswords::Typed, 4096, &spelled), failed);
-        assert_eq!(plain_verify(Some(&known), PlainPasswords::Prepared, 4096, &spelled), failed);
-        assert_eq!(plain_verify(Some(&known), PlainPasswords::Saslprep, 4096, &spelled), Ok(()));
+        let spelled = plain_message(None, "user", "p\u{ad}encil").unwrap();
+        assert_eq!(plain_verify(Some(&known), PlainPasswords::Typed, 4096, None, &spelled), failed);
+        assert_eq!(plain_verify(Some(&known), PlainPasswords::Prepared, 4096, None, &spelled), failed);
+        assert_eq!(plain_verify(Some(&known), PlainPasswords::Saslprep, 4096, None, &spelled), Ok(()));
     }
     for none in [&b""[..], b"\0user\0", b"\0\0pencil", b"root\0\0pencil", b"\0user\0pen\0cil", b"\0\xff\0pencil"] {
         assert_eq!((plain_claimed_user(none), plain_claimed_identity(none)), (None, None));
     }
-    assert_eq!(plain_message("", "\0"), Err(PlainError::NamesNoUser));
-    assert_eq!(plain_message("us\0er", "pencil"), Err(PlainError::ProhibitedCharacter));
-    assert_eq!(plain_message("user", "pencil\0"), Err(PlainError::ProhibitedCharacter));
-    assert_eq!(plain_message("user", ""), Err(PlainError::EmptyPassword));
-    assert_eq!(plain_message("us\0er", ""), Err(PlainError::EmptyPassword));
+    assert_eq!(plain_message(None, "", "\0"), Err(PlainError::NamesNoUser));
+    assert_eq!(plain_message(None, "us\0er", "pencil"), Err(PlainError::ProhibitedCharacter));
+    assert_eq!(plain_message(None, "user", "pencil\0"), Err(PlainError::ProhibitedCharacter));
+    assert_eq!(plain_message(None, "user", ""), Err(PlainError::EmptyPassword));
+    assert_eq!(plain_message(None, "us\0er", ""), Err(PlainError::EmptyPassword));
     assert_eq!(PlainError::EmptyPassword.to_string(), "The password is empty");
 }
 

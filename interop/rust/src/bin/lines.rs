@@ -1,7 +1,7 @@
 //! The program of `../lines.c`, by the crate for Rust: the same words, the same lines.
 
-use fe2o3_sasl_proved::{external_verify, plain_claimed_identity, plain_claimed_user, plain_message_as};
-use fe2o3_sasl_proved::{plain_verify, plain_verify_with_rights, saslprep};
+use fe2o3_sasl_proved::{external_verify, plain_claimed_identity, plain_claimed_user, plain_message};
+use fe2o3_sasl_proved::{plain_verify, saslprep};
 use fe2o3_sasl_proved::{Password, PlainPasswords, ScramClient, ScramRecord, ScramVersion, ServerScramErrorKind};
 use fe2o3_sasl_proved::{Unassigned, UserRecords};
 use interop::{accepts_identities, identities, is_identity, named};
@@ -67,8 +67,8 @@ fn log_in(port: u16, client: &mut ScramClient) -> Result<(), Failure> {
 fn message_of(mechanism: &str, user: &str, options: &[&str]) -> Result<Vec<u8>, Failure> {
     let (password, identity) = (password()?, identities(options).pop().unwrap_or(""));
     Ok(match (mechanism, options.contains(&"prepared")) {
-        ("PLAIN", true) => plain_message_as(identity, user, saslprep(&password, Unassigned::Allowed)?.as_ref())?,
-        ("PLAIN", false) => plain_message_as(identity, user, &password)?,
+        ("PLAIN", true) => plain_message(Some(identity), user, saslprep(&password, Unassigned::Allowed)?.as_ref())?,
+        ("PLAIN", false) => plain_message(Some(identity), user, &password)?,
         _ => user.as_bytes().to_vec(),
     })
 }
@@ -142,12 +142,12 @@ fn serve_scram(lines: &mut Lines, first: &[u8], users: Users, options: &[&str]) 
 fn serve_plain(message: &[u8], users: &Users, options: &[&str]) -> Result<String, ServerScramErrorKind> {
     let name = plain_claimed_user(message).unwrap_or_default();
     let record = users.records(&name).pop();
-    if !accepts_identities(options) {
-        plain_verify(record.as_ref(), passwords(options), 4096, message)?;
+    let identities: Vec<String> = identities(options).into_iter().map(String::from).collect();
+    let allowed = accepts_identities(options).then_some(&identities[..]);
+    plain_verify(record.as_ref(), passwords(options), 4096, allowed, message)?;
+    if allowed.is_none() {
         return Ok(name);
     }
-    let identities: Vec<String> = identities(options).into_iter().map(String::from).collect();
-    plain_verify_with_rights(record.as_ref(), passwords(options), 4096, &identities, message)?;
     Ok(named(name, plain_claimed_identity(message)))
 }
 
