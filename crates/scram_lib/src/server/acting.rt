@@ -24,7 +24,11 @@ impl Service<'_, '_> {
 
     /// Returns the rights of the user whom a client claims, if it claims one: to act for the name of its records, and for
     /// each identity that the arguments give to that name.
-    pub(crate) fn rights(&self, alloc: Global, claimed: Option<&str>) -> Result<ActingRights, Stop>
+    pub(crate) fn rights(
+        &self,
+        alloc: Global,
+        claimed: Option<&str>,
+    ) -> Result<ActingRights, OutOfMemory>
         ensures { IfOk result (AreRightsOf self.now.saslprep
             (option_map (λ words. map (λ word. word.now) words.now) self.now.may_act)
             (option_map (λ sent. sent.now) claimed.entry)) }

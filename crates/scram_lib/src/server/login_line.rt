@@ -6,8 +6,8 @@ ghost use Rattle.scram_lib.specs.LoginLine.{login_line, user_named};
 ghost use Rattle.scram_lib.specs.Names.{IsLookedUp};
 
 use crate::server::Service;
+use fe2o3_scram::OutOfMemory;
 use scram_base_lib::shown::shown;
-use scram_base_lib::stop::Stop;
 use std::alloc::{AllocError, Global};
 
 /// Returns the line that says who has logged in: the user who sent this name, by the name of its records.
@@ -16,7 +16,7 @@ pub(crate) fn login_line(
     service: &Service<'_, '_>,
     sent: &str,
     acts_for: Option<&str>,
-) -> Result<Vec<u8>, Stop>
+) -> Result<Vec<u8>, OutOfMemory>
     ensures { IfOk result (λ line. (name : Option (List ℕ)) × IsLookedUp service.now.saslprep sent.now name
         × (line.items ≡ login_line (user_named sent.now name) sent.now (option_map (λ name. name.now) acts_for.entry))) }
 {
