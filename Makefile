@@ -32,7 +32,8 @@ LINT += gate/prose gate/pages
 
 # The models that made the rows of tests: those that need a few seconds, and those that need a minute, GNU libidn
 # (Debian's package idn) or GNU SASL (gsasl).
-QUICK_MODELS = models/audit_rows models/broker_rows models/cbind_flag_runs models/channel_audits models/channel_rows models/frames models/identity_rows models/name_rows models/strict_messages generate/saslprep_tables
+QUICK_MODELS = models/audit_rows models/broker_rows models/cbind_flag_runs models/channel_audits models/channel_rows \
+    models/frames models/identity_rows models/name_rows models/strict_messages generate/saslprep_tables
 SLOW_MODELS = models/negotiations models/saslprep_answers models/saslprep_passwords
 
 lint:

@@ -2,9 +2,9 @@
 """Logins of programs that use Cyrus SASL, each side by the plugin or by Cyrus SASL's own: `make plugin-logins`.
 
 Prints a table, a line for each program, pair of sides and mechanism: how many logins succeeded, and how many with a
-wrong password, an unknown name or an authorization identity that is not allowed were refused. What is missing is told, and is no failure. Ends with 1 where a line is
-not as it should be. All files are in a folder of its own, all ports are free ones of 127.0.0.1, and what it starts it
-ends.
+wrong password, an unknown name or an authorization identity that is not allowed were refused. Missing programs are
+reported, and are no failure. Ends with 1 where a line is not as it should be. All files are in a folder of its own,
+all ports are free ones of 127.0.0.1, and what it starts it ends.
 """
 import argparse
 import base64

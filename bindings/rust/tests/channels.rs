@@ -2,6 +2,9 @@
 //! `hmac`, and channel bindings those of its `base64`, for the password `pencil`, a salt of 32 bytes 03, a client's nonce
 //! of 32 bytes 01 and a server's of 32 bytes 02.
 
+mod common;
+
+use common::{log_in, text};
 use fe2o3_sasl_proved::*;
 
 type Server = ScramAuthenticator<SingleScramCredential>;
@@ -58,10 +61,6 @@ const PROOFS: [[(&str, &str); 3]; 3] = [
     ],
 ];
 
-fn text(bytes: &[u8]) -> &str {
-    std::str::from_utf8(bytes).unwrap()
-}
-
 fn client(version: ScramVersion) -> ScramClient {
     ScramClient::new("user", "pencil", version)
 }
@@ -88,15 +87,6 @@ fn opened(server: &mut Server, header: &str, extension: &str) -> Result<(), Serv
     let message = format!("{}{}{}", header, BARE, extension);
     let answer = server.compute_server_first_message_with(message.as_bytes(), &[2; 32])?;
     assert_eq!(text(&answer.unwrap()), server_first());
-    Ok(())
-}
-
-/// The whole login of both sides, or the error of the server.
-fn log_in(client: &mut ScramClient, server: &mut Server) -> Result<(), ServerScramErrorKind> {
-    let first = server.compute_server_first_message(&client.compute_client_first_message())?.unwrap();
-    let last = client.compute_client_final_message(text(&first)).unwrap();
-    let last = server.compute_server_final_message(&last)?.unwrap();
-    client.validate_server_final(&last).unwrap();
     Ok(())
 }
 

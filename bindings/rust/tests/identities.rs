@@ -2,6 +2,9 @@
 //! Python's `hashlib` and `hmac`, and channel bindings those of its `base64`, for SCRAM-SHA-256, the password `pencil`, a
 //! salt of 32 bytes 03, a client's nonce of 32 bytes 01 and a server's of 32 bytes 02.
 
+mod common;
+
+use common::{log_in, text};
 use fe2o3_sasl_proved::*;
 
 const VERSION: ScramVersion = ScramVersion::Sha256;
@@ -98,10 +101,6 @@ impl UserRecords for Store {
     }
 }
 
-fn text(bytes: &[u8]) -> &str {
-    std::str::from_utf8(bytes).unwrap()
-}
-
 fn store(identities: &[&str]) -> Store {
     let record = ScramRecord::from_password(VERSION, "pencil", &[3; 32], 4096).unwrap();
     let identities = identities.iter().map(|name| name.to_string()).collect();
@@ -122,15 +121,6 @@ fn client(password: &str, identity: &str) -> ScramClient {
 
 fn server_first() -> String {
     format!("{},s=AwMDAwMDAwMDAwMDAwMDAwMDAwMDAwMDAwMDAwMDAwM=,i=4096", NONCES)
-}
-
-/// The whole login of both sides, or the error of the server.
-fn log_in(client: &mut ScramClient, server: &mut ScramAuthenticator<Store>) -> Result<(), ServerScramErrorKind> {
-    let first = server.compute_server_first_message(&client.compute_client_first_message())?.unwrap();
-    let last = client.compute_client_final_message(text(&first)).unwrap();
-    let last = server.compute_server_final_message(&last)?.unwrap();
-    client.validate_server_final(&last).unwrap();
-    Ok(())
 }
 
 #[test]
