@@ -4,6 +4,7 @@ pub mod OneFrameLemmas
 pub mod ActsAsLemmas
 pub mod StayLemmas
 pub mod PairLemmas
+pub mod BoundPairLemmas
 pub mod ExchangedLemmas
 pub mod UnalteredPairLemmas
 pub mod CutLemmas

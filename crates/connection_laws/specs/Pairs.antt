@@ -1,11 +1,15 @@
 -- What the bytes of two connections say of both (RFC 5802, sections 3 and 5; AMQP 1.0, part 5, section 5.3). Each law
 -- is the contract of a clause in `pairs`.
-use Rattle.std.specs.Prelude.{◌≡◌, ◌≢◌, ℕ, suc, ◌+◌, ◌≤◌, false, Option, Some, List, ◌++◌, length, slice_get, Ok}
+use Rattle.std.specs.Prelude.{◌≡◌, ◌≢◌, ◌⊎◌, ℕ, suc, ◌+◌, ◌≤◌, false, Option, Some, List, ◌++◌, length, slice_get, Ok}
 use Rattle.std.specs.List.{Contains}
 use Rattle.fe2o3_sasl_wire.specs.declared.amqp_types.SaslCode.TheVariants as outcomes
 use Rattle.fe2o3_sasl_wire.specs.SaslFrames as frames
 use Rattle.fe2o3_sasl_wire.specs.SaslFrames.{IsBytes}
+use Rattle.fe2o3_scram.specs.BoundChannels.{BindOne}
+use Rattle.fe2o3_scram.specs.ChannelBinding.{AcceptsFlag}
 use Rattle.fe2o3_scram.specs.Credentials.{Provider}
+use Rattle.fe2o3_scram.specs.declared.scram_messages.channel_binding_flag.ChannelBindingFlag.TheVariants.{ClientSupports}
+use Rattle.fe2o3_scram.specs.declared.scram_messages.client_channel.ClientChannel.TheVariants.{Absent}
 use Rattle.fe2o3_scram.specs.ScramServer.{Initial}
 use Rattle.fe2o3_scram.specs.Texts.{Part}
 use Rattle.fe2o3_sasl_core.specs.Bodies.{SpellsBody}
@@ -18,9 +22,9 @@ use Rattle.fe2o3_sasl_core.specs.Profiles.{Profile, scram_profile}
 use Rattle.fe2o3_sasl_core.specs.Runs.{ProfileSteps}
 use Rattle.fe2o3_sasl_core.specs.SaslAcceptor.{ScramAcceptor, acceptor_names, acceptor_machine, acceptor_user}
 use Rattle.fe2o3_sasl_core.specs.ServerHistory.{Accepted, AcceptsAt, final_message, is_challenge, is_ok}
-use Rattle.fe2o3_sasl_core.specs.TwoSides.{Sides, sides_of, OkAt, VerifierText, ReportedAnswer, Takes, Shows, Agree, client_message, server_message}
+use Rattle.fe2o3_sasl_core.specs.TwoSides.{Sides, sides_of, OkAt, VerifierText, ReportedAnswer, Takes, Shows, Agree, MessagesCollide, client_message, server_message, keys_at}
 use Rattle.fe2o3_sasl_core.specs.UnalteredRuns.{HoldsLogin, NoncesArePrintable}
-use Rattle.fe2o3_sasl_core.specs.Verdicts.{Verdict, JudgesProof}
+use Rattle.fe2o3_sasl_core.specs.Verdicts.{Verdict, Agreed, JudgesProof}
 use Rattle.fe2o3_sasl_negotiation.specs.declared.progress.Progress.TheVariants.{Authenticated}
 use Rattle.fe2o3_sasl_negotiation.specs.Connections.{Piece, ClientNegotiated}
 use Rattle.fe2o3_sasl_negotiation.specs.Framing.{sasl_header, framed}
@@ -96,6 +100,40 @@ AcceptedProofsAreJudged = (login : Login) (provider : Provider) (client : Client
     → AcceptsLast server n text accepted
     → (k : ℕ) (answer : Answering) → Shows (sides client server) k n answer accepted
     → (verdict : Verdict) × JudgesProof (sides client server) answer accepted verdict
+
+-- ---- two channels
+
+-- both sides bind one channel, or their own differing AuthMessages share one HMAC value, each under its side's server key
+abbrev pub BindOneOrCollide : Sides → Answering → Accepted → Type 0
+BindOneOrCollide sides answer accepted = BindOne sides.login.channel sides.provider
+    ⊎ MessagesCollide sides answer accepted (keys_at sides.login answer).server_key accepted.challenge.stored.server_key
+
+-- a client that has a channel logged in, whatever mechanisms its server seemed to offer. If it verified the message by which
+-- a server accepted that takes no `y,,`, both bind one channel, or their AuthMessages collide (RFC 5802, section 6)
+abbrev pub LoggedInClientsBindOneChannel : Type 0
+LoggedInClientsBindOneChannel = (login : Login) (provider : Provider) (client : ClientOf login)
+    (server : ServerOf provider) → IsLogin login → HoldsRecords provider
+    → login.channel ≢ Absent → ¬ AcceptsFlag provider.rules ClientSupports → client.last.progress ≡ Authenticated
+    → (m : ℕ) × (text : List ℕ) × ReportsLast client m text
+    × ((n : ℕ) (accepted : Accepted) → OkAt (sides client server) n accepted
+    → Part text 0 (final_message provider accepted)
+    → (answer : Answering) × ReportedAnswer login client.connection.events client.connection.replies m answer
+    × BindOneOrCollide (sides client server) answer accepted)
+
+-- what holds if a verdict says that both sides agree
+abbrev pub IfAgreed : Type 0 → Verdict → Type 0
+IfAgreed Holds (Agreed user nonce parameters) = Holds
+IfAgreed Holds verdict = Unit {0}
+
+-- a server that takes no `y,,` accepted the proof that a client with a channel showed. If the verdict on the proof is that
+-- both agree, both bind one channel. So someone who has a channel to each of them cannot log in by the client's proof
+abbrev pub AcceptedProofsBindOneChannel : Type 0
+AcceptedProofsBindOneChannel = (login : Login) (provider : Provider) (client : ClientOf login) (server : ServerOf provider)
+    (n : ℕ) (text : List ℕ) (accepted : Accepted) → IsLogin login → IsSecret login.secret → HoldsRecords provider
+    → login.channel ≢ Absent → ¬ AcceptsFlag provider.rules ClientSupports → AcceptsLast server n text accepted
+    → (k : ℕ) (answer : Answering) → Shows (sides client server) k n answer accepted
+    → (verdict : Verdict) × JudgesProof (sides client server) answer accepted verdict
+    × IfAgreed (BindOne login.channel provider) verdict
 
 -- ---- from one server to another
 

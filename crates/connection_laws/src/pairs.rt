@@ -1,6 +1,6 @@
 //! What the bytes of two connections say of both.
 
-ghost use Rattle.connection_laws.specs.Pairs.{LoggedInClientsAgree, LoggedInServersAccept, AcceptedProofsAreJudged, RepeatedResponsesMeanOneNonce, ReplaysAreRejected, UnalteredConnectionsAgree};
+ghost use Rattle.connection_laws.specs.Pairs.{LoggedInClientsAgree, LoggedInServersAccept, AcceptedProofsAreJudged, LoggedInClientsBindOneChannel, AcceptedProofsBindOneChannel, RepeatedResponsesMeanOneNonce, ReplaysAreRejected, UnalteredConnectionsAgree};
 
 /// States what the login of a SCRAM client says of a SCRAM server, each over any bytes. The client logged in on one
 /// server-final message: the data of an outcome Ok, or a challenge if the login accepts the signature there. If the
@@ -20,9 +20,24 @@ pub fn proofs()
     ensures judged { AcceptedProofsAreJudged }
 {}
 
+/// States what channel binding protects against, of a SCRAM client and a SCRAM server, each over any bytes: someone who has
+/// one channel to the client and another to the server. The client has a channel: it binds it, or was offered no mechanism
+/// with `-PLUS` and says `y,,`. The server accepts no `y,,`. Neither side needs an option.
+///
+/// - `verified`: if the client logged in by the message by which the server accepted, both bind one channel, of one kind and
+///   with the same data, or their own differing AuthMessages share one HMAC value.
+/// - `shown`: if the server accepted the proof that the client showed, and both agree on the login, both bind one channel.
+///
+/// Each SCRAM profile that a policy with a channel selects meets the premise (`client_policy::laws::selected_channels`), and
+/// so does each SCRAM mechanism of a password server with channels (`password_server::laws::offered_scrams`).
+pub fn bound_channels()
+    ensures verified { LoggedInClientsBindOneChannel }
+    ensures shown { AcceptedProofsBindOneChannel }
+{}
+
 /// States what a replayed response needs. If two connections of SCRAM servers, each over any provider and any bytes,
-/// both log a client in on one text of a response, the calls that completed the two inits received one nonce. A
-/// connection whose calls received other nonces logs nobody in on a recorded response.
+/// both log a client in on one text of a response, a call of the one and a call of the other received one nonce. So a
+/// connection of whose nonces none was passed to a call of the recorded connection logs nobody in on its response.
 pub fn replays()
     ensures one_nonce { RepeatedResponsesMeanOneNonce }
     ensures rejected { ReplaysAreRejected }

@@ -23,7 +23,7 @@ pub use fe2o3_scram::laws::{
 };
 
 /// The headline theorem. Over every list of frame bodies, a SCRAM server answers Ok exactly when a response fits its
-/// open challenge and its proof meets the stored key, which closes the challenge; a SCRAM client reports Ok exactly on
+/// open challenge and its proof meets the stored key; a SCRAM client reports Ok exactly on
 /// the signature of its open answered challenge, in the outcome or, if it accepts that, in the challenge that it
 /// answered last; and if that verifier is one that a server issued, both agree on user name and client nonce, or their
 /// own differing AuthMessages share one HMAC value. If the init had two parts, or one side received no attribute of RFC
@@ -160,17 +160,17 @@ pub fn equal_messages()
 {}
 
 /// One strict side is enough. Where the client or the server is strict (`SaslScram::strict`,
-/// `ScramAuthenticator::strict`), as each is that binds a channel, one of them received no attribute of RFC 5802 in the
-/// place of an extension. So `Agree` speaks of the header, the data of the channel, the full nonce, salt and count too,
-/// whatever the other side is.
+/// `ScramAuthenticator::strict`), as to extensions each client is that has a channel and each server that binds one, one
+/// of them received no attribute of RFC 5802 in the place of an extension. So `Agree` speaks of the header, the data of
+/// the channel, the full nonce, salt and count too, whatever the other side is.
 pub fn strict_sides()
     ensures { OneStrictSideIsEnough }
 {}
 
-/// Channel binding (RFC 5802, section 6). Where a client has a channel (`SaslScram::with_channel`), the server takes no
-/// `y,,` and one of them is strict, as each is that binds a channel, equal AuthMessages of an answer and of an accepted
-/// response mean one channel: of one kind, with the same data. So where `verdicts` says that the sides agree, nobody
-/// has two channels between them, whatever mechanisms the client was offered.
+/// Channel binding (RFC 5802, section 6). A client has a channel if it binds it or says `y,,`. If it has one and the server
+/// accepts no `y,,`, equal AuthMessages of an answer and of an accepted response mean one channel: of one kind, with the same
+/// data. Neither side needs an option. If `verdicts` says that the sides agree, nobody has two channels between them,
+/// whatever mechanisms the client was offered.
 pub fn bound_channels()
     ensures { EqualMessagesBindOneChannel }
 {}

@@ -108,6 +108,7 @@ pub use fe2o3_scram::client_secret::ClientSecretError;
 pub use fe2o3_scram::client_secret::IterationLimits;
 pub use fe2o3_scram::credentials;
 pub use fe2o3_scram::credentials::AddRecordError;
+pub use fe2o3_scram::credentials::DEFAULT_SALT_LEN;
 pub use fe2o3_scram::credentials::DEFAULT_SCRAM_ITERATIONS;
 pub use fe2o3_scram::credentials::MultiRecordStore;
 pub use fe2o3_scram::credentials::ReadLinesError;

@@ -6,7 +6,7 @@ use Rattle.fe2o3_scram.specs.declared.channel_binding.ChannelBinding.{ChannelBin
 use Rattle.fe2o3_scram.specs.declared.hmac.ScramVersion.{ScramVersion}
 use Rattle.fe2o3_scram.specs.declared.scram_messages.channel_binding_flag.ChannelBindingFlag.{ChannelBindingFlag}
 use Rattle.fe2o3_scram.specs.declared.scram_messages.channel_binding_flag.ChannelBindingFlag.TheVariants.{ClientSupports, Required}
-use Rattle.fe2o3_scram.specs.declared.scram_messages.client_channel.ClientChannel.TheVariants.{Bound, NotOffered}
+use Rattle.fe2o3_scram.specs.declared.scram_messages.client_channel.ClientChannel.TheVariants.{Absent, Bound, NotOffered}
 use Rattle.fe2o3_scram.specs.ChannelBinding.{header_text, plus_name, own_header}
 use Rattle.fe2o3_scram.specs.ClientSecret.{Secret}
 use Rattle.fe2o3_scram.specs.Hmac.{mechanism_name}
@@ -96,3 +96,10 @@ abbrev pub RequiredChannelIsBound : Type 0
 RequiredChannelIsBound = (policy : ClientPolicy) (user : List ℕ) (secret : Secret) (names : List (List ℕ))
     (client : ClientSide) → policy.must_bind ≡ true → SelectsProfile policy user secret names (ScramProfile client)
     → (binding : ChannelBinding) × (policy.channel ≡ Some binding) × BindsExactly binding (ScramProfile client)
+
+-- each profile of SCRAM that a client with a channel selects has that channel, bound or not: what `bound_channels` of
+-- `connection_laws` asks of a client
+abbrev pub SelectedScramHasChannel : Type 0
+SelectedScramHasChannel = (policy : ClientPolicy) (user : List ℕ) (secret : Secret) (names : List (List ℕ))
+    (binding : ChannelBinding) (client : ClientSide) → policy.channel ≡ Some binding
+    → SelectsProfile policy user secret names (ScramProfile client) → client.channel ≢ Absent

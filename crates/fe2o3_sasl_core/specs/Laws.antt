@@ -172,15 +172,13 @@ OneStrictSideIsEnough = (sides : Sides) (k n : ℕ) (answer : Answering) (accept
     → T (is_strict_login sides.login) ⊎ T (is_strict sides.provider.rules) → NoneMisplacedIn answer accepted
 
 -- a client that has a channel cannot be talked out of binding it: of an answer and an accepted response with equal
--- AuthMessages, where the server takes no `y,,` and one side is strict, as each is that binds a channel, both bind one
--- channel, of one kind and with the same data
+-- AuthMessages, where the server takes no `y,,`, both bind one channel, of one kind and with the same data
 abbrev pub EqualMessagesBindOneChannel : Type 0
 EqualMessagesBindOneChannel = (sides : Sides) (k n : ℕ) (answer : Answering) (accepted : Accepted)
     → IsRecord accepted.challenge.stored → HoldsHeaderBytes (login_header sides.login)
     → AnswersAt sides.login sides.client_events sides.client_replies k answer
     → AcceptsAt sides.provider sides.server_events sides.server_replies n accepted
     → sides.login.channel ≢ Absent → ¬ AcceptsFlag sides.provider.rules ClientSupports
-    → T (is_strict_login sides.login) ⊎ T (is_strict sides.provider.rules)
     → client_message sides.login answer ≡ server_message accepted
     → (binding : ChannelBinding) × (sides.login.channel ≡ Bound binding) × ServerBinds sides.provider binding
 

@@ -18,6 +18,7 @@ pub mod ActingProfiles
 pub mod ProfileFaults
 pub mod Profiles
 pub mod SaslProfile
+pub mod ScramRejections
 pub mod ClientPolicy
 pub mod ClientPolicyLaws
 pub mod Costs

@@ -1,6 +1,6 @@
 -- Laws of claims, and of a server that keeps the last claim. Each is the contract of a clause of
 -- `login_attempts::laws`.
-use Rattle.std.specs.Prelude.{◌≡◌, ◌↔◌, ◌⊎◌, ◌≤◌, ◌+◌, ℕ, Option, Some, List, slice_get, Ok}
+use Rattle.std.specs.Prelude.{◌≡◌, ◌↔◌, ◌⊎◌, ◌≤◌, ◌+◌, ℕ, Option, Some, None, List, slice_get, Ok}
 use Rattle.fe2o3_sasl_wire.specs.SaslFrames.{SaslFrame}
 use Rattle.fe2o3_scram.specs.declared.hmac.ScramVersion.{ScramVersion}
 use Rattle.fe2o3_scram.specs.declared.scram_messages.server_rules.ServerRules.{ServerRules}
@@ -11,7 +11,7 @@ use Rattle.fe2o3_sasl_core.specs.Bodies.{SpellsBody}
 use Rattle.fe2o3_sasl_core.specs.ChallengeCounts.{BoundsChallenges, ChallengesOnlyAtInit}
 use Rattle.fe2o3_sasl_core.specs.Events.{Given, ServerSays}
 use Rattle.fe2o3_sasl_core.specs.ExtraChallengeLaws.{HasOneReply, HasSomeReply, IsError}
-use Rattle.fe2o3_sasl_core.specs.LoginAttempts.{Attempt, ClaimOf, ClaimsUser, IsAttempt, Recorded, recorded_hmacs, recorded_machine}
+use Rattle.fe2o3_sasl_core.specs.LoginAttempts.{Attempt, ClaimOf, ClaimsUser, IsAttempt, Recorded, recorded_hmacs, recorded_machine, with_late}
 use Rattle.fe2o3_sasl_core.specs.Runs.{Runs, AcceptorSteps}
 
 -- ---- claims
@@ -89,11 +89,17 @@ abbrev pub NoAnsweredInit : List Given → List ServerSays → ℕ → Type 0
 NoAnsweredInit events replies from =
     (at : ℕ) (attempt : Attempt) → from ≤ at → ¬ AnsweredInit events replies at attempt
 
--- the claim after a run is that of the last init that was answered, also by a rejection; if none was, it is that before
--- the run
+-- this claim, or if it claims no user, this claim with some user. `RecordsResponse` says of each step which user that is: the
+-- one that the response claims
+abbrev pub ContinuesClaim : Option Attempt → Option Attempt → Type 0
+ContinuesClaim None after = after ≡ None
+ContinuesClaim (Some attempt) after = (late : Option (List ℕ)) × (after ≡ Some (with_late attempt late))
+
+-- the claim after a run is that of the last init that was answered, also by a rejection, with some user if the
+-- init claims none; if no init was answered, it is that before the run
 abbrev pub LastAnsweredInitIsKept : {S : Type 0} → Machine S → Type 0
 LastAnsweredInitIsKept {S} machine = (server last : Recorded S) (events : List Given) (replies : List ServerSays)
     → Runs (AcceptorSteps (recorded_machine machine)) server events replies last
-    → (NoAnsweredInit events replies 0 × (last.last ≡ server.last))
+    → (NoAnsweredInit events replies 0 × ContinuesClaim server.last last.last)
     ⊎ ((at : ℕ) × (attempt : Attempt) × AnsweredInit events replies at attempt
-    × NoAnsweredInit events replies (at + 1) × (last.last ≡ Some attempt))
+    × NoAnsweredInit events replies (at + 1) × ContinuesClaim (Some attempt) last.last)

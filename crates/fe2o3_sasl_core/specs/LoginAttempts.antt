@@ -20,6 +20,7 @@ abbrev pub any_kind : ServerRules
 any_kind = record {
   accept_cbind_flag_y = false;
   strict = false;
+  reject_misplaced = false;
   channels =
       Some (record { tls_unique = Some no_data; tls_server_end_point = Some no_data; tls_exporter = Some no_data });
   accept_authzid = false;
@@ -85,10 +86,38 @@ pub record Recorded (S : Type 0) : Type 0 where
   pub inner : S
   pub last : Option Attempt
 
--- the last claim before a frame and after it: an init replaces it, and every other frame leaves it
+-- the user that an init claims, or that a late initial response claims if the init claims none
+abbrev pub or_late : Option (List ℕ) → Option (List ℕ) → Option (List ℕ)
+or_late (Some user) late = Some user
+or_late None late = late
+
+-- the claim of an init, with the user of a late initial response
+abbrev pub with_late : Attempt → Option (List ℕ) → Attempt
+with_late attempt late = record attempt { user = or_late attempt.user late }
+
+-- the user that a response claims after an init of this mechanism that claims this user: if it claims none, the response may
+-- be its initial response (RFC 4422, section 5)
+abbrev pub LateClaim : Option (List ℕ) → List ℕ → List ℕ → Option (List ℕ) → Type 0
+LateClaim (Some user) mechanism text late = late ≡ None
+LateClaim None mechanism text late = ClaimOf mechanism text late
+
+-- the user that a response claims after the last init, if there is one
+abbrev pub LateUser : Option Attempt → List ℕ → Option (List ℕ) → Type 0
+LateUser None text late = late ≡ None
+LateUser (Some attempt) text late = LateClaim attempt.user attempt.mechanism text late
+
+-- the last claim before a response and after it
+abbrev pub RecordsResponse : List ℕ → Option Attempt → Option Attempt → Type 0
+RecordsResponse text None after = after ≡ None
+RecordsResponse text (Some attempt) after = (late : Option (List ℕ))
+    × LateClaim attempt.user attempt.mechanism text late × (after ≡ Some (with_late attempt late))
+
+-- the last claim before a frame and after it: an init replaces it, a response may add the user, and every other frame leaves
+-- it
 abbrev pub RecordsFrame : SaslFrame → Option Attempt → Option Attempt → Type 0
 RecordsFrame (frames.Init mechanism response hostname) before after =
     (attempt : Attempt) × IsAttempt (frames.Init mechanism response hostname) attempt × (after ≡ Some attempt)
+RecordsFrame (frames.Response text) before after = RecordsResponse text before after
 RecordsFrame frame before after = after ≡ before
 
 -- the machine of a server that keeps the last claim: the acceptor answers each frame, whatever its reply is
@@ -107,9 +136,16 @@ abbrev pub IsInitFrame : SaslFrame → Type 0
 IsInitFrame (frames.Init mechanism response hostname) = Unit {0}
 IsInitFrame frame = ⊥
 
--- where the server allocates: at each init, which it copies, and where the acceptor does
+-- memory is requested to read the user that a response claims
+abbrev pub LateAllocates : Option Attempt → SaslFrame → Type 0
+LateAllocates (Some attempt) (frames.Response text) = (attempt.user ≡ None) × ClaimAllocates attempt.mechanism text
+LateAllocates last frame = ⊥
+
+-- where the server allocates: at each init, which it copies, for the user that a response claims, and where the acceptor
+-- does
 abbrev pub recorded_allocates : {S : Type 0} → (S → SaslFrame → Type 0) → Recorded S → SaslFrame → Type 0
-recorded_allocates allocates server frame = IsInitFrame frame ⊎ allocates server.inner frame
+recorded_allocates allocates server frame =
+    IsInitFrame frame ⊎ (LateAllocates server.last frame ⊎ allocates server.inner frame)
 
 -- how many HMAC values the server makes (RFC 5802, section 3): as many as the acceptor
 abbrev pub recorded_hmacs : {S : Type 0} → (S → SaslFrame → ℕ → Type 0) → Recorded S → SaslFrame → ℕ → Type 0

@@ -1,17 +1,19 @@
 -- A server of SCRAM, PLAIN, ANONYMOUS and EXTERNAL over one list of records, of which some mechanisms are offered (AMQP
 -- 1.0, part 5, section 5.3.3.1).
-use Rattle.std.specs.Prelude.{◌≡◌, ◌<◌, ◌&&◌, ℕ, Bool, true, false, not, is_some, Option, Some, None, MatchOption, List, [], ◌∷◌, codes, option_map}
+use Rattle.std.specs.Prelude.{◌≡◌, ◌<◌, ◌&&◌, ◌||◌, T, ℕ, Bool, true, false, not, is_some, Option, Some, None, MatchOption, List, [], ◌∷◌, codes, option_map}
 use Rattle.std.specs.Arc.{arc_value}
 use Rattle.fe2o3_sasl_wire.specs.SaslFrames.{SaslFrame}
 use Rattle.fe2o3_scram.specs.ActingRights.{Rights, some_rights}
+use Rattle.fe2o3_scram.specs.ChannelBinding.{AcceptsFlag, is_strict}
 use Rattle.fe2o3_scram.specs.declared.channel_binding.ChannelBindings.{ChannelBindings}
+use Rattle.fe2o3_scram.specs.declared.scram_messages.channel_binding_flag.ChannelBindingFlag.TheVariants.{ClientSupports}
 use Rattle.fe2o3_scram.specs.declared.hmac.ScramVersion.{ScramVersion}
 use Rattle.fe2o3_scram.specs.declared.hmac.ScramVersion.TheVariants.{Sha1, Sha256, Sha512}
 use Rattle.fe2o3_scram.specs.declared.scram_messages.server_rules.ServerRules.{ServerRules}
-use Rattle.fe2o3_scram.specs.Credentials.{Provider, Record, Store, kept, serving, with_rights}
+use Rattle.fe2o3_scram.specs.Credentials.{Provider, Store, kept, serving, with_rights}
 use Rattle.fe2o3_scram.specs.Mixed.{MultiRecords, is_version, provider_for}
 use Rattle.fe2o3_scram.specs.MockSettings.{MockSettings, mocking}
-use Rattle.fe2o3_scram.specs.ScramServer.{ServerState, Initial, ServerFirstSent, ServerFinalSent, challenge_kept, open_challenge, served_by, state_in}
+use Rattle.fe2o3_scram.specs.ScramServer.{ServerState, Initial, ServerFirstSent, ServerFinalSent, challenge_kept, open_challenge, provider_in, served_by, state_in}
 use Rattle.fe2o3_scram.specs.ServerFirst.{ServerChallenge}
 use Rattle.fe2o3_scram.specs.declared.scram_server.ScramAuthenticator.{ScramAuthenticator}
 use Rattle.fe2o3_scram.specs.declared.scram_server.open_challenge.OpenChallenge.{OpenChallenge}
@@ -21,7 +23,8 @@ use Rattle.fe2o3_sasl_core.specs.Costs.{acceptor_hmacs}
 use Rattle.fe2o3_sasl_core.specs.ExternalServer.{External, external_machine, external_of, external_reasons, external_user}
 use Rattle.fe2o3_sasl_core.specs.PlainServer.{PlainState, plain_allocates, plain_hmacs, plain_machine, plain_reasons, plain_state}
 use Rattle.fe2o3_sasl_core.specs.RestrictMechanisms.{Offering, offering_allocates, offering_hmacs, offering_machine, offering_names, offering_of, offering_reasons}
-use Rattle.fe2o3_sasl_core.specs.SaslAcceptor.{Acceptor, AnonymousAcceptor, ScramAcceptor, acceptor_acting, acceptor_allocates, acceptor_machine, acceptor_names, acceptor_reasons, acceptor_user}
+use Rattle.fe2o3_sasl_core.specs.SaslAcceptor.{Acceptor, AnonymousAcceptor, ScramAcceptor, acceptor_acting, acceptor_allocates, acceptor_machine, acceptor_names, acceptor_reasons, acceptor_user, no_users}
+use Rattle.fe2o3_sasl_core.specs.ScramRejections.{KnownUsers, known_by}
 use Rattle.fe2o3_sasl_core.specs.declared.rejection.Rejection.{Rejection}
 use Rattle.fe2o3_sasl_core.specs.declared.any_mechanism.Selected.{Selected}
 use Rattle.fe2o3_sasl_core.specs.declared.any_mechanism.Selected.TheVariants.{First, Second}
@@ -35,7 +38,9 @@ use Rattle.fe2o3_sasl_core.specs.declared.password_server.builder.PasswordServer
 use Rattle.fe2o3_sasl_core.specs.declared.password_server.builder.ScramHashes.{ScramHashes}
 use Rattle.fe2o3_sasl_core.specs.declared.password_server.all_scrams.AllScrams.{AllScrams}
 use Rattle.fe2o3_sasl_core.specs.declared.password_server.others.Others.{Others}
+use Rattle.fe2o3_sasl_core.specs.declared.password_server.scram.Scram.{Scram}
 use Rattle.fe2o3_sasl_core.specs.declared.password_server.scrams.Scrams.{Scrams}
+use Rattle.fe2o3_sasl_core.specs.declared.any_mechanism.AnyMechanism.{AnyMechanism}
 
 -- ---- the state, and what it answers
 
@@ -114,23 +119,32 @@ parts_machine parts nonce frame reply next =
 abbrev pub password_machine : PasswordState → List ℕ → SaslFrame → SaslFrame → PasswordState → Type 0
 password_machine server nonce frame reply next = offering_machine parts_names parts_machine server nonce frame reply next
 
--- why it rejects a frame
-abbrev pub scrams_reasons : ScramStates → SaslFrame → Rejection → Type 0
-scrams_reasons = any_mechanism_reasons acceptor_names weaker_names acceptor_reasons
-    (any_mechanism_reasons acceptor_names acceptor_names acceptor_reasons acceptor_reasons)
+-- what SCRAM by each hash knows of users: SHA-512, then SHA-256 and SHA-1; with -PLUS, then without
+abbrev pub ScramsKnown : Type 0
+ScramsKnown = KnownUsers × (KnownUsers × KnownUsers)
 
-abbrev pub all_scrams_reasons : AllScramStates → SaslFrame → Rejection → Type 0
-all_scrams_reasons = any_mechanism_reasons scrams_names scrams_names scrams_reasons scrams_reasons
+abbrev pub PasswordKnown : Type 0
+PasswordKnown = ScramsKnown × ScramsKnown
+
+-- why it rejects a frame
+abbrev pub scrams_reasons : ScramsKnown → ScramStates → SaslFrame → Rejection → Type 0
+scrams_reasons known = any_mechanism_reasons acceptor_names weaker_names (acceptor_reasons known.0)
+    (any_mechanism_reasons acceptor_names acceptor_names (acceptor_reasons known.1.0) (acceptor_reasons known.1.1))
+
+abbrev pub all_scrams_reasons : PasswordKnown → AllScramStates → SaslFrame → Rejection → Type 0
+all_scrams_reasons known =
+    any_mechanism_reasons scrams_names scrams_names (scrams_reasons known.0) (scrams_reasons known.1)
 
 abbrev pub others_reasons : OtherStates → SaslFrame → Rejection → Type 0
 others_reasons = any_mechanism_reasons plain_names last_names plain_reasons
-    (any_mechanism_reasons acceptor_names external_names acceptor_reasons external_reasons)
+    (any_mechanism_reasons acceptor_names external_names (acceptor_reasons no_users) external_reasons)
 
-abbrev pub parts_reasons : PasswordParts → SaslFrame → Rejection → Type 0
-parts_reasons = any_mechanism_reasons all_scrams_names others_names all_scrams_reasons others_reasons
+abbrev pub parts_reasons : PasswordKnown → PasswordParts → SaslFrame → Rejection → Type 0
+parts_reasons known =
+    any_mechanism_reasons all_scrams_names others_names (all_scrams_reasons known) others_reasons
 
-abbrev pub password_reasons : PasswordState → SaslFrame → Rejection → Type 0
-password_reasons = offering_reasons parts_names parts_reasons
+abbrev pub password_reasons : PasswordKnown → PasswordState → SaslFrame → Rejection → Type 0
+password_reasons known = offering_reasons parts_names (parts_reasons known)
 
 -- where it asks for memory
 abbrev pub weaker_allocates : BothStates Acceptor Acceptor → SaslFrame → Type 0
@@ -289,13 +303,21 @@ or_no_channels None = record { tls_unique = None; tls_server_end_point = None; t
 or_no_channels (Some channels) = channels
 
 -- what SCRAM accepts in a client's messages: with -PLUS the channel of the server, and otherwise none; and `y,,` only where
--- no mechanism with -PLUS is offered (RFC 5802, section 6)
+-- no mechanism with -PLUS is offered (RFC 5802, section 6). Beside one with -PLUS it rejects what is no extension, so that
+-- nobody moves from one message to another what a client says of its channel
 abbrev pub scram_rules : Bool → ServerRules → ServerRules
 scram_rules true rules = record rules { channels = Some (or_no_channels rules.channels) }
 scram_rules false rules = record rules {
   accept_cbind_flag_y = rules.accept_cbind_flag_y && not (is_some rules.channels);
+  reject_misplaced = rules.reject_misplaced || is_some rules.channels;
   channels = None;
 }
+
+-- where a channel is set, SCRAM with -PLUS and without it rejects what is no extension and takes no `y,,`
+abbrev pub OfferedScramsKeepChannels : Type 0
+OfferedScramsKeepChannels = (plus : Bool) (rules : ServerRules) (channels : ChannelBindings)
+    → rules.channels ≡ Some channels
+    → T (is_strict (scram_rules plus rules)) × ¬ AcceptsFlag (scram_rules plus rules) ClientSupports
 
 -- the provider of SCRAM by one hash, with -PLUS or without it: the records of that hash, and the rights of all
 abbrev pub scram_provider : Bool → PasswordSettings → ScramVersion → Provider
@@ -318,6 +340,21 @@ pub record ScramsAt : Type 0 where
   pub states : ScramVersion → ServerState
   pub selected : Option Selected
   pub weaker : Option Selected
+
+-- what SCRAM by this hash knows of users: its records, and those for every hash
+abbrev pub known_for : MultiRecords → ScramVersion → KnownUsers
+known_for records version = record {
+  own = (provider_for version records).records;
+  all = (provider_for Sha1 records).records ∷ (provider_for Sha256 records).records
+      ∷ (provider_for Sha512 records).records ∷ [];
+}
+
+-- what SCRAM by each hash knows of users, with -PLUS and without it
+abbrev pub scrams_known_for : MultiRecords → ScramsKnown
+scrams_known_for records = (known_for records Sha512, (known_for records Sha256, known_for records Sha1))
+
+abbrev pub password_known_for : MultiRecords → PasswordKnown
+password_known_for records = (scrams_known_for records, scrams_known_for records)
 
 -- SCRAM by each hash, with -PLUS or without it
 abbrev pub scrams_in : Bool → PasswordSettings → ScramsAt → ScramStates
@@ -460,8 +497,28 @@ OffersNothing settings = password_names (password_server settings) ≡ []
 -- ---- the code's values
 
 -- the acceptor of SCRAM that a value is
-abbrev pub scram_state : ScramAuthenticator Store → Acceptor
-scram_state scram = ScramAcceptor (served_by (λ store. store) scram) (state_in scram)
+abbrev pub authenticator_state : ScramAuthenticator Store → Acceptor
+authenticator_state scram = ScramAcceptor (served_by (λ store. store) scram) (state_in scram)
+
+abbrev pub scram_state : Scram → Acceptor
+scram_state scram = authenticator_state scram.authenticator
+
+-- what a value knows of users
+abbrev pub scram_known : Scram → KnownUsers
+scram_known scram = known_by (provider_in scram.authenticator) (Some scram.records)
+
+abbrev pub weaker_known : AnyMechanism Scram Scram → KnownUsers × KnownUsers
+weaker_known weaker = (scram_known weaker.first, scram_known weaker.second)
+
+abbrev pub scrams_known : Scrams → ScramsKnown
+scrams_known scrams = (scram_known scrams.joined.first, weaker_known scrams.joined.second)
+
+abbrev pub all_scrams_known : AllScrams → PasswordKnown
+all_scrams_known scrams =
+    let joined = scrams.joined.inner.value in (scrams_known joined.first, scrams_known joined.second)
+
+abbrev pub password_known : Server → PasswordKnown
+password_known server = all_scrams_known server.acceptors.acceptor.first
 
 -- the states of all of SCRAM, and of the others
 abbrev pub scrams_state : Scrams → ScramStates

@@ -1,23 +1,21 @@
 -- What an acceptor answers to one frame (AMQP 1.0, part 5, section 5.3.2).
-use Rattle.std.specs.Prelude.{◌≡◌, ◌≢◌, ◌⊎◌, ℕ, Bool, true, Option, Some, None, MatchOption, List, [], ◌∷◌, codes, slice_get, string_bytes, Result, Ok, Err}
+use Rattle.std.specs.Prelude.{◌≡◌, ◌≢◌, ◌⊎◌, ℕ, Bool, true, Option, Some, None, MatchOption, List, [], ◌∷◌, codes, slice_get, string_bytes, Result, Ok}
 use Rattle.std.specs.List.{AllByRecursion, join_with_byte}
 use Rattle.fe2o3_sasl_wire.specs.declared.amqp_types.SaslCode.{SaslCode}
 use Rattle.fe2o3_sasl_wire.specs.declared.amqp_types.SaslCode.TheVariants as outcomes
 use Rattle.fe2o3_sasl_wire.specs.AmqpTypes.{challenge_frame, outcome_frame}
 use Rattle.fe2o3_sasl_wire.specs.SaslFrames as frames
 use Rattle.fe2o3_sasl_wire.specs.SaslFrames.{SaslFrame}
+use Rattle.fe2o3_sasl_core.specs.ScramRejections.{FinalRejected, FirstRejected, KnownUsers}
 use Rattle.fe2o3_sasl_core.specs.declared.rejection.Rejection.{Rejection}
 use Rattle.fe2o3_sasl_core.specs.declared.rejection.Rejection.TheVariants as reasons
 use Rattle.fe2o3_sasl_core.specs.declared.sasl_acceptor.SaslPlainMechanism.{SaslPlainMechanism}
 use Rattle.fe2o3_sasl_core.specs.declared.sasl_acceptor.SaslServerFrame.{SaslServerFrame}
 use Rattle.fe2o3_sasl_core.specs.declared.sasl_acceptor.SaslServerFrame.TheVariants as server_frames
 use Rattle.fe2o3_scram.specs.declared.scram_messages.error.ServerScramErrorKind.{ServerScramErrorKind}
-use Rattle.fe2o3_scram.specs.declared.scram_messages.error.ServerScramErrorKind.TheVariants.{IllegalAuthenticatorState}
-use Rattle.fe2o3_scram.specs.ClientFinal.{ReadsClientFinal}
-use Rattle.fe2o3_scram.specs.ClientFirst.{ClientFirst, ReadsClientFirst}
 use Rattle.fe2o3_scram.specs.Credentials.{Provider}
 use Rattle.fe2o3_scram.specs.ChannelBinding.{server_mechanism}
-use Rattle.fe2o3_scram.specs.ScramServer.{ServerState, ServerFirstSent, logged_in_for, logged_in, server_against, ChallengesFrom, ConcludesFrom, ReachesBase64In}
+use Rattle.fe2o3_scram.specs.ScramServer.{ServerState, logged_in_for, logged_in, ChallengesFrom, ConcludesFrom, ReachesBase64In}
 use Rattle.fe2o3_scram.specs.ServerFirst.{ReachesChallenge}
 
 -- the acceptors, each with all that its answers depend on: SCRAM over a provider, in a state; PLAIN for one user, with
@@ -110,21 +108,6 @@ InitRejected name Faults mechanism response reason =
     ((mechanism ≢ name) × (reason ≡ reasons.MechanismNotOffered))
     ⊎ ((mechanism ≡ name) × MatchOption response (reason ≡ reasons.NoInitialResponse) (λ text. Faults text reason))
 
--- SCRAM rejects a client-first message (RFC 5802, section 5.1) for the first error that applies, or for a user without
--- a record
-abbrev pub FirstRejected : Provider → List ℕ → Rejection → Type 0
-FirstRejected provider text (reasons.Scram kind) = ReadsClientFirst provider.rules text (Err kind)
-FirstRejected provider text reasons.UnknownUser = (client : ClientFirst)
-    × ReadsClientFirst provider.rules text (Ok client) × (provider.records client.user ≡ None)
-FirstRejected provider text reason = ⊥
-
--- SCRAM rejects a client-final message for the first error that applies (RFC 5802, section 5.1), and every message if
--- no challenge is open
-abbrev pub FinalFault : ServerState → Provider → List ℕ → ServerScramErrorKind → Type 0
-FinalFault (ServerFirstSent challenge stored) provider text kind =
-    ReadsClientFinal (server_against provider.version provider.rules provider.rights challenge stored) text (Err kind)
-FinalFault state provider text kind = kind ≡ IllegalAuthenticatorState
-
 -- the acceptor of PLAIN for one user rejects a message (RFC 4616, section 2) that has no third part, and every other
 -- that does not name the user and the password
 abbrev pub PlainRejected : List ℕ → List ℕ → List ℕ → Rejection → Type 0
@@ -133,15 +116,20 @@ PlainRejected user password text reasons.WrongPassword =
     ((part : List ℕ) × ZeroPart text 2 part) × ¬ NamesPlain user password text
 PlainRejected user password text reason = ⊥
 
--- why an acceptor rejects a frame
-abbrev pub acceptor_reasons : Acceptor → SaslFrame → Rejection → Type 0
-acceptor_reasons (ScramAcceptor provider state) (frames.Init mechanism response hostname) reason =
-    InitRejected (server_mechanism provider.version provider.rules) (FirstRejected provider) mechanism response reason
-acceptor_reasons (ScramAcceptor provider state) (frames.Response text) reason =
-    (kind : ServerScramErrorKind) × FinalFault state provider text kind × (reason ≡ reasons.Scram kind)
-acceptor_reasons (PlainAcceptor user password accepted) (frames.Init mechanism response hostname) reason =
+-- why an acceptor rejects a frame, by what it knows of users
+abbrev pub acceptor_reasons : KnownUsers → Acceptor → SaslFrame → Rejection → Type 0
+acceptor_reasons known (ScramAcceptor provider state) (frames.Init mechanism response hostname) reason =
+    InitRejected (server_mechanism provider.version provider.rules) (FirstRejected known.all provider) mechanism response
+    reason
+acceptor_reasons known (ScramAcceptor provider state) (frames.Response text) reason =
+    FinalRejected known provider state text reason
+acceptor_reasons known (PlainAcceptor user password accepted) (frames.Init mechanism response hostname) reason =
     MatchOption response (reason ≡ reasons.NoInitialResponse) (λ text. PlainRejected user password text reason)
-acceptor_reasons acceptor frame reason = ⊥
+acceptor_reasons known acceptor frame reason = ⊥
+
+-- what an acceptor knows that has no records
+abbrev pub no_users : KnownUsers
+no_users = record { own = []; all = [] }
 
 -- where an acceptor allocates before it has its reply to a frame (AMQP 1.0, part 5, section 5.3.2): SCRAM at an init
 -- with its own name if it reaches an escaped user name or a user with a record (RFC 5802, section 5.1), and at a

@@ -70,8 +70,9 @@ impl<A: HasMechanism, B: HasMechanism> AnyMechanism<A, B> {
 
     /// Makes a server of both acceptors, which has received no init.
     pub fn new(first: A, second: B) -> Self
-        ensures { both_states A.state B.state result
+        ensures state { both_states A.state B.state result
             ≡ record { first = A.state first; second = B.state second; selected = None } }
+        ensures known { (A.known result.first ≡ A.known first) × (B.known result.second ≡ B.known second) }
     {
         Self {
             first,
@@ -83,8 +84,9 @@ impl<A: HasMechanism, B: HasMechanism> AnyMechanism<A, B> {
     /// Restores a server of both acceptors, of which the last init went to this one, as `selected` returned it when the
     /// server was saved between two calls. Pass each acceptor in its saved state.
     pub fn with_selected(first: A, second: B, selected: Option<Selected>) -> Self
-        ensures { both_states A.state B.state result
+        ensures state { both_states A.state B.state result
             ≡ record { first = A.state first; second = B.state second; selected = selected } }
+        ensures known { (A.known result.first ≡ A.known first) × (B.known result.second ≡ B.known second) }
     {
         Self {
             first,
@@ -95,14 +97,16 @@ impl<A: HasMechanism, B: HasMechanism> AnyMechanism<A, B> {
 
     /// Returns the first acceptor.
     pub fn first(&self) -> &A
-        ensures { A.state result.now ≡ (both_states A.state B.state self.now).first }
+        ensures state { A.state result.now ≡ (both_states A.state B.state self.now).first }
+        ensures known { A.known result.now ≡ A.known self.now.first }
     {
         &self.first
     }
 
     /// Returns the second acceptor.
     pub fn second(&self) -> &B
-        ensures { B.state result.now ≡ (both_states A.state B.state self.now).second }
+        ensures state { B.state result.now ≡ (both_states A.state B.state self.now).second }
+        ensures known { B.known result.now ≡ B.known self.now.second }
     {
         &self.second
     }
@@ -153,7 +157,11 @@ impl<A: HasMechanism, B: HasMechanism> SaslAcceptor for AnyMechanism<A, B> {
 
     ghost machine = { any_mechanism_machine A.names B.names A.machine B.machine };
 
-    ghost reasons = { any_mechanism_reasons A.names B.names A.reasons B.reasons };
+    ghost Known = { A.Known × B.Known };
+
+    ghost known = { λ both. (A.known both.first, B.known both.second) };
+
+    ghost reasons = { λ known. any_mechanism_reasons A.names B.names (A.reasons known.0) (B.reasons known.1) };
 
     ghost allocates = { any_mechanism_allocates A.names B.names A.allocates B.allocates };
 
@@ -164,6 +172,9 @@ impl<A: HasMechanism, B: HasMechanism> SaslAcceptor for AnyMechanism<A, B> {
       second = B.clone_keeps both.second copy.second same.1 i;
       selected = same.2 i;
     } };
+
+    ghost clone_knows = { λ both copy same i.
+        (A.clone_knows both.first copy.first same.0 i, B.clone_knows both.second copy.second same.1 i) };
 
     fn mechanisms(&self, alloc: Global) -> Result<Array<Symbol>, OutOfMemory> {
         let mut names = self.first.mechanisms(alloc)?;

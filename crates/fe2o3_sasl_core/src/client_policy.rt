@@ -161,8 +161,8 @@ impl ClientPolicy {
     }
 
     /// Binds this channel (RFC 5802, section 6): the client prefers the mechanisms with `-PLUS`. If the server offers
-    /// none that it can select, it says so (`y,,`), and a server that did offer one rejects it
-    /// (`laws::selected_channels`).
+    /// none that it can select, it says so by SCRAM (`y,,`), and a server that did offer one has to reject it
+    /// (`laws::selected_channels`). Against a server that accepts `y,,` all the same, only `must_bind` protects.
     pub fn bind_channel(self, channel: ChannelBinding) -> Self
         ensures { result ≡ record self { channel = Some channel } }
     {

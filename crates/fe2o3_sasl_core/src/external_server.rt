@@ -1,6 +1,6 @@
 //! The server's side of EXTERNAL (RFC 4422, appendix A).
 
-ghost use Rattle.std.specs.Prelude.{◌≡◌, ◌≢◌, ◌↔◌, true, false, ℕ, List, Some, ◌∷◌, [], IfErr, IfOk, IsOk, codes, option_map, string_bytes, None};
+ghost use Rattle.std.specs.Prelude.{◌≡◌, ◌≢◌, ◌↔◌, true, false, ℕ, List, Some, ◌∷◌, [], IfErr, IfOk, IsOk, codes, option_map, string_bytes, None, refl};
 ghost use Rattle.std.proofs.Common.{ap, refl};
 ghost use Rattle.fe2o3_sasl_wire.specs.AmqpTypes.{binary_bytes, init_frame, response_frame};
 ghost use Rattle.fe2o3_sasl_core.specs.SaslAcceptor.{HasReason, sent_frame};
@@ -99,13 +99,19 @@ impl SaslAcceptor for ExternalServer {
 
     ghost machine = { external_machine };
 
-    ghost reasons = { external_reasons };
+    ghost Known = { Unit {0} };
+
+    ghost known = { λ _. tt };
+
+    ghost reasons = { λ _. external_reasons };
 
     ghost allocates = { λ _ _. ⊥ };
 
     ghost hmacs = { λ _ _ n. n ≡ 0 };
 
     ghost clone_keeps = { λ acceptor copy same. same };
+
+    ghost clone_knows = { λ acceptor copy same. refl };
 
     fn mechanisms(&self, alloc: Global) -> Result<Array<Symbol>, OutOfMemory> {
         one_name(alloc, EXTERNAL)

@@ -54,8 +54,9 @@ pub struct WithExtraChallenges<A> {
 impl<A: HasMechanism> WithExtraChallenges<A> {
     /// Makes a server of this acceptor that sends these challenges.
     pub fn new(acceptor: A, extra: ExtraChallenges) -> Self
-        ensures { extended_of A.state result
+        ensures state { extended_of A.state result
             ≡ record { inner = A.state acceptor; extra = extra; phase = Idle } }
+        ensures known { A.known result.acceptor ≡ A.known acceptor }
     {
         Self {
             acceptor,
@@ -67,8 +68,9 @@ impl<A: HasMechanism> WithExtraChallenges<A> {
     /// Restores a server in this phase, as `phase` returned it when the server was saved between two calls. Pass the
     /// acceptor in its saved state.
     pub fn with_phase(acceptor: A, extra: ExtraChallenges, phase: ChallengePhase) -> Self
-        ensures { extended_of A.state result
+        ensures state { extended_of A.state result
             ≡ record { inner = A.state acceptor; extra = extra; phase = phase_of phase } }
+        ensures known { A.known result.acceptor ≡ A.known acceptor }
     {
         Self {
             acceptor,
@@ -79,7 +81,8 @@ impl<A: HasMechanism> WithExtraChallenges<A> {
 
     /// Returns the inner acceptor.
     pub fn acceptor(&self) -> &A
-        ensures { A.state result.now ≡ (extended_of A.state self.now).inner }
+        ensures state { A.state result.now ≡ (extended_of A.state self.now).inner }
+        ensures known { A.known result.now ≡ A.known self.now.acceptor }
     {
         &self.acceptor
     }
@@ -110,9 +113,10 @@ impl<A: HasMechanism> WithExtraChallenges<A> {
         ensures ok { IfOk result (λ reply. PassesFrame A.machine (extended_of A.state self.old) nonce.now
             (init_frame init) (sent_frame reply) (extended_of A.state self.new)) }
         ensures reason { IfOk result (λ reply.
-            HasReason (A.reasons (A.state self.old.acceptor) (init_frame init)) reply) }
+            HasReason (A.reasons (A.known self.old.acceptor) (A.state self.old.acceptor) (init_frame init)) reply) }
         ensures memory { IfErr result (λ _. A.allocates (A.state self.old.acceptor) (init_frame init)) }
         ensures err { OnErr result (extended_of A.state self.new ≡ extended_of A.state self.old) }
+        ensures known { A.known self.new.acceptor ≡ A.known self.old.acceptor }
         ensures cost { CostsAtMost A.hmacs (A.state self.old.acceptor) (init_frame init) meter.old meter.new }
     {
         let reply = self.acceptor.on_init_metered(alloc, init, nonce, meter)?;
@@ -124,6 +128,7 @@ impl<A: HasMechanism> WithExtraChallenges<A> {
         ensures reply { Confirms (extended_of A.state self.old) (binary_bytes response.response) (sent_frame result)
             (extended_of A.state self.new) }
         ensures reason { HasReason (λ reason. reason ≡ UnexpectedResponse) result }
+        ensures known { A.known self.new.acceptor ≡ A.known self.old.acceptor }
     {
         if response.response.0.is_empty() {
             self.phase = ChallengePhase::Idle;
@@ -142,6 +147,7 @@ impl<A: HasMechanism> WithExtraChallenges<A> {
         ensures phase { extended_of A.state self.new ≡ record (extended_of A.state self.old) {
           phase = phase_after self.old.extra.signature (phase_of self.old.phase) (sent_frame reply);
         } }
+        ensures known { A.known self.new.acceptor ≡ A.known self.old.acceptor }
     {
         self.phase = phase_after(self.extra.signature, &self.phase, &reply);
         sent_for(self.extra.signature, reply)
@@ -222,7 +228,11 @@ impl<A: HasMechanism> SaslAcceptor for WithExtraChallenges<A> {
 
     ghost machine = { extended_machine A.names A.machine };
 
-    ghost reasons = { extended_reasons A.names A.reasons };
+    ghost Known = { A.Known };
+
+    ghost known = { λ server. A.known server.acceptor };
+
+    ghost reasons = { λ known. extended_reasons A.names (A.reasons known) };
 
     ghost allocates = { extended_allocates A.names A.allocates };
 
@@ -233,6 +243,8 @@ impl<A: HasMechanism> SaslAcceptor for WithExtraChallenges<A> {
       extra = same.1 i;
       phase = same.2 i;
     } };
+
+    ghost clone_knows = { λ server copy same. A.clone_knows server.acceptor copy.acceptor same.0 };
 
     fn mechanisms(&self, alloc: Global) -> Result<Array<Symbol>, OutOfMemory> {
         self.acceptor.mechanisms(alloc)

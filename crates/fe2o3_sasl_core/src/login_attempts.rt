@@ -9,7 +9,7 @@ ghost use Rattle.fe2o3_scram.specs.ClientFirst.{ClientFirst as FirstValues, HasE
 ghost use Rattle.fe2o3_scram.specs.declared.hmac.ScramVersion.{ScramVersion as VersionOf};
 ghost use Rattle.fe2o3_sasl_core.specs.Costs.{CostsAtMost};
 ghost use Rattle.fe2o3_sasl_core.specs.SaslAcceptor.{HasReason, reason_in, sent_frame};
-ghost use Rattle.fe2o3_sasl_core.specs.LoginAttempts.{ClaimAllocates, ClaimIn, ClaimOf, IsAttempt, NamesUser, Recorded, attempt_of, headers_of, recorded_allocates, recorded_hmacs, recorded_machine, recorded_of, recorded_reasons, rejection_in};
+ghost use Rattle.fe2o3_sasl_core.specs.LoginAttempts.{ClaimAllocates, ClaimIn, ClaimOf, IsAttempt, LateAllocates, LateClaim, LateUser, NamesUser, Recorded, attempt_of, headers_of, recorded_allocates, recorded_hmacs, recorded_machine, recorded_of, recorded_reasons, rejection_in, with_late};
 
 pub mod laws;
 
@@ -37,7 +37,7 @@ pub struct LoginAttempt {
     pub mechanism: Symbol,
 
     /// The user name that the initial response claims, as [`claimed_user`] returns it. `None` if the init has no initial
-    /// response.
+    /// response, up to a response that claims one in its place.
     pub claimed_user: Option<String>,
 
     /// The hostname that the init names.
@@ -54,6 +54,19 @@ impl LoginAttempt {
             claimed_user: user_of_init(alloc, init)?,
             hostname: init.hostname.clone()?,
         })
+    }
+
+    /// Returns the user that a response claims: if the init claims none, the response may be its initial response.
+    fn late_user(&self, alloc: Global, response: &[u8]) -> Result<Option<String>, OutOfMemory>
+        ensures ok { IfOk result (λ user. LateClaim (attempt_of self.now).user (attempt_of self.now).mechanism
+            response.now (option_map string_bytes user)) }
+        ensures memory { IfErr result (λ _. ((attempt_of self.now).user ≡ None)
+            × ClaimAllocates (attempt_of self.now).mechanism response.now) }
+    {
+        match &self.claimed_user {
+            Some(_) => Ok(None),
+            None => claimed_user(alloc, self.mechanism.as_str(), response),
+        }
     }
 }
 
@@ -77,8 +90,8 @@ impl Clone for LoginAttempt {
 ///   message, whose GS2 header is `p=tls-unique,,`, `p=tls-server-end-point,,` or `p=tls-exporter,,` (RFC 5802, sections
 ///   6 and 7), also if it names an identity to act for.
 /// - For PLAIN it is the name that `plain_user` returns (RFC 4616, section 2), also if the message names an identity.
-/// - A message that binds a channel or names an identity is read strictly, like by every server that accepts one
-///   ([`ServerRules::strict`]).
+/// - A message that binds a channel or names an identity is one only if what follows its nonce is an extension, as for
+///   every server that accepts one ([`ServerRules::is_strict`]).
 /// - For every other mechanism, and for a message that cannot be parsed, it is `None`.
 ///
 /// The only error is `OutOfMemory`.
@@ -140,6 +153,7 @@ fn headers_of(plus: bool, accept_authzid: bool) -> ServerRules
         return ServerRules {
             accept_cbind_flag_y: true,
             strict: false,
+            reject_misplaced: false,
             channels: None,
             accept_authzid,
         };
@@ -151,6 +165,7 @@ fn headers_of(plus: bool, accept_authzid: bool) -> ServerRules
     ServerRules {
         accept_cbind_flag_y: false,
         strict: false,
+        reject_misplaced: false,
         channels: Some(ChannelBindings {
             tls_unique: Some(no_data),
             tls_server_end_point: Some(no_data),
@@ -194,8 +209,9 @@ fn scram_user(
 /// An acceptor that keeps what the last init claims, also if the reply rejects it, and why the last reply rejects. It
 /// answers each frame like the inner acceptor, whose user it names.
 ///
-/// Each init replaces the attempt, and a response leaves it. Each reply replaces the reason. A call that runs out of
-/// memory changes nothing.
+/// Each init replaces the attempt. If it claims no user, a response may add one, since the response may be its initial
+/// response (RFC 4422, section 5; [`WithExtraChallenges`](crate::extra_challenges::WithExtraChallenges)). Each reply
+/// replaces the reason. A call that runs out of memory changes nothing.
 #[derive(Drop)]
 pub struct WithLastAttempt<A> {
     acceptor: A,
@@ -207,6 +223,7 @@ impl<A: HasMechanism> WithLastAttempt<A> {
     /// Makes a server of this acceptor, which has received no init.
     pub fn new(acceptor: A) -> Self
         ensures state { recorded_of A.state result ≡ record { inner = A.state acceptor; last = None } }
+        ensures known { A.known result.acceptor ≡ A.known acceptor }
         ensures rejection { rejection_in result ≡ None }
     {
         Self {
@@ -221,6 +238,7 @@ impl<A: HasMechanism> WithLastAttempt<A> {
     pub fn with_attempt(acceptor: A, last: Option<LoginAttempt>) -> Self
         ensures state { recorded_of A.state result
             ≡ record { inner = A.state acceptor; last = option_map attempt_of last } }
+        ensures known { A.known result.acceptor ≡ A.known acceptor }
         ensures rejection { rejection_in result ≡ None }
     {
         Self {
@@ -232,7 +250,8 @@ impl<A: HasMechanism> WithLastAttempt<A> {
 
     /// Returns the inner acceptor.
     pub fn acceptor(&self) -> &A
-        ensures { A.state result.now ≡ (recorded_of A.state self.now).inner }
+        ensures state { A.state result.now ≡ (recorded_of A.state self.now).inner }
+        ensures known { A.known result.now ≡ A.known self.now.acceptor }
     {
         &self.acceptor
     }
@@ -244,12 +263,51 @@ impl<A: HasMechanism> WithLastAttempt<A> {
         self.last.as_ref()
     }
 
+    /// Returns the user that a response claims: if the last init claims none, the response may be its initial response,
+    /// for which a server with `ExtraChallenges::initial_response` asks (RFC 4422, section 5).
+    fn late_user(
+        &self,
+        alloc: Global,
+        response: &SaslResponse,
+    ) -> Result<Option<String>, OutOfMemory>
+        ensures ok { IfOk result (λ user. LateUser (recorded_of A.state self.now).last
+            (binary_bytes response.now.response) (option_map string_bytes user)) }
+        ensures memory { IfErr result (λ _.
+            LateAllocates (recorded_of A.state self.now).last (response_frame response.now)) }
+    {
+        match &self.last {
+            Some(attempt) => attempt.late_user(alloc, &response.response.0),
+            None => Ok(None),
+        }
+    }
+
     /// Returns why the last reply rejects the login, for the server's log. `None` if the last reply is a challenge or
     /// another outcome, and before the first reply. A call that runs out of memory leaves it.
     pub fn last_rejection(&self) -> Option<Rejection>
         ensures { result ≡ rejection_in self.now }
     {
         self.rejection
+    }
+}
+
+/// Returns the claim of an init, with the user of a late initial response if the init claims none.
+fn with_late(last: Option<LoginAttempt>, late: Option<String>) -> Option<LoginAttempt>
+    ensures { option_map attempt_of result
+        ≡ option_map (λ attempt. with_late attempt (option_map string_bytes late)) (option_map attempt_of last) }
+{
+    match last {
+        Some(
+            LoginAttempt {
+                mechanism,
+                claimed_user: None,
+                hostname,
+            },
+        ) => Some(LoginAttempt {
+            mechanism,
+            claimed_user: late,
+            hostname,
+        }),
+        last => last,
     }
 }
 
@@ -286,7 +344,11 @@ impl<A: HasMechanism> SaslAcceptor for WithLastAttempt<A> {
 
     ghost machine = { recorded_machine A.machine };
 
-    ghost reasons = { recorded_reasons A.reasons };
+    ghost Known = { A.Known };
+
+    ghost known = { λ server. A.known server.acceptor };
+
+    ghost reasons = { λ known. recorded_reasons (A.reasons known) };
 
     ghost allocates = { recorded_allocates A.allocates };
 
@@ -296,6 +358,8 @@ impl<A: HasMechanism> SaslAcceptor for WithLastAttempt<A> {
       inner = A.clone_keeps server.acceptor copy.acceptor same.0 i;
       last = same.1 i;
     } };
+
+    ghost clone_knows = { λ server copy same. A.clone_knows server.acceptor copy.acceptor same.0 };
 
     fn mechanisms(&self, alloc: Global) -> Result<Array<Symbol>, OutOfMemory> {
         self.acceptor.mechanisms(alloc)
@@ -310,10 +374,12 @@ impl<A: HasMechanism> SaslAcceptor for WithLastAttempt<A> {
         ensures ok { IfOk result (λ reply. recorded_machine A.machine (recorded_of A.state self.old) nonce.now
             (init_frame init) (sent_frame reply) (recorded_of A.state self.new)) }
         ensures reason { IfOk result (λ reply.
-            HasReason (recorded_reasons A.reasons (recorded_of A.state self.old) (init_frame init)) reply) }
+            HasReason (recorded_reasons (A.reasons (A.known self.old.acceptor)) (recorded_of A.state self.old)
+            (init_frame init)) reply) }
         ensures memory { IfErr result (λ _.
             recorded_allocates A.allocates (recorded_of A.state self.old) (init_frame init)) }
         ensures err { OnErr result (recorded_of A.state self.new ≡ recorded_of A.state self.old) }
+        ensures known { A.known self.new.acceptor ≡ A.known self.old.acceptor }
         ensures rejection { IfOk result (λ reply. rejection_in self.new ≡ reason_in reply) }
         ensures unchanged { OnErr result (rejection_in self.new ≡ rejection_in self.old) }
     {
@@ -328,10 +394,12 @@ impl<A: HasMechanism> SaslAcceptor for WithLastAttempt<A> {
         ensures ok { IfOk result (λ reply. (nonce : List ℕ) → recorded_machine A.machine (recorded_of A.state self.old)
             nonce (response_frame response) (sent_frame reply) (recorded_of A.state self.new)) }
         ensures reason { IfOk result (λ reply.
-            HasReason (recorded_reasons A.reasons (recorded_of A.state self.old) (response_frame response)) reply) }
+            HasReason (recorded_reasons (A.reasons (A.known self.old.acceptor)) (recorded_of A.state self.old)
+            (response_frame response)) reply) }
         ensures memory { IfErr result (λ _.
             recorded_allocates A.allocates (recorded_of A.state self.old) (response_frame response)) }
         ensures err { OnErr result (recorded_of A.state self.new ≡ recorded_of A.state self.old) }
+        ensures known { A.known self.new.acceptor ≡ A.known self.old.acceptor }
         ensures rejection { IfOk result (λ reply. rejection_in self.new ≡ reason_in reply) }
         ensures unchanged { OnErr result (rejection_in self.new ≡ rejection_in self.old) }
     {
@@ -349,10 +417,12 @@ impl<A: HasMechanism> SaslAcceptor for WithLastAttempt<A> {
         ensures ok { IfOk result (λ reply. recorded_machine A.machine (recorded_of A.state self.old) nonce.now
             (init_frame init) (sent_frame reply) (recorded_of A.state self.new)) }
         ensures reason { IfOk result (λ reply.
-            HasReason (recorded_reasons A.reasons (recorded_of A.state self.old) (init_frame init)) reply) }
+            HasReason (recorded_reasons (A.reasons (A.known self.old.acceptor)) (recorded_of A.state self.old)
+            (init_frame init)) reply) }
         ensures memory { IfErr result (λ _.
             recorded_allocates A.allocates (recorded_of A.state self.old) (init_frame init)) }
         ensures err { OnErr result (recorded_of A.state self.new ≡ recorded_of A.state self.old) }
+        ensures known { A.known self.new.acceptor ≡ A.known self.old.acceptor }
         ensures cost { CostsAtMost (recorded_hmacs A.hmacs) (recorded_of A.state self.old) (init_frame init)
             meter.old meter.new }
         ensures rejection { IfOk result (λ reply. rejection_in self.new ≡ reason_in reply) }
@@ -375,16 +445,20 @@ impl<A: HasMechanism> SaslAcceptor for WithLastAttempt<A> {
         ensures ok { IfOk result (λ reply. (nonce : List ℕ) → recorded_machine A.machine (recorded_of A.state self.old)
             nonce (response_frame response) (sent_frame reply) (recorded_of A.state self.new)) }
         ensures reason { IfOk result (λ reply.
-            HasReason (recorded_reasons A.reasons (recorded_of A.state self.old) (response_frame response)) reply) }
+            HasReason (recorded_reasons (A.reasons (A.known self.old.acceptor)) (recorded_of A.state self.old)
+            (response_frame response)) reply) }
         ensures memory { IfErr result (λ _.
             recorded_allocates A.allocates (recorded_of A.state self.old) (response_frame response)) }
         ensures err { OnErr result (recorded_of A.state self.new ≡ recorded_of A.state self.old) }
+        ensures known { A.known self.new.acceptor ≡ A.known self.old.acceptor }
         ensures cost { CostsAtMost (recorded_hmacs A.hmacs) (recorded_of A.state self.old) (response_frame response)
             meter.old meter.new }
         ensures rejection { IfOk result (λ reply. rejection_in self.new ≡ reason_in reply) }
         ensures unchanged { OnErr result (rejection_in self.new ≡ rejection_in self.old) }
     {
+        let late = self.late_user(alloc, &response)?;
         let reply = self.acceptor.on_response_metered(alloc, response, meter)?;
+        self.last = with_late(self.last.take(), late);
         self.rejection = rejection_of(&reply);
         Ok(reply)
     }

@@ -2,15 +2,15 @@
 
 ghost use Rattle.std.specs.Prelude.{◌≡◌, option_map};
 ghost use Rattle.std.proofs.Common.{ap};
-ghost use Rattle.fe2o3_sasl_core.specs.PasswordServer.{PasswordState, challenge_with, password_acting, password_allocates, password_hmacs, password_machine, password_names, password_open, password_reasons, password_state, password_user};
-ghost use Rattle.fe2o3_scram.specs.Credentials.{serving, with_rights};
-ghost use Rattle.fe2o3_scram.specs.MockSettings.{mocking};
-ghost use Rattle.fe2o3_sasl_core.specs.SaslAcceptor.{AnonymousAcceptor, ScramAcceptor};
+ghost use Rattle.fe2o3_sasl_core.specs.PasswordServer.{PasswordKnown, PasswordState, challenge_with, password_acting, password_allocates, password_hmacs, password_known, password_machine, password_names, password_open, password_reasons, password_state, password_user};
+ghost use Rattle.fe2o3_sasl_core.specs.SaslAcceptor.{AnonymousAcceptor};
 
 mod all_scrams;
 mod boxed;
 mod builder;
+pub mod laws;
 mod others;
+mod scram;
 mod scrams;
 
 use crate::OutOfMemory;
@@ -70,6 +70,10 @@ impl SaslAcceptor for PasswordServer {
 
     ghost machine = { password_machine };
 
+    ghost Known = { PasswordKnown };
+
+    ghost known = { password_known };
+
     ghost reasons = { password_reasons };
 
     ghost allocates = { password_allocates };
@@ -80,19 +84,19 @@ impl SaslAcceptor for PasswordServer {
       inner = record {
         first = record {
           first = record {
-            first = ScramAcceptor (with_rights (same.0.0.0.0.4 i) (mocking (same.0.0.0.0.3 i) (serving (same.0.0.0.0.1 i) (same.0.0.0.0.0 i)))) (same.0.0.0.0.2 i);
+            first = same.0.0.0.0.0 i;
             second = record {
-              first = ScramAcceptor (with_rights (same.0.0.0.1.0.4 i) (mocking (same.0.0.0.1.0.3 i) (serving (same.0.0.0.1.0.1 i) (same.0.0.0.1.0.0 i)))) (same.0.0.0.1.0.2 i);
-              second = ScramAcceptor (with_rights (same.0.0.0.1.1.4 i) (mocking (same.0.0.0.1.1.3 i) (serving (same.0.0.0.1.1.1 i) (same.0.0.0.1.1.0 i)))) (same.0.0.0.1.1.2 i);
+              first = same.0.0.0.1.0.0 i;
+              second = same.0.0.0.1.1.0 i;
               selected = same.0.0.0.1.2 i;
             };
             selected = same.0.0.0.2 i;
           };
           second = record {
-            first = ScramAcceptor (with_rights (same.0.0.1.0.4 i) (mocking (same.0.0.1.0.3 i) (serving (same.0.0.1.0.1 i) (same.0.0.1.0.0 i)))) (same.0.0.1.0.2 i);
+            first = same.0.0.1.0.0 i;
             second = record {
-              first = ScramAcceptor (with_rights (same.0.0.1.1.0.4 i) (mocking (same.0.0.1.1.0.3 i) (serving (same.0.0.1.1.0.1 i) (same.0.0.1.1.0.0 i)))) (same.0.0.1.1.0.2 i);
-              second = ScramAcceptor (with_rights (same.0.0.1.1.1.4 i) (mocking (same.0.0.1.1.1.3 i) (serving (same.0.0.1.1.1.1 i) (same.0.0.1.1.1.0 i)))) (same.0.0.1.1.1.2 i);
+              first = same.0.0.1.1.0.0 i;
+              second = same.0.0.1.1.1.0 i;
               selected = same.0.0.1.1.2 i;
             };
             selected = same.0.0.1.2 i;
@@ -116,6 +120,11 @@ impl SaslAcceptor for PasswordServer {
       };
       allowed = same.1 i;
     } };
+
+    ghost clone_knows = { λ server copy same i. (
+      (same.0.0.0.0.1 i, (same.0.0.0.1.0.1 i, same.0.0.0.1.1.1 i)),
+      (same.0.0.1.0.1 i, (same.0.0.1.1.0.1 i, same.0.0.1.1.1.1 i)),
+    ) };
 
     fn mechanisms(&self, alloc: Global) -> Result<Array<Symbol>, OutOfMemory> {
         self.acceptors.mechanisms(alloc)

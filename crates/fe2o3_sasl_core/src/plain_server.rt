@@ -1,6 +1,6 @@
 //! The server's side of PLAIN over the records of SCRAM (RFC 4616).
 
-ghost use Rattle.std.specs.Prelude.{◌≡◌, ◌≤◌, ◌+◌, ◌^◌, ◌↔◌, ℕ, true, false, List, [], ◌∷◌, None, Some, IsTrue, IfOk, IfErr, MatchOption, OnErr, OnOk, codes, option_map, string_bytes};
+ghost use Rattle.std.specs.Prelude.{◌≡◌, ◌≤◌, ◌+◌, ◌^◌, ◌↔◌, ℕ, true, false, List, [], ◌∷◌, None, Some, IsTrue, IfOk, IfErr, MatchOption, OnErr, OnOk, codes, option_map, string_bytes, refl};
 ghost use Rattle.std.specs.Str.{IsAscii};
 ghost use Rattle.std.specs.Arc.{arc_value};
 ghost use Rattle.std.proofs.Common.{ap};
@@ -477,7 +477,11 @@ impl<C: ScramCredentialProvider> SaslAcceptor for PlainServer<C> {
 
     ghost machine = { plain_machine };
 
-    ghost reasons = { plain_reasons };
+    ghost Known = { Unit {0} };
+
+    ghost known = { λ _. tt };
+
+    ghost reasons = { λ _. plain_reasons };
 
     ghost allocates = { plain_allocates };
 
@@ -494,6 +498,8 @@ impl<C: ScramCredentialProvider> SaslAcceptor for PlainServer<C> {
           user = same.5 i;
           acts_for = same.6 i;
         } };
+
+    ghost clone_knows = { λ acceptor copy same. refl };
 
     fn mechanisms(&self, alloc: Global) -> Result<Array<Symbol>, OutOfMemory> {
         one_name(alloc, PLAIN)

@@ -4,6 +4,9 @@ use fe2o3_scram::scram_messages::ServerScramErrorKind;
 
 /// Why an acceptor rejects an init or a response. It is for the server's log only: no frame carries it, and the peer
 /// receives the outcome Auth without data.
+///
+/// A reason changes nothing that a peer can observe: reply, state, allocations and HMAC values of an acceptor do not
+/// depend on what decides it ([`SaslAcceptor`](crate::sasl_acceptor::SaslAcceptor)).
 #[derive(Clone, Copy, Debug, PartialEq, Eq, thiserror::Error)]
 pub enum Rejection {
     /// The init names a mechanism that the server does not offer.
@@ -19,13 +22,33 @@ pub enum Rejection {
     #[error("Invalid message of PLAIN")]
     InvalidMessage,
 
-    /// SCRAM rejects the message with this error. A wrong password is `AuthenticationFailed`, also that of a mock user.
+    /// SCRAM rejects the text of the message with this error. A failed login has one of the next five reasons.
     #[error("SCRAM: {0}")]
     Scram(ServerScramErrorKind),
 
-    /// The user of a client-first message of SCRAM has no record, and the server has no mock authentication.
+    /// The client's channel binding is not one that the server accepts (RFC 5802, section 6). Its flag is `y`, and the server
+    /// does not accept it: someone may have removed the mechanism with `-PLUS` from the offer. Or the flag is `n` at a
+    /// mechanism with `-PLUS`, or `p=` with a kind of which the server has no data. Or the client-final message repeats
+    /// another GS2 header, or has other data of the channel: someone may be between the two.
+    #[error("Channel binding")]
+    Channel,
+
+    /// The user of SCRAM has no record: the server has no mock authentication, or has used a mock record.
     #[error("Unknown user")]
     UnknownUser,
+
+    /// The user has a record for another hash, and none for that of the exchange. `PasswordServer` returns it in place of
+    /// `UnknownUser`.
+    #[error("No record for this hash")]
+    NoRecordForHash,
+
+    /// The user of SCRAM may not act for the identity that it names, whatever its proof is (RFC 4422, section 2).
+    #[error("No right to act for this identity")]
+    NoRight,
+
+    /// The proof of SCRAM is not that of the user's password.
+    #[error("Wrong password")]
+    WrongProof,
 
     /// No record of the user has the password of the message of PLAIN. An unknown user has no record.
     #[error("Unknown user or wrong password")]

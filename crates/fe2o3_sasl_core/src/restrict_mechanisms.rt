@@ -70,6 +70,7 @@ impl<A: HasMechanism> RestrictMechanisms<A> {
     pub fn new(alloc: Global, acceptor: A, names: &[&str]) -> Result<Self, OfferError>
         ensures ok { IfOk result (λ offering. offering_of A.state offering
             ≡ record { inner = A.state acceptor; allowed = map (λ name. name.now) names.now }) }
+        ensures known { IfOk result (λ offering. A.known offering.acceptor ≡ A.known acceptor) }
         ensures some { IfOk result (λ offering. offering_names A.names (offering_of A.state offering) ≢ []) }
         ensures err { IfErr result (λ error. error ≡ OfferError.NoMechanismLeft
             → filter (has_name (map (λ name. name.now) names.now)) (A.names (A.state acceptor)) ≡ []) }
@@ -87,7 +88,8 @@ impl<A: HasMechanism> RestrictMechanisms<A> {
 
     /// Returns the inner acceptor.
     pub fn acceptor(&self) -> &A
-        ensures { A.state result.now ≡ (offering_of A.state self.now).inner }
+        ensures state { A.state result.now ≡ (offering_of A.state self.now).inner }
+        ensures known { A.known result.now ≡ A.known self.now.acceptor }
     {
         &self.acceptor
     }
@@ -146,7 +148,11 @@ impl<A: HasMechanism> SaslAcceptor for RestrictMechanisms<A> {
 
     ghost machine = { offering_machine A.names A.machine };
 
-    ghost reasons = { offering_reasons A.names A.reasons };
+    ghost Known = { A.Known };
+
+    ghost known = { λ offering. A.known offering.acceptor };
+
+    ghost reasons = { λ known. offering_reasons A.names (A.reasons known) };
 
     ghost allocates = { offering_allocates A.names A.allocates };
 
@@ -156,6 +162,8 @@ impl<A: HasMechanism> SaslAcceptor for RestrictMechanisms<A> {
       inner = A.clone_keeps offering.acceptor copy.acceptor same.0 i;
       allowed = same.1 i;
     } };
+
+    ghost clone_knows = { λ offering copy same. A.clone_knows offering.acceptor copy.acceptor same.0 };
 
     fn mechanisms(&self, alloc: Global) -> Result<Array<Symbol>, OutOfMemory> {
         let mut names = self.acceptor.mechanisms(alloc)?;

@@ -1,30 +1,20 @@
 //! The server's side of a negotiation: what it answers to an init and to a response (AMQP 1.0, part
 //! 5, section 5.3.2).
 
-ghost use Rattle.std.specs.Prelude.{◌≡◌, ◌≢◌, ◌↔◌, ◌≤◌, ◌+◌, ◌^◌, ⊤, Ok, Some, None, ℕ, List, [], ◌∷◌, Option, true, false, refl, IfOk, IfErr, IsOk, OnOk, OnErr, MatchOption, IsAscii, option_map, string_bytes};
+ghost use Rattle.std.specs.Prelude.{◌≡◌, ◌≢◌, ◌↔◌, ◌≤◌, ◌^◌, ⊤, Some, None, ℕ, List, [], ◌∷◌, Option, false, true, refl, IfOk, IfErr, IsOk, OnErr, MatchOption, IsAscii, option_map, string_bytes};
 ghost use Rattle.fe2o3_sasl_wire.specs.AmqpTypes.{init_frame, response_frame, mechanisms_frame};
-ghost use Rattle.fe2o3_sasl_wire.specs.SaslFrames.{SaslFrame, Mechanisms, Challenge, Outcome};
-ghost use Rattle.fe2o3_sasl_wire.specs.declared.amqp_types.SaslCode.TheVariants.{Ok as OkCode, Auth};
-ghost use Rattle.fe2o3_scram.specs.declared.scram_messages.error.ServerScramErrorKind.TheVariants.{OutOfMemory as ScramOutOfMemory};
-ghost use Rattle.fe2o3_sasl_core.specs.declared.rejection.Rejection.TheVariants.{Scram, UnknownUser};
+ghost use Rattle.fe2o3_sasl_wire.specs.SaslFrames.{SaslFrame, Mechanisms};
 ghost use Rattle.std.proofs.Common.{ap};
-ghost use Rattle.fe2o3_scram.specs.Credentials.{serving, with_rights};
-ghost use Rattle.fe2o3_scram.specs.MockSettings.{mocking};
-ghost use Rattle.fe2o3_scram.specs.ScramServer.{provider_in, served_by, state_in, logged_in_for, logged_in};
 ghost use Rattle.fe2o3_sasl_core.specs.Costs.{acceptor_hmacs, CostsAtMost};
-ghost use Rattle.fe2o3_sasl_core.specs.SaslAcceptor.{Acceptor, ScramAcceptor, PlainAcceptor, AnonymousAcceptor, acceptor_names, acceptor_machine, acceptor_acting, acceptor_allocates, acceptor_user, offered, NamesPlain, PlainRejected, ZeroPart, ends_with, server_frame, plain_acceptor, HasReason, acceptor_reasons, reason_in, sent_frame};
+ghost use Rattle.fe2o3_sasl_core.specs.SaslAcceptor.{Acceptor, PlainAcceptor, AnonymousAcceptor, acceptor_names, acceptor_machine, acceptor_allocates, acceptor_user, offered, NamesPlain, PlainRejected, ZeroPart, ends_with, plain_acceptor, HasReason, acceptor_reasons, no_users, sent_frame};
 
 use crate::OutOfMemory;
 use crate::mechanism_names::{ANONYMOUS, PLAIN, symbol_of};
 use crate::rejection::Rejection;
 use fe2o3_sasl_wire::{
-    Array, Binary, SaslChallenge, SaslCode, SaslInit, SaslMechanisms, SaslOutcome, SaslResponse,
-    Symbol,
+    Array, SaslChallenge, SaslCode, SaslInit, SaslMechanisms, SaslOutcome, SaslResponse, Symbol,
 };
-use fe2o3_scram::credentials::ScramCredentialProvider;
 use fe2o3_scram::hmac::Meter;
-use fe2o3_scram::scram_messages::ServerScramErrorKind;
-use fe2o3_scram::scram_server::ScramAuthenticator;
 use fe2o3_scram::secrets::SecretText;
 use std::alloc::{AllocError, Global};
 use std::fmt;
@@ -44,8 +34,12 @@ pub enum SaslServerFrame {
 
 /// The server's side of a negotiation. An implementation specifies its state, on which alone its answers depend; the
 /// names of its mechanisms in that state; its machine: the replies to an init and to a response, and the state after
-/// each; why it rejects one; at which of them it allocates; and how many HMAC values each takes. A call that runs out of
-/// memory leaves the state unchanged.
+/// each; at which of them it allocates; and how many HMAC values each takes. A call that runs out of memory leaves the
+/// state unchanged.
+///
+/// An implementation also specifies why it rejects a frame, by the state and by what it knows of users, which no call changes.
+/// Only the reason depends on that: `machine`, `allocates` and `hmacs` do not have it as an argument. So a server that answers an
+/// unknown user by a mock record may keep in its log that the user is unknown, and nothing else that it does shows it.
 pub trait SaslAcceptor: Clone {
     ghost use Rattle.fe2o3_sasl_core.specs.declared.rejection.Rejection.{Rejection};
 
@@ -57,7 +51,11 @@ pub trait SaslAcceptor: Clone {
 
     ghost machine: { State → List ℕ → SaslFrame → SaslFrame → State → Type 0 };
 
-    ghost reasons: { State → SaslFrame → Rejection → Type 0 };
+    ghost Known: { Type 0 };
+
+    ghost known: { Self → Known };
+
+    ghost reasons: { Known → State → SaslFrame → Rejection → Type 0 };
 
     ghost allocates: { State → SaslFrame → Type 0 };
 
@@ -77,9 +75,10 @@ pub trait SaslAcceptor: Clone {
         ensures ok { IfOk result (λ reply.
             machine (state self.old) nonce.now (init_frame init) (sent_frame reply) (state self.new)) }
         ensures reason { IfOk result (λ reply.
-            HasReason (reasons (state self.old) (init_frame init)) reply) }
+            HasReason (reasons (known self.old) (state self.old) (init_frame init)) reply) }
         ensures memory { IfErr result (λ _. allocates (state self.old) (init_frame init)) }
-        ensures err { OnErr result (state self.new ≡ state self.old) };
+        ensures err { OnErr result (state self.new ≡ state self.old) }
+        ensures known { known self.new ≡ known self.old };
 
     /// Answers a response, which needs no nonce.
     fn on_response(
@@ -90,9 +89,10 @@ pub trait SaslAcceptor: Clone {
         ensures ok { IfOk result (λ reply. (nonce : List ℕ) →
             machine (state self.old) nonce (response_frame response) (sent_frame reply) (state self.new)) }
         ensures reason { IfOk result (λ reply.
-            HasReason (reasons (state self.old) (response_frame response)) reply) }
+            HasReason (reasons (known self.old) (state self.old) (response_frame response)) reply) }
         ensures memory { IfErr result (λ _. allocates (state self.old) (response_frame response)) }
-        ensures err { OnErr result (state self.new ≡ state self.old) };
+        ensures err { OnErr result (state self.new ≡ state self.old) }
+        ensures known { known self.new ≡ known self.old };
 
     /// Like `on_init`; the meter, of at most 2^63, counts the HMAC values, also of an error. An acceptor that makes
     /// none keeps this default.
@@ -107,9 +107,10 @@ pub trait SaslAcceptor: Clone {
         ensures ok { IfOk result (λ reply.
             machine (state self.old) nonce.now (init_frame init) (sent_frame reply) (state self.new)) }
         ensures reason { IfOk result (λ reply.
-            HasReason (reasons (state self.old) (init_frame init)) reply) }
+            HasReason (reasons (known self.old) (state self.old) (init_frame init)) reply) }
         ensures memory { IfErr result (λ _. allocates (state self.old) (init_frame init)) }
         ensures err { OnErr result (state self.new ≡ state self.old) }
+        ensures known { known self.new ≡ known self.old }
         ensures cost { CostsAtMost hmacs (state self.old) (init_frame init) meter.old meter.new }
     {
         self.on_init(alloc, init, nonce)
@@ -126,9 +127,10 @@ pub trait SaslAcceptor: Clone {
         ensures ok { IfOk result (λ reply. (nonce : List ℕ) →
             machine (state self.old) nonce (response_frame response) (sent_frame reply) (state self.new)) }
         ensures reason { IfOk result (λ reply.
-            HasReason (reasons (state self.old) (response_frame response)) reply) }
+            HasReason (reasons (known self.old) (state self.old) (response_frame response)) reply) }
         ensures memory { IfErr result (λ _. allocates (state self.old) (response_frame response)) }
         ensures err { OnErr result (state self.new ≡ state self.old) }
+        ensures known { known self.new ≡ known self.old }
         ensures cost { CostsAtMost hmacs (state self.old) (response_frame response) meter.old meter.new }
     {
         self.on_response(alloc, response)
@@ -136,6 +138,9 @@ pub trait SaslAcceptor: Clone {
 
     /// A clone is in the same state.
     ghost clone_keeps: { (acceptor copy : Self) → Self.is_clone acceptor copy → state copy ≡ state acceptor };
+
+    /// A clone knows the same of users.
+    ghost clone_knows: { (acceptor copy : Self) → Self.is_clone acceptor copy → known copy ≡ known acceptor };
 }
 
 /// The frame that every acceptor offers.
@@ -324,13 +329,19 @@ impl SaslAcceptor for SaslPlainMechanism {
 
     ghost machine = { acceptor_machine };
 
-    ghost reasons = { acceptor_reasons };
+    ghost Known = { Unit {0} };
+
+    ghost known = { λ _. tt };
+
+    ghost reasons = { λ _. acceptor_reasons no_users };
 
     ghost allocates = { acceptor_allocates };
 
     ghost hmacs = { acceptor_hmacs };
 
     ghost clone_keeps = { λ acceptor copy same. same };
+
+    ghost clone_knows = { λ acceptor copy same. refl };
 
     fn mechanisms(&self, alloc: Global) -> Result<Array<Symbol>, OutOfMemory> {
         one_name(alloc, PLAIN)
@@ -345,7 +356,7 @@ impl SaslAcceptor for SaslPlainMechanism {
         ensures ok { IfOk result (λ reply. acceptor_machine (plain_acceptor self.old) _nonce.now (init_frame init)
             (sent_frame reply) (plain_acceptor self.new)) }
         ensures reason { IfOk result (λ reply.
-            HasReason (acceptor_reasons (plain_acceptor self.old) (init_frame init)) reply) }
+            HasReason (acceptor_reasons no_users (plain_acceptor self.old) (init_frame init)) reply) }
         ensures always { IsOk result }
     {
         let Some(message) = &init.initial_response else {
@@ -366,7 +377,7 @@ impl SaslAcceptor for SaslPlainMechanism {
         ensures ok { IfOk result (λ reply. (nonce : List ℕ) → acceptor_machine (plain_acceptor self.old) nonce
             (response_frame response) (sent_frame reply) (plain_acceptor self.new)) }
         ensures reason { IfOk result (λ reply.
-            HasReason (acceptor_reasons (plain_acceptor self.old) (response_frame response)) reply) }
+            HasReason (acceptor_reasons no_users (plain_acceptor self.old) (response_frame response)) reply) }
         ensures always { IsOk result }
     {
         drop(response);
@@ -428,13 +439,19 @@ impl SaslAcceptor for SaslAnonymousMechanism {
 
     ghost machine = { acceptor_machine };
 
-    ghost reasons = { acceptor_reasons };
+    ghost Known = { Unit {0} };
+
+    ghost known = { λ _. tt };
+
+    ghost reasons = { λ _. acceptor_reasons no_users };
 
     ghost allocates = { acceptor_allocates };
 
     ghost hmacs = { acceptor_hmacs };
 
     ghost clone_keeps = { λ acceptor copy same. refl };
+
+    ghost clone_knows = { λ acceptor copy same. refl };
 
     fn mechanisms(&self, alloc: Global) -> Result<Array<Symbol>, OutOfMemory> {
         one_name(alloc, ANONYMOUS)
@@ -449,7 +466,7 @@ impl SaslAcceptor for SaslAnonymousMechanism {
         ensures ok { IfOk result (λ reply.
             acceptor_machine AnonymousAcceptor _nonce.now (init_frame init) (sent_frame reply) AnonymousAcceptor) }
         ensures reason { IfOk result (λ reply.
-            HasReason (acceptor_reasons AnonymousAcceptor (init_frame init)) reply) }
+            HasReason (acceptor_reasons no_users AnonymousAcceptor (init_frame init)) reply) }
         ensures always { IsOk result }
     {
         drop(init);
@@ -464,7 +481,7 @@ impl SaslAcceptor for SaslAnonymousMechanism {
         ensures ok { IfOk result (λ reply. (nonce : List ℕ) →
             acceptor_machine AnonymousAcceptor nonce (response_frame response) (sent_frame reply) AnonymousAcceptor) }
         ensures reason { IfOk result (λ reply.
-            HasReason (acceptor_reasons AnonymousAcceptor (response_frame response)) reply) }
+            HasReason (acceptor_reasons no_users AnonymousAcceptor (response_frame response)) reply) }
         ensures always { IsOk result }
     {
         drop(response);
@@ -487,171 +504,5 @@ impl AuthenticatedUser for SaslAnonymousMechanism {
 
     fn acts_for(&self) -> Option<&str> {
         None
-    }
-}
-
-impl<C: ScramCredentialProvider> SaslAcceptor for ScramAuthenticator<C> {
-    ghost State = { Acceptor };
-
-    ghost state = { λ authenticator. ScramAcceptor (served_by C.meaning authenticator) (state_in authenticator) };
-
-    ghost names = { acceptor_names };
-
-    ghost machine = { acceptor_machine };
-
-    ghost reasons = { acceptor_reasons };
-
-    ghost allocates = { acceptor_allocates };
-
-    ghost hmacs = { acceptor_hmacs };
-
-    ghost clone_keeps = { λ acceptor copy same.
-        let kept = C.clone_keeps (provider_in acceptor) (provider_in copy) same.0 in
-        λ i. ScramAcceptor (with_rights (same.4 i) (mocking (same.3 i) (serving (same.1 i) (kept i)))) (same.2 i) };
-
-    fn mechanisms(&self, alloc: Global) -> Result<Array<Symbol>, OutOfMemory> {
-        one_name(alloc, self.mechanism())
-    }
-
-    fn on_init(
-        &mut self,
-        alloc: Global,
-        init: SaslInit,
-        nonce: &[u8; 32],
-    ) -> Result<SaslServerFrame, OutOfMemory> {
-        self.on_init_metered(alloc, init, nonce, &mut Meter::new())
-    }
-
-    fn on_response(
-        &mut self,
-        alloc: Global,
-        response: SaslResponse,
-    ) -> Result<SaslServerFrame, OutOfMemory> {
-        self.on_response_metered(alloc, response, &mut Meter::new())
-    }
-
-    fn on_init_metered(
-        &mut self,
-        alloc: Global,
-        init: SaslInit,
-        nonce: &[u8; 32],
-        meter: &mut Meter,
-    ) -> Result<SaslServerFrame, OutOfMemory>
-        requires { meter.old ≤ 2 ^ 63 }
-        ensures ok { IfOk result (λ reply. acceptor_machine
-            (ScramAcceptor (served_by C.meaning self.old) (state_in self.old)) nonce.now (init_frame init)
-            (sent_frame reply) (ScramAcceptor (served_by C.meaning self.new) (state_in self.new))) }
-        ensures reason { IfOk result (λ reply. HasReason (acceptor_reasons
-            (ScramAcceptor (served_by C.meaning self.old) (state_in self.old)) (init_frame init)) reply) }
-        ensures memory { IfErr result (λ _. acceptor_allocates
-            (ScramAcceptor (served_by C.meaning self.old) (state_in self.old)) (init_frame init)) }
-        ensures err { OnErr result (◌≡◌ {A = Acceptor}
-            (ScramAcceptor (served_by C.meaning self.new) (state_in self.new))
-            (ScramAcceptor (served_by C.meaning self.old) (state_in self.old))) }
-        ensures cost { CostsAtMost acceptor_hmacs
-            (ScramAcceptor (served_by C.meaning self.old) (state_in self.old)) (init_frame init) meter.old meter.new }
-        ensures exactly { OnOk result ((n : ℕ) → acceptor_hmacs
-            (ScramAcceptor (served_by C.meaning self.old) (state_in self.old)) (init_frame init) n
-            → meter.new ≡ meter.old + n) }
-    {
-        if init.mechanism.as_str() != self.mechanism() {
-            return Ok(SaslServerFrame::Rejected(Rejection::MechanismNotOffered));
-        }
-        let Some(client_first) = &init.initial_response else {
-            return Ok(SaslServerFrame::Rejected(Rejection::NoInitialResponse));
-        };
-        match self.compute_server_first_message_metered(alloc, &client_first.0, nonce, meter) {
-            Ok(answer) => Ok(challenge(answer)),
-            Err(kind) => refusal(kind),
-        }
-    }
-
-    fn on_response_metered(
-        &mut self,
-        alloc: Global,
-        response: SaslResponse,
-        meter: &mut Meter,
-    ) -> Result<SaslServerFrame, OutOfMemory>
-        requires { meter.old ≤ 2 ^ 63 }
-        ensures ok { IfOk result (λ reply. (nonce : List ℕ) → acceptor_machine
-            (ScramAcceptor (served_by C.meaning self.old) (state_in self.old)) nonce (response_frame response)
-            (sent_frame reply) (ScramAcceptor (served_by C.meaning self.new) (state_in self.new))) }
-        ensures reason { IfOk result (λ reply. HasReason (acceptor_reasons
-            (ScramAcceptor (served_by C.meaning self.old) (state_in self.old)) (response_frame response)) reply) }
-        ensures memory { IfErr result (λ _. acceptor_allocates
-            (ScramAcceptor (served_by C.meaning self.old) (state_in self.old)) (response_frame response)) }
-        ensures err { OnErr result (◌≡◌ {A = Acceptor}
-            (ScramAcceptor (served_by C.meaning self.new) (state_in self.new))
-            (ScramAcceptor (served_by C.meaning self.old) (state_in self.old))) }
-        ensures cost { CostsAtMost acceptor_hmacs
-            (ScramAcceptor (served_by C.meaning self.old) (state_in self.old)) (response_frame response)
-            meter.old meter.new }
-        ensures exactly { OnOk result ((n : ℕ) → acceptor_hmacs
-            (ScramAcceptor (served_by C.meaning self.old) (state_in self.old)) (response_frame response) n
-            → meter.new ≡ meter.old + n) }
-    {
-        match self.compute_server_final_message_metered(alloc, &response.response.0, meter) {
-            Ok(answer) => Ok(conclusion(answer)),
-            Err(kind) => refusal(kind),
-        }
-    }
-}
-
-impl<C: ScramCredentialProvider> AuthenticatedUser for ScramAuthenticator<C> {
-    ghost named = { λ authenticator. logged_in (state_in authenticator) };
-
-    ghost acting = { λ authenticator. logged_in_for (state_in authenticator) };
-
-    ghost named_by_state = { λ acceptor other same. ap acceptor_user same };
-
-    ghost acting_by_state = { λ acceptor other same. ap acceptor_acting same };
-
-    fn authenticated_user(&self) -> Option<&str> {
-        ScramAuthenticator::authenticated_user(self)
-    }
-
-    fn acts_for(&self) -> Option<&str> {
-        ScramAuthenticator::acts_for(self)
-    }
-}
-
-/// Returns the frame of a server-first message, or the rejection of an unknown user if there is none.
-fn challenge(answer: Option<Vec<u8>>) -> SaslServerFrame
-    ensures frame { sent_frame result
-        ≡ server_frame (λ message. Challenge message) (Ok (option_map (λ message. message.items) answer)) }
-    ensures reason { MatchOption answer (reason_in result ≡ Some UnknownUser) (λ _. reason_in result ≡ None) }
-{
-    match answer {
-        Some(server_first) => SaslServerFrame::Challenge(SaslChallenge {
-            challenge: Binary(server_first),
-        }),
-        None => SaslServerFrame::Rejected(Rejection::UnknownUser),
-    }
-}
-
-/// Returns the frame of a server-final message. SCRAM answers a response never by `None`.
-fn conclusion(answer: Option<Vec<u8>>) -> SaslServerFrame
-    ensures frame { sent_frame result ≡ server_frame (λ message. Outcome OkCode (Some message))
-        (Ok (option_map (λ message. message.items) answer)) }
-    ensures reason { MatchOption answer ⊤ (λ _. reason_in result ≡ None) }
-{
-    match answer {
-        Some(server_final) => SaslServerFrame::Outcome(SaslOutcome {
-            code: SaslCode::Ok,
-            additional_data: Some(Binary(server_final)),
-        }),
-        None => SaslServerFrame::Rejected(Rejection::Other),
-    }
-}
-
-/// Maps every SCRAM error to a rejection, except `OutOfMemory`, which is returned as an error.
-fn refusal(kind: ServerScramErrorKind) -> Result<SaslServerFrame, OutOfMemory>
-    ensures auth { IfOk result (λ frame. (kind ≢ ScramOutOfMemory) × (sent_frame frame ≡ ends_with Auth)) }
-    ensures reason { IfOk result (λ frame. reason_in frame ≡ Some (Scram kind)) }
-    ensures memory { IfErr result (λ _. kind ≡ ScramOutOfMemory) }
-{
-    match kind {
-        ServerScramErrorKind::OutOfMemory => Err(OutOfMemory),
-        kind => Ok(SaslServerFrame::Rejected(Rejection::Scram(kind))),
     }
 }

@@ -1,6 +1,6 @@
 //! The strict acceptor of PLAIN for one user (RFC 4616, section 2).
 
-ghost use Rattle.std.specs.Prelude.{◌≡◌, ◌≢◌, ◌↔◌, false, IsTrue, ◌∷◌, [], IfOk, IsOk, MatchOption, ℕ, List, Some, codes, option_map, string_bytes, None};
+ghost use Rattle.std.specs.Prelude.{◌≡◌, ◌≢◌, ◌↔◌, false, IsTrue, ◌∷◌, [], IfOk, IsOk, MatchOption, ℕ, List, Some, codes, option_map, string_bytes, None, refl};
 ghost use Rattle.std.proofs.Common.{ap, refl};
 ghost use Rattle.fe2o3_sasl_wire.specs.AmqpTypes.{init_frame, response_frame};
 ghost use Rattle.fe2o3_sasl_core.specs.PlainServer.{IsTaken, PlainParts, SpellsPlain, parts_of};
@@ -87,13 +87,19 @@ impl SaslAcceptor for StrictPlainMechanism {
 
     ghost machine = { strict_plain_machine };
 
-    ghost reasons = { strict_plain_reasons };
+    ghost Known = { Unit {0} };
+
+    ghost known = { λ _. tt };
+
+    ghost reasons = { λ _. strict_plain_reasons };
 
     ghost allocates = { λ _ _. ⊥ };
 
     ghost hmacs = { λ _ _ n. n ≡ 0 };
 
     ghost clone_keeps = { λ acceptor copy same. same };
+
+    ghost clone_knows = { λ acceptor copy same. refl };
 
     fn mechanisms(&self, alloc: Global) -> Result<Array<Symbol>, OutOfMemory> {
         one_name(alloc, PLAIN)

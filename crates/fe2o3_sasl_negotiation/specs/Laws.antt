@@ -43,7 +43,7 @@ NoncesOf (call ∷ calls) nonces = NoncesOf calls nonces
     ⊎ ((others : List (List ℕ)) × (nonces ≡ call.nonce ∷ others) × NoncesOf calls others)
 
 -- however a stream is divided into calls, they do with the bytes that they take what is done with them as a whole, each
--- unit with the nonce of a call, in order: the cut does not matter. `Connections` says which call that is
+-- unit with the nonce of a call, in order: the cut does not matter. Which call that is, the contract of one call says
 abbrev pub CutsDoNotMatter : {S : Type 0} → (Expected → S → List ℕ → List ℕ → SideOutput → S → Type 0) → Type 0
 CutsDoNotMatter {S} Answers = (side last : Side S) (calls : List Call) (stream sent rest : List ℕ)
     → IsPart side.expected side.limit side.held → Calls (Receives Answers) side calls stream sent last rest

@@ -36,13 +36,15 @@ pub fn extended_headers<A: AuthenticatedUser>()
 
 /// The headline theorem over the bytes of a server's connection, in whatever calls they are passed. A server of any
 /// acceptor answers every frame up to the one that ends the negotiation, in a run over the bodies: each frame with the
-/// nonce of the call that completes it. It sends its header, its list of mechanisms and the frames of its replies, and
-/// ends as its last reply says. It has logged a client in exactly if that reply is an Ok that it sent. A SCRAM server
+/// nonce of a call, in the order of the calls. It sends its header, its list of mechanisms and the frames of its replies,
+/// and ends as its last reply says. It has logged a client in exactly if that reply is an Ok that it sent. A SCRAM server
 /// answers Ok exactly to a response that fits its open challenge and whose proof meets the stored key, and names
 /// exactly the user of that challenge.
 ///
 /// The last argument of `connects` is what one call does, by the contract of
-/// [`ConnectionSide::receive`](crate::ConnectionSide::receive). The arguments of `scram` are the machine of a SCRAM
+/// [`ConnectionSide::receive`](crate::ConnectionSide::receive): there a frame has the nonce of the call that completes
+/// it. Of several calls, each passed more than it takes, `connects` does not say which one that is; the contract of
+/// [`server_connection`](crate::server_connection) does. The arguments of `scram` are the machine of a SCRAM
 /// server, its state before its first frame, and the user that a state names.
 pub fn server_connections<A: AuthenticatedUser>()
     ensures connects { ServersConnect A.names A.machine (ServerReceives A.names A.machine) }
@@ -52,7 +54,7 @@ pub fn server_connections<A: AuthenticatedUser>()
 
 /// The headline theorem over the bytes of a client's connection, in whatever calls they are passed. A client of any
 /// profile answers every frame up to the one that ends the negotiation, in a run over the bodies: each frame with the
-/// nonce of the call that completes it. It sends the frames of its replies, and ends as its last reply says. It has
+/// nonce of a call, in the order of the calls. It sends the frames of its replies, and ends as its last reply says. It has
 /// logged in exactly if that reply reports an Ok. A SCRAM client reports Ok exactly on the signature of its open
 /// answered challenge. On each verifier that it took and a server issued, both sides agree, or their own AuthMessages
 /// share one HMAC value.
@@ -67,8 +69,8 @@ pub fn client_connections()
 {}
 
 /// The user that a server of several mechanisms has logged in, whatever its bytes are: the init asks for a mechanism
-/// that it offers, the acceptor that has this mechanism answers Ok to the last frame, and the server names that
-/// acceptor's user.
+/// that it offers, the acceptor that has this mechanism answers Ok to the last frame from some state of it, and the server
+/// names that acceptor's user. Which state that is, `any_mechanism` of `connection_laws` says.
 pub fn users_of_any_mechanism<A: HasMechanism, B: HasMechanism>()
     ensures connections { AnyMechanismServersLogIn A.names B.names A.machine B.machine }
     ensures steps { AnyMechanismStepsLogIn A.names B.names A.machine B.machine }

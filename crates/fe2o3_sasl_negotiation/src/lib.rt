@@ -119,6 +119,7 @@ pub use fe2o3_scram::ChannelDataLength;
 pub use fe2o3_scram::ChannelKind;
 pub use fe2o3_scram::ClientChannel;
 pub use fe2o3_scram::ClientSecret;
+pub use fe2o3_scram::DEFAULT_SALT_LEN;
 pub use fe2o3_scram::DEFAULT_SCRAM_ITERATIONS;
 pub use fe2o3_scram::DigestBytes;
 pub use fe2o3_scram::IterationLimits;

@@ -69,6 +69,12 @@ is_bound Absent = false
 is_bound NotOffered = false
 is_bound (Bound binding) = true
 
+-- whether a client has a channel, whether it binds it or not
+abbrev pub has_channel : ClientChannel → Bool
+has_channel Absent = false
+has_channel NotOffered = true
+has_channel (Bound binding) = true
+
 -- cbind-data (RFC 5802, section 7), which is empty if no channel is bound
 abbrev pub cbind_data : ClientChannel → List ℕ
 cbind_data Absent = []
@@ -93,10 +99,14 @@ header_of client = record { flag = flag_of client.channel; acts_for = client.act
 abbrev pub cbind_input : ClientHeader → List ℕ
 cbind_input client = header_text (header_of client) ++ cbind_data client.channel
 
--- a side has to be strict that binds a channel or names an identity, since someone on the way can move both from one message
--- to another if neither side is strict
+-- a side has to be strict whose header says that the client has a channel, bound or not, or names an identity, since someone
+-- on the way can move all that a header says from one message to another if neither side is strict
 abbrev pub needs_strict : ClientHeader → Bool
-needs_strict client = is_bound client.channel || is_some client.acts_for
+needs_strict client = has_channel client.channel || is_some client.acts_for
+
+-- whether cbind-input has more than the flag: the data of a channel, or an identity
+abbrev pub has_more_than_flag : ClientHeader → Bool
+has_more_than_flag client = is_bound client.channel || is_some client.acts_for
 
 -- what the code holds of a header: the data of the channel and the identity are bytes
 abbrev pub HoldsHeaderBytes : ClientHeader → Type 0
@@ -181,9 +191,9 @@ abbrev pub expected_header : Option ChannelBindings → Gs2Header → ClientHead
 expected_header channels header =
     record { channel = expected_channel channels header.flag; acts_for = header.acts_for }
 
--- a server is strict if it binds a channel, accepts identities, or is set to
+-- a server rejects what is no extension in the place of one if it binds a channel, accepts identities, or is set to
 abbrev pub is_strict : ServerRules → Bool
-is_strict rules = is_some rules.channels || (rules.accept_authzid || rules.strict)
+is_strict rules = is_some rules.channels || (rules.accept_authzid || (rules.reject_misplaced || rules.strict))
 
 -- the mechanism of a server (RFC 5802, section 6): the one with channel binding if it binds channels
 abbrev pub server_mechanism : ScramVersion → ServerRules → List ℕ

@@ -3,7 +3,7 @@ use Rattle.std.specs.Prelude.{ℕ, List, [], ◌∷◌, ◌++◌, ◌≡◌, cod
 use Rattle.std.specs.Cmp.Lexicographic.{pointwise}
 use Rattle.fe2o3_scram.specs.declared.scram_messages.client_final.ClientAnswer.{ClientAnswer}
 use Rattle.fe2o3_scram.specs.declared.hmac.ScramVersion.{ScramVersion}
-use Rattle.fe2o3_scram.specs.ChannelBinding.{ClientHeader, cbind_input, needs_strict, plain_header}
+use Rattle.fe2o3_scram.specs.ChannelBinding.{ClientHeader, cbind_input, has_more_than_flag, needs_strict, plain_header}
 use Rattle.fe2o3_scram.specs.Texts.{base64_text, joined, Part, LastPart, HasBase64}
 use Rattle.fe2o3_scram.specs.Keys.{auth_message, client_proof, server_signature, recovered_client_key, MeetsStoredKey}
 use Rattle.fe2o3_scram.specs.ClientKeys.{ClientKeys, keys_of}
@@ -160,7 +160,7 @@ final_text_tests header strict nonce text = before_proof_tests header nonce text
 -- identity, and otherwise one that is not the client's GS2 header
 abbrev pub ReachesBinding : ClientHeader → List ℕ → Type 0
 ReachesBinding header text = ((rest : List ℕ) × Part text 0 (codes "c=" ++ rest))
-    × (needs_strict header ≡ false → ¬ HasBase64 text 0 (codes "c=") (cbind_input header))
+    × (has_more_than_flag header ≡ false → ¬ HasBase64 text 0 (codes "c=") (cbind_input header))
 
 -- the server reaches the proof, for which it allocates: the tests up to that of the nonce have passed, and the last
 -- part is a proof (RFC 5802, section 5.1)

@@ -20,11 +20,23 @@ client_first_bare username nonce = joined ((codes "n=" ++ escaped username) ∷ 
 
 -- a server that accepts no `y,,` and no identity, is not strict and binds no channel
 abbrev pub default_rules : ServerRules
-default_rules = record { accept_cbind_flag_y = false; strict = false; channels = None; accept_authzid = false }
+default_rules = record {
+  accept_cbind_flag_y = false;
+  strict = false;
+  reject_misplaced = false;
+  channels = None;
+  accept_authzid = false;
+}
 
 -- a reader that accepts both GS2 headers of clients that bind no channel, and is not strict
 abbrev pub either_header : ServerRules
-either_header = record { accept_cbind_flag_y = true; strict = false; channels = None; accept_authzid = false }
+either_header = record {
+  accept_cbind_flag_y = true;
+  strict = false;
+  reject_misplaced = false;
+  channels = None;
+  accept_authzid = false;
+}
 
 -- client-first-message with a GS2 header (RFC 5802, section 7)
 abbrev pub client_first_with : Gs2Header → List ℕ → List ℕ → List ℕ
@@ -79,7 +91,7 @@ abbrev pub NamesNoNonce : ServerRules → List ℕ → Type 0
 NamesNoNonce rules text = (nonce : List ℕ) × BarePart rules text 1 (codes "r=" ++ nonce) × (is_nonce nonce ≡ false)
 
 -- the server's tests, in order (RFC 5802, section 5.1; UTF-8: RFC 3629, section 3); the last three are those of a strict
--- server, and the last also of one that binds channels
+-- server, and the last also of one that is set to it alone, binds channels or accepts identities
 abbrev pub client_first_tests : ServerRules → List ℕ → List (ServerScramErrorKind × Type 0)
 client_first_tests rules text =
     (Utf8Error, ¬ IsUtf8 text)

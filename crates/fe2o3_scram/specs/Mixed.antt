@@ -1,9 +1,10 @@
 -- A store whose records are of several versions.
-use Rattle.std.specs.Prelude.{ℕ, List, Bool, true, false, filter, map, nat_eq}
+use Rattle.std.specs.Prelude.{ℕ, List, Bool, true, false, filter, is_some, map, nat_eq}
+use Rattle.std.specs.List.{list_all}
 use Rattle.std.specs.Cmp.Lexicographic.{pointwise}
 use Rattle.fe2o3_scram.specs.declared.hmac.ScramVersion.{ScramVersion}
 use Rattle.fe2o3_scram.specs.declared.hmac.ScramVersion.TheVariants.{Sha1, Sha256, Sha512}
-use Rattle.fe2o3_scram.specs.Credentials.{Store, Record, VersionedRecord}
+use Rattle.fe2o3_scram.specs.Credentials.{Store, Record, VersionedRecord, record_at}
 
 -- user names and their records, each for the version that it names (RFC 5803, section 2); a name may have several
 abbrev pub MultiRecords : Type 0
@@ -27,6 +28,11 @@ provider_for version users = record {
   records =
       map unversioned (filter (λ (user : List ℕ × VersionedRecord). is_version user.1.version version) users);
 }
+
+-- whether each user has a record of this version
+abbrev pub all_have : ScramVersion → MultiRecords → Bool
+all_have version users = list_all (λ (user : List ℕ × VersionedRecord).
+    is_some (record_at (provider_for version users).records user.0)) users
 
 -- the records of a name, for any version, in order
 abbrev pub records_named : MultiRecords → List ℕ → List VersionedRecord

@@ -35,6 +35,10 @@ use std::marker::Model;
 /// The iteration count of a credential that names none: the minimum that RFC 7677, section 4, asks for.
 pub const DEFAULT_SCRAM_ITERATIONS: u32 = 4096;
 
+/// The length in bytes of the salt of a new record, and of the mock salt of an unknown user. All languages and the
+/// program `scram` take it. Credentials that make their own salt ([`SingleScramCredential`]) have 32 bytes.
+pub const DEFAULT_SALT_LEN: usize = 16;
+
 /// The credential of one user, made of the user's password.
 #[derive(Drop)]
 pub struct SingleScramCredential {

@@ -3,8 +3,8 @@
 
 ghost use Rattle.std.specs.Prelude.{◌≡◌};
 ghost use Rattle.fe2o3_scram.specs.Agreement.{OneStrictSideOfTextsIsEnough, VerifiedTextsAgree};
-ghost use Rattle.fe2o3_scram.specs.BoundChannels.{ShownTextsAgree, ShownTextsBindOneChannel, VerifiedTextsBindOneChannel};
-ghost use Rattle.fe2o3_scram.specs.examples.MovedChannels.{MovedChannelsPass};
+ghost use Rattle.fe2o3_scram.specs.BoundChannels.{EqualTextsBindOneChannel, ForeignClientsBindOneChannel, ForeignServersExpectThis, SetServersReject, ShownTextsAgree, ShownTextsBindOneChannel, UnofferedTextsDiffer, VerifiedTextsBindOneChannel};
+ghost use Rattle.fe2o3_scram.specs.examples.MovedChannels.{MovedChannelsPass, MovedFirstsAreRefused};
 ghost use Rattle.fe2o3_scram.specs.Logins.{AcceptedTextsLogIn, VerifiedTextsAreSigned};
 ghost use Rattle.fe2o3_scram.specs.Laws.{OneVersion, OneFinalText, OneSignature, DigestsAreSized, MacsAreSized, OneBytesOfBase64, Base64IsReadAgain, NoCommaInBase64, PartsExist, OneListOfParts, OneEscapedName, NoCommaInEscapedNames, OneClientFirst, OneServerFirst, OneClientFinal, OneServerFinal, SomeClientFirst, SomeServerFirst, SomeClientFinal, SomeServerFinal, UnalteredExchangesSucceed, MadeRecordsAreReadable, OneRecord, OneSpelling, RecordsAreReadAgain, SomeRecord, OneUsersAnswer, SomeUsersAnswer, UsersAreReadAgain, OneMixedAnswer, SomeMixedAnswer, MixedAreReadAgain, MixedAreWrittenBack, NoMismatch, KeysStandForPassword, KeysAnswerAsPassword, BothAnswerAsPassword, OneRecordOfPassword, OneAnswerOfPassword, ServerErrorsAreReadAgain, OneServerError, ServerErrorsAreNoSignature};
 ghost use Rattle.fe2o3_scram.specs.ScramServer.{StatesAreReported};
@@ -86,17 +86,26 @@ pub fn accepted_messages()
 
 /// States what channel binding protects against: someone who has one channel to the client and another to the server, as
 /// with a false certificate. A client that has a channel sends `y,,` or binds it, whatever mechanisms it was offered. If
-/// the server accepts no `y,,` and one side is strict, as each is that binds a channel, then both bind one channel, of one
-/// kind and with the same data: if the client verified the message by which the server accepted, or if the server accepted
-/// the proof that the client showed. Otherwise two different AuthMessages share one HMAC value, or two keys one digest.
+/// the server accepts no `y,,`, then both bind one channel, of one kind and with the same data: if the client verified the
+/// message by which the server accepted, or if the server accepted the proof that the client showed. Otherwise two different
+/// AuthMessages share one HMAC value, or two keys one digest. Neither side needs an option.
 ///
-/// The last clause says why such a side has to be strict: between two sides that are not, someone on the way can move
-/// attributes from one message to another, so that each side reads the channel that it expects.
+/// - `equal`, `unoffered`: the same of equal AuthMessages alone; a client that says `y,,` never has that of such a server.
+/// - `foreign_client`, `set_server`: if the server rejects what is no extension, it is true of a client of another library.
+/// - `foreign_server`: and of a server of another library, if the client is of this one.
+/// - `moved`, `refused`: between two sides that are not strict, someone on the way can move attributes from one message to
+///   another, so that each reads the channel that it expects; a client that has a channel reads no such message.
 pub fn bound_channels()
+    ensures equal { EqualTextsBindOneChannel }
+    ensures foreign_client { ForeignClientsBindOneChannel }
+    ensures set_server { SetServersReject }
+    ensures foreign_server { ForeignServersExpectThis }
+    ensures unoffered { UnofferedTextsDiffer }
     ensures verified { VerifiedTextsBindOneChannel }
     ensures shown { ShownTextsAgree }
     ensures shown_channel { ShownTextsBindOneChannel }
     ensures moved { MovedChannelsPass }
+    ensures refused { MovedFirstsAreRefused }
 {}
 
 /// A client and a server with the same password log in if nothing is altered on the way.

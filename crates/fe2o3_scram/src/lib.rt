@@ -38,8 +38,9 @@ pub use crate::channel_binding::{
 };
 pub use crate::client_secret::{ClientSecret, ClientSecretError, IterationLimits};
 pub use crate::credentials::{
-    AddRecordError, DEFAULT_SCRAM_ITERATIONS, MultiRecordStore, ReadLinesError, ReadLinesErrorKind,
-    RecordStore, RecordTextError, ScramRecord, SingleScramCredential, UserRecord, WriteLinesError,
+    AddRecordError, DEFAULT_SALT_LEN, DEFAULT_SCRAM_ITERATIONS, MultiRecordStore, ReadLinesError,
+    ReadLinesErrorKind, RecordStore, RecordTextError, ScramRecord, SingleScramCredential,
+    UserRecord, WriteLinesError,
 };
 pub use crate::hmac::{DigestBytes, Meter, ScramVersion, UnknownMechanism, XorLengthMismatch};
 pub use crate::keys::{CachedKeys, RecordError, auth_message};

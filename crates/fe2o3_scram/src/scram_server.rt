@@ -12,6 +12,7 @@ ghost use Rattle.fe2o3_scram.specs.Readings.{Gives};
 mod kept_record;
 mod mock_users;
 pub mod open_challenge;
+mod settings;
 
 use crate::OutOfMemory;
 use crate::acting_rights::{ActingRights, SharedRights};
@@ -203,7 +204,8 @@ impl<C: ScramCredentialProvider> ScramAuthenticator<C> {
     /// Returns this server, but with this option: whether it accepts the GS2 header `y,,` too. A client
     /// with that header supports channel binding, and assumes that the server does not, since it was
     /// offered no mechanism with `-PLUS` (RFC 5802, section 6). Its client-final message has to repeat
-    /// the header. A server that offers such a mechanism must not accept that client.
+    /// the header, and has only extensions between the nonce and the proof (`MisplacedAttribute`). A server
+    /// that offers such a mechanism must not accept that client.
     pub fn accept_cbind_flag_y(self, accept: bool) -> Self
         ensures provider { provider_in result ≡ provider_in self }
         ensures rules { rules_in result ≡ record (rules_in self) { accept_cbind_flag_y = accept } }
@@ -236,6 +238,23 @@ impl<C: ScramCredentialProvider> ScramAuthenticator<C> {
     {
         let rules = ServerRules {
             strict,
+            ..self.rules
+        };
+        self.with_rules(rules)
+    }
+
+    /// Returns this server, but with this option: whether it rejects what is no extension in the place of one
+    /// (`MisplacedAttribute`), as one with `with_channels` does in any case. An empty user name is accepted. A server that
+    /// offers SCRAM with and without `-PLUS` sets it for both (`laws::bound_channels`).
+    pub fn reject_misplaced(self, reject: bool) -> Self
+        ensures provider { provider_in result ≡ provider_in self }
+        ensures rules { rules_in result ≡ record (rules_in self) { reject_misplaced = reject } }
+        ensures rights { rights_in result ≡ rights_in self }
+        ensures mock { mock_in result ≡ mock_in self }
+        ensures state { state_in result ≡ state_in self }
+    {
+        let rules = ServerRules {
+            reject_misplaced: reject,
             ..self.rules
         };
         self.with_rules(rules)

@@ -45,7 +45,7 @@ last_at Is (says ∷ next ∷ replies) is =
     (suc rest.0, rest.1, ap suc rest.2, rest.3, rest.4)
 
 -- the record of an accepted response is one of the provider
-held : (sides : Sides) (n : ℕ) (accepted : Accepted) → HoldsRecords sides.provider → OkAt sides n accepted
+pub held : (sides : Sides) (n : ℕ) (accepted : Accepted) → HoldsRecords sides.provider → OkAt sides n accepted
     → IsRecord accepted.challenge.stored
 held sides n accepted records ok =
     let at = (accepts_open sides.provider sides.server_events sides.server_replies n accepted ok.accepts).2 in

@@ -29,3 +29,5 @@ pub mod LoginAttemptLemmas
 pub mod ClaimLemmas
 pub mod LastAttemptLemmas
 pub mod LastAnsweredInitLemmas
+pub mod OfferedScramLemmas
+pub mod RejectionLemmas

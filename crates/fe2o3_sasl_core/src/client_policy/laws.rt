@@ -1,7 +1,7 @@
 //! Laws of a client that selects its mechanism from an offer. Each function has an empty body and states only its
 //! contract.
 
-ghost use Rattle.fe2o3_sasl_core.specs.ClientPolicyLaws.{OfferedChannelIsBound, RequiredChannelIsBound, SelectionKeepsChannel, UnofferedChannelIsSaid};
+ghost use Rattle.fe2o3_sasl_core.specs.ClientPolicyLaws.{OfferedChannelIsBound, RequiredChannelIsBound, SelectedScramHasChannel, SelectionKeepsChannel, UnofferedChannelIsSaid};
 
 /// States what a client that has a channel ([`ClientPolicy::bind_channel`](crate::ClientPolicy::bind_channel)) says of it,
 /// for every offer, user, secret and policy (RFC 5802, section 6). `OffersBinding` is an offer with a mechanism with
@@ -14,9 +14,11 @@ ghost use Rattle.fe2o3_sasl_core.specs.ClientPolicyLaws.{OfferedChannelIsBound, 
 ///   SCRAM and says `y,,`.
 /// - `required`: with [`ClientPolicy::must_bind`](crate::ClientPolicy::must_bind) a selected profile of SCRAM binds
 ///   exactly the channel of the policy.
+/// - `scram`: each selected profile of SCRAM binds a channel or says `y,,`, so that nobody talks it out of its channel.
 pub fn selected_channels()
     ensures keeps { SelectionKeepsChannel }
     ensures offered { OfferedChannelIsBound }
     ensures unoffered { UnofferedChannelIsSaid }
     ensures required { RequiredChannelIsBound }
+    ensures scram { SelectedScramHasChannel }
 {}

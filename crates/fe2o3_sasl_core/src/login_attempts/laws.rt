@@ -31,7 +31,8 @@ pub fn last_attempt_replies<A: HasMechanism>()
 {}
 
 /// States which claim a server keeps, over any list of bodies: that of the last init that it answered, also by a
-/// rejection. An init whose answer is an error leaves the claim unchanged.
+/// rejection. An init whose answer is an error leaves the claim unchanged. A response adds at most a user to a claim
+/// that has none.
 pub fn last_answered_init<A: HasMechanism>()
     ensures { LastAnsweredInitIsKept A.machine }
 {}

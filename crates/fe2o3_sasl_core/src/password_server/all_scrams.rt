@@ -3,10 +3,7 @@
 
 ghost use Rattle.std.specs.Prelude.{◌≡◌, IfOk, option_map};
 ghost use Rattle.std.proofs.Common.{ap};
-ghost use Rattle.fe2o3_sasl_core.specs.PasswordServer.{AllScramStates, all_scrams_acting, all_scrams_allocates, all_scrams_hmacs, all_scrams_machine, all_scrams_names, all_scrams_open, all_scrams_reasons, all_scrams_state, all_scrams_user, challenge_with, scrams_state};
-ghost use Rattle.fe2o3_scram.specs.Credentials.{serving, with_rights};
-ghost use Rattle.fe2o3_scram.specs.MockSettings.{mocking};
-ghost use Rattle.fe2o3_sasl_core.specs.SaslAcceptor.{ScramAcceptor};
+ghost use Rattle.fe2o3_sasl_core.specs.PasswordServer.{AllScramStates, PasswordKnown, all_scrams_acting, all_scrams_allocates, all_scrams_hmacs, all_scrams_known, all_scrams_machine, all_scrams_names, all_scrams_open, all_scrams_reasons, all_scrams_state, all_scrams_user, challenge_with, scrams_known, scrams_state};
 
 use crate::OutOfMemory;
 use crate::any_mechanism::{AnyMechanism, HasMechanism, Selected};
@@ -35,11 +32,12 @@ impl AllScrams {
         plain: Scrams,
         selected: Option<Selected>,
     ) -> Result<Self, OutOfMemory>
-        ensures { IfOk result (λ scrams. all_scrams_state scrams ≡ record {
+        ensures state { IfOk result (λ scrams. all_scrams_state scrams ≡ record {
           first = scrams_state plus;
           second = scrams_state plain;
           selected = selected;
         }) }
+        ensures known { IfOk result (λ made. all_scrams_known made ≡ (scrams_known plus, scrams_known plain)) }
     {
         let joined = AnyMechanism::with_selected(plus, plain, selected);
         Ok(Self {
@@ -78,6 +76,10 @@ impl SaslAcceptor for AllScrams {
 
     ghost machine = { all_scrams_machine };
 
+    ghost Known = { PasswordKnown };
+
+    ghost known = { all_scrams_known };
+
     ghost reasons = { all_scrams_reasons };
 
     ghost allocates = { all_scrams_allocates };
@@ -86,25 +88,30 @@ impl SaslAcceptor for AllScrams {
 
     ghost clone_keeps = { λ scrams copy same i. record {
       first = record {
-        first = ScramAcceptor (with_rights (same.0.0.4 i) (mocking (same.0.0.3 i) (serving (same.0.0.1 i) (same.0.0.0 i)))) (same.0.0.2 i);
+        first = same.0.0.0 i;
         second = record {
-          first = ScramAcceptor (with_rights (same.0.1.0.4 i) (mocking (same.0.1.0.3 i) (serving (same.0.1.0.1 i) (same.0.1.0.0 i)))) (same.0.1.0.2 i);
-          second = ScramAcceptor (with_rights (same.0.1.1.4 i) (mocking (same.0.1.1.3 i) (serving (same.0.1.1.1 i) (same.0.1.1.0 i)))) (same.0.1.1.2 i);
+          first = same.0.1.0.0 i;
+          second = same.0.1.1.0 i;
           selected = same.0.1.2 i;
         };
         selected = same.0.2 i;
       };
       second = record {
-        first = ScramAcceptor (with_rights (same.1.0.4 i) (mocking (same.1.0.3 i) (serving (same.1.0.1 i) (same.1.0.0 i)))) (same.1.0.2 i);
+        first = same.1.0.0 i;
         second = record {
-          first = ScramAcceptor (with_rights (same.1.1.0.4 i) (mocking (same.1.1.0.3 i) (serving (same.1.1.0.1 i) (same.1.1.0.0 i)))) (same.1.1.0.2 i);
-          second = ScramAcceptor (with_rights (same.1.1.1.4 i) (mocking (same.1.1.1.3 i) (serving (same.1.1.1.1 i) (same.1.1.1.0 i)))) (same.1.1.1.2 i);
+          first = same.1.1.0.0 i;
+          second = same.1.1.1.0 i;
           selected = same.1.1.2 i;
         };
         selected = same.1.2 i;
       };
       selected = same.2 i;
     } };
+
+    ghost clone_knows = { λ scrams copy same i. (
+      (same.0.0.1 i, (same.0.1.0.1 i, same.0.1.1.1 i)),
+      (same.1.0.1 i, (same.1.1.0.1 i, same.1.1.1.1 i)),
+    ) };
 
     fn mechanisms(&self, alloc: Global) -> Result<Array<Symbol>, OutOfMemory> {
         self.joined.mechanisms(alloc)

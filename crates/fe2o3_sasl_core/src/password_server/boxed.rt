@@ -55,6 +55,10 @@ impl<A: HasMechanism> SaslAcceptor for Boxed<A> {
 
     ghost machine = { A.machine };
 
+    ghost Known = { A.Known };
+
+    ghost known = { λ boxed. A.known boxed.inner.value };
+
     ghost reasons = { A.reasons };
 
     ghost allocates = { A.allocates };
@@ -62,6 +66,8 @@ impl<A: HasMechanism> SaslAcceptor for Boxed<A> {
     ghost hmacs = { A.hmacs };
 
     ghost clone_keeps = { λ boxed copy same. A.clone_keeps boxed.inner.value copy.inner.value same };
+
+    ghost clone_knows = { λ boxed copy same. A.clone_knows boxed.inner.value copy.inner.value same };
 
     fn mechanisms(&self, alloc: Global) -> Result<Array<Symbol>, OutOfMemory> {
         A::mechanisms(&*self.inner, alloc)

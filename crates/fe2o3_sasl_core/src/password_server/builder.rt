@@ -6,7 +6,8 @@ ghost use Rattle.fe2o3_sasl_core.specs.PasswordServer.{settings_of};
 ghost use Rattle.fe2o3_scram.specs.ClientFirst.{default_rules};
 ghost use Rattle.fe2o3_scram.specs.Credentials.{kept};
 ghost use Rattle.fe2o3_scram.specs.ScramServer.{ServerFinalSent, ServerFirstSent, challenge_kept};
-ghost use Rattle.fe2o3_scram.specs.declared.hmac.ScramVersion.TheVariants.{Sha256};
+ghost use Rattle.fe2o3_scram.specs.declared.hmac.ScramVersion.TheVariants.{Sha1, Sha256, Sha512};
+ghost use Rattle.fe2o3_scram.specs.Mixed.{all_have};
 ghost use Rattle.fe2o3_sasl_core.specs.declared.plain_server.passwords.PlainPasswords.TheVariants.{Typed as FormTyped};
 ghost use Rattle.fe2o3_sasl_core.specs.declared.password_server.builder.BuildError.TheVariants.{OutOfMemory as BuildOutOfMemory, SaltTooLong as BuildSaltTooLong};
 
@@ -97,6 +98,24 @@ pub struct ScramHashes {
 
     /// SCRAM-SHA-1.
     pub sha_1: bool,
+}
+
+impl ScramHashes {
+    /// Returns the hashes for which each user of these records has a record. Pass them to
+    /// [`PasswordServerBuilder::hashes`], so that no client selects a hash by which its user cannot log in.
+    pub fn of_all_users(records: &MultiRecordStore) -> Self
+        ensures { result ≡ record {
+          sha_512 = all_have Sha512 records.now;
+          sha_256 = all_have Sha256 records.now;
+          sha_1 = all_have Sha1 records.now;
+        } }
+    {
+        Self {
+            sha_512: records.all_have(ScramVersion::Sha512),
+            sha_256: records.all_have(ScramVersion::Sha256),
+            sha_1: records.all_have(ScramVersion::Sha1),
+        }
+    }
 }
 
 /// Builds a [`PasswordServer`] over the records of a store. Without options the server offers
@@ -213,7 +232,8 @@ impl<'a> PasswordServerBuilder<'a> {
 
     /// Returns this builder, which also offers SCRAM with `-PLUS`, by the same hashes, if it has a channel to bind: a
     /// client that binds a channel has to bind this one, by a kind whose data are here (RFC 5802, section 6;
-    /// `ScramAuthenticator::with_channels`). A client that supports no channel binding still logs in without `-PLUS`.
+    /// `ScramAuthenticator::with_channels`). A client that supports no channel binding still logs in without `-PLUS`. Both
+    /// test extensions (`ServerRules::reject_misplaced`), and neither accepts `y,,` (`laws::offered_scrams`).
     pub fn channels(self, channels: Option<ChannelBindings>) -> Self
         ensures { settings_of result ≡ record (settings_of self.entry) {
           rules = record ((settings_of self.entry).rules) { channels = channels };
@@ -236,6 +256,22 @@ impl<'a> PasswordServerBuilder<'a> {
         let mut builder = self;
         builder.rules = ServerRules {
             strict,
+            ..self.rules
+        };
+        builder
+    }
+
+    /// Returns this builder, whose SCRAM rejects what is no extension in the place of one if `reject` is true
+    /// (`ScramAuthenticator::reject_misplaced`). It has no effect beside `channels`: a server that binds channels rejects
+    /// it in any case, with and without `-PLUS`.
+    pub fn reject_misplaced(self, reject: bool) -> Self
+        ensures { settings_of result ≡ record (settings_of self.entry) {
+          rules = record ((settings_of self.entry).rules) { reject_misplaced = reject };
+        } }
+    {
+        let mut builder = self;
+        builder.rules = ServerRules {
+            reject_misplaced: reject,
             ..self.rules
         };
         builder
@@ -349,8 +385,8 @@ impl<'a> PasswordServerBuilder<'a> {
 
     /// Returns this builder, whose server has authenticated this user by SCRAM with this hash, for this identity
     /// (`ScramAuthenticator::restore_authenticated`). The caller vouches for both names: pass what `authenticated_user` and
-    /// `acts_for` returned. It replaces an open challenge of this builder. Whether the login had `-PLUS` plays no part any
-    /// more.
+    /// `acts_for` returned. It replaces an open challenge of this builder. Whether the login had `-PLUS` plays no part, if
+    /// the server receives no further frame, as in a connection whose negotiation has ended.
     pub fn authenticated(
         self,
         version: ScramVersion,

@@ -1,6 +1,6 @@
 //! PLAIN, ANONYMOUS and EXTERNAL as one acceptor, whose parts no proof about a server of more mechanisms names.
 
-ghost use Rattle.std.specs.Prelude.{◌≡◌, None};
+ghost use Rattle.std.specs.Prelude.{◌≡◌, None, refl};
 ghost use Rattle.std.proofs.Common.{ap};
 ghost use Rattle.fe2o3_sasl_core.specs.ExternalServer.{external_of};
 ghost use Rattle.fe2o3_sasl_core.specs.PlainServer.{plain_state};
@@ -66,7 +66,11 @@ impl SaslAcceptor for Others {
 
     ghost machine = { others_machine };
 
-    ghost reasons = { others_reasons };
+    ghost Known = { Unit {0} };
+
+    ghost known = { λ _. tt };
+
+    ghost reasons = { λ _. others_reasons };
 
     ghost allocates = { others_allocates };
 
@@ -85,6 +89,8 @@ impl SaslAcceptor for Others {
       second = record { first = AnonymousAcceptor; second = same.1.1 i; selected = same.1.2 i };
       selected = same.2 i;
     } };
+
+    ghost clone_knows = { λ acceptor copy same. refl };
 
     fn mechanisms(&self, alloc: Global) -> Result<Array<Symbol>, OutOfMemory> {
         self.joined.mechanisms(alloc)

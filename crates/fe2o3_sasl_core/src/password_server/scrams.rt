@@ -3,23 +3,16 @@
 ghost use Rattle.std.specs.Prelude.{◌≡◌, option_map};
 ghost use Rattle.std.proofs.Common.{ap};
 ghost use Rattle.fe2o3_sasl_core.specs.AnyMechanismSides.{both_states};
-ghost use Rattle.fe2o3_sasl_core.specs.PasswordServer.{ScramStates, challenge_with, first_asked, scram_state, scrams_acting, scrams_allocates, scrams_hmacs, scrams_machine, scrams_names, scrams_open, scrams_reasons, scrams_state, scrams_user, second_asked, weaker_open};
-ghost use Rattle.fe2o3_scram.specs.Credentials.{serving, with_rights};
-ghost use Rattle.fe2o3_scram.specs.MockSettings.{mocking};
-ghost use Rattle.fe2o3_sasl_core.specs.SaslAcceptor.{ScramAcceptor};
+ghost use Rattle.fe2o3_sasl_core.specs.PasswordServer.{ScramStates, ScramsKnown, challenge_with, first_asked, scram_known, scram_state, scrams_acting, scrams_allocates, scrams_hmacs, scrams_known, scrams_machine, scrams_names, scrams_open, scrams_reasons, scrams_state, scrams_user, second_asked, weaker_known, weaker_open};
 
 use crate::OutOfMemory;
 use crate::any_mechanism::{AnyMechanism, HasMechanism, Selected};
+use crate::password_server::scram::Scram;
 use crate::sasl_acceptor::{AuthenticatedUser, SaslAcceptor, SaslServerFrame};
 use fe2o3_sasl_wire::{Array, SaslInit, SaslResponse, Symbol};
 use fe2o3_scram::OpenChallenge;
-use fe2o3_scram::credentials::RecordStore;
 use fe2o3_scram::hmac::{Meter, ScramVersion};
-use fe2o3_scram::scram_server::ScramAuthenticator;
 use std::alloc::{AllocError, Global};
-
-/// SCRAM by one hash.
-pub type Scram = ScramAuthenticator<RecordStore>;
 
 /// SCRAM-SHA-256 and SCRAM-SHA-1.
 pub type Weaker = AnyMechanism<Scram, Scram>;
@@ -36,11 +29,12 @@ pub struct Scrams {
 impl Scrams {
     /// Returns an acceptor of all three, of which the last init was of this hash.
     pub fn new(strongest: Scram, weaker: Weaker, asked: Option<ScramVersion>) -> Self
-        ensures { scrams_state result ≡ record {
+        ensures state { scrams_state result ≡ record {
           first = scram_state strongest;
           second = both_states scram_state scram_state weaker;
           selected = first_asked asked;
         } }
+        ensures known { scrams_known result ≡ (scram_known strongest, weaker_known weaker) }
     {
         Self {
             joined: AnyMechanism::with_selected(strongest, weaker, first_asked(asked)),
@@ -109,6 +103,10 @@ impl SaslAcceptor for Scrams {
 
     ghost machine = { scrams_machine };
 
+    ghost Known = { ScramsKnown };
+
+    ghost known = { scrams_known };
+
     ghost reasons = { scrams_reasons };
 
     ghost allocates = { scrams_allocates };
@@ -116,14 +114,16 @@ impl SaslAcceptor for Scrams {
     ghost hmacs = { scrams_hmacs };
 
     ghost clone_keeps = { λ scrams copy same i. record {
-      first = ScramAcceptor (with_rights (same.0.4 i) (mocking (same.0.3 i) (serving (same.0.1 i) (same.0.0 i)))) (same.0.2 i);
+      first = same.0.0 i;
       second = record {
-        first = ScramAcceptor (with_rights (same.1.0.4 i) (mocking (same.1.0.3 i) (serving (same.1.0.1 i) (same.1.0.0 i)))) (same.1.0.2 i);
-        second = ScramAcceptor (with_rights (same.1.1.4 i) (mocking (same.1.1.3 i) (serving (same.1.1.1 i) (same.1.1.0 i)))) (same.1.1.2 i);
+        first = same.1.0.0 i;
+        second = same.1.1.0 i;
         selected = same.1.2 i;
       };
       selected = same.2 i;
     } };
+
+    ghost clone_knows = { λ scrams copy same i. (same.0.1 i, (same.1.0.1 i, same.1.1.1 i)) };
 
     fn mechanisms(&self, alloc: Global) -> Result<Array<Symbol>, OutOfMemory> {
         self.joined.mechanisms(alloc)

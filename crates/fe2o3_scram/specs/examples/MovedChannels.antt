@@ -1,16 +1,19 @@
 -- What someone on the way can do to two sides of which neither is strict, by public values alone: the client receives the
 -- server's message followed by the two attributes that the server wants to read, and the server receives these two before
--- the client's own answer. So a side that binds its channel has to be strict. The law is `laws::bound_channels`.
-use Rattle.std.specs.Prelude.{ℕ, List, [], ◌∷◌, ◌≡◌, ◌≤◌, ◌<◌, ◌^◌, Ok, false, T}
+-- the client's own answer. So a client that has a channel is strict, and reads no such message. The laws are
+-- `laws::bound_channels`.
+use Rattle.std.specs.Prelude.{ℕ, List, [], ◌∷◌, ◌≡◌, ◌≢◌, ◌≤◌, ◌<◌, ◌^◌, Bool, Ok, false}
 use Rattle.std.specs.Str.{IsUtf8}
 use Rattle.base64.specs.GeneralPurpose.{IsBytes}
 use Rattle.fe2o3_scram.specs.ChannelBinding.{ClientHeader, HoldsHeaderBytes}
 use Rattle.fe2o3_scram.specs.ClientFinal.{ReadsFinalText, client_final_of, without_proof_with}
-use Rattle.fe2o3_scram.specs.ClientSecret.{Password, no_limit, up_to}
+use Rattle.fe2o3_scram.specs.ClientSecret.{Password, Secret, no_limit, up_to}
 use Rattle.fe2o3_scram.specs.Credentials.{Record}
+use Rattle.fe2o3_scram.specs.declared.client_secret.IterationLimits.{IterationLimits}
+use Rattle.fe2o3_scram.specs.declared.scram_messages.client_channel.ClientChannel.TheVariants.{Absent}
 use Rattle.fe2o3_scram.specs.Keys.{auth_message}
 use Rattle.fe2o3_scram.specs.Passwords.{PasswordText, IsNormal}
-use Rattle.fe2o3_scram.specs.ServerFirst.{Client, ReadsServerFirst, server_first_of}
+use Rattle.fe2o3_scram.specs.ServerFirst.{Client, ReadsServerFirst, ServerFirst, client_of, server_first_of}
 use Rattle.fe2o3_scram.specs.Texts.{NoComma, StartsWith, joined}
 
 -- the server's message as the client receives it
@@ -21,7 +24,8 @@ moved_first first theirs both = joined (first ∷ without_proof_with theirs both
 abbrev pub moved_without : ClientHeader → ClientHeader → List ℕ → List ℕ
 moved_without ours theirs both = joined (without_proof_with theirs both ∷ without_proof_with ours both ∷ [])
 
--- a client that binds its channel and is not strict, which no client of this library is
+-- a client that is not strict, whatever its header says; of this library only one without a channel and without an identity is
+-- such a client
 abbrev pub lax_client : PasswordText → List ℕ → ClientHeader → Client
 lax_client password own ours = record {
   nonce = own;
@@ -49,3 +53,11 @@ MovedChannelsPass = (password : PasswordText) (own both bare : List ℕ) (ours t
     (stored : Record) → IsNormal password → StartsWith both own → NoComma both → IsUtf8 both
     → HoldsHeaderBytes theirs → IsBytes proof → IsBytes stored.salt → 1 ≤ stored.count → stored.count < 2 ^ 32
     → Passes password own both bare ours theirs proof stored
+
+-- a client that has a channel, bound or not, whatever else it is, never takes such a message for its server's
+abbrev pub MovedFirstsAreRefused : Type 0
+MovedFirstsAreRefused = (secret : Secret) (limits : IterationLimits) (strict : Bool) (own both : List ℕ)
+    (ours theirs : ClientHeader) (stored : Record) (first : ServerFirst) → ours.channel ≢ Absent → NoComma both
+    → stored.count < 2 ^ 32
+    → ¬ ReadsServerFirst (client_of own secret limits ours strict)
+    (moved_first (server_first_of both stored) theirs both) (Ok first)

@@ -5,7 +5,7 @@ ghost use Rattle.std.specs.Borrow.{Bor};
 ghost use Rattle.std.specs.Cmp.Lexicographic.{pointwise};
 ghost use Rattle.std.specs.String.{string_bytes};
 ghost use Rattle.fe2o3_scram.specs.Credentials.{VersionedRecord};
-ghost use Rattle.fe2o3_scram.specs.Mixed.{provider_for, records_named};
+ghost use Rattle.fe2o3_scram.specs.Mixed.{all_have, provider_for, records_named};
 
 use crate::OutOfMemory;
 use crate::credentials::record_store::RecordStore;
@@ -134,6 +134,17 @@ impl MultiRecordStore {
             ScramVersion::Sha256 => &self.sha256,
             ScramVersion::Sha512 => &self.sha512,
         }
+    }
+
+    /// Returns whether each user of the store has a record of this version, so that a server over the store can offer the
+    /// version to all of them. It is true of a store without users.
+    pub fn all_have(&self, scram_version: ScramVersion) -> bool
+        ensures { result ≡ all_have scram_version self.now }
+    {
+        let store = self.for_version(scram_version);
+        self.in_order
+            .iter()
+            .all(|user| store.record(user.username()).is_some())
     }
 
     /// Returns the records of the name, for every version, in their order. The name is plain, not escaped. Each user's

@@ -1,8 +1,8 @@
 //! A store for the records of several users.
 
-ghost use Rattle.std.specs.Prelude.{◌≡◌, ◌≢◌, ◌↔◌, ◌++◌, [], ◌∷◌, IfOk, OnErr, OnOk, is_some, option_map, true};
+ghost use Rattle.std.specs.Prelude.{◌≡◌, ◌≢◌, ◌↔◌, ◌++◌, [], ◌∷◌, IfOk, OnErr, OnOk, is_some, option_map, slice_get, true};
 ghost use Rattle.std.specs.String.{string_bytes};
-ghost use Rattle.fe2o3_scram.specs.Credentials.{record_at, records_with, records_without, versioned};
+ghost use Rattle.fe2o3_scram.specs.Credentials.{kept, record_at, records_with, records_without, versioned};
 ghost use Rattle.fe2o3_scram.specs.declared.credentials.record_store.AddRecordError.TheVariants.{OutOfMemory as OutOfMemoryError};
 
 use crate::OutOfMemory;
@@ -194,6 +194,16 @@ impl RecordStore {
     {
         match &self.users {
             Some(shared) => shared.record(username),
+            None => None,
+        }
+    }
+
+    /// Returns what is stored for the user who was added first, or `None` for a store without users.
+    pub fn first_stored_password(&self) -> Option<StoredPassword<'_>>
+        ensures { option_map kept result ≡ option_map (λ user. user.1) (slice_get self.now.records 0) }
+    {
+        match self.users().first() {
+            Some(user) => Some(user.stored_password()),
             None => None,
         }
     }

@@ -1,7 +1,7 @@
 //! What a client says of its channel (RFC 5802, sections 6 and 7).
 
 ghost use Rattle.std.specs.Prelude.{◌≡◌};
-ghost use Rattle.fe2o3_scram.specs.ChannelBinding.{cbind_data, flag_of, is_bound};
+ghost use Rattle.fe2o3_scram.specs.ChannelBinding.{cbind_data, flag_of, has_channel, is_bound};
 
 use crate::channel_binding::ChannelBinding;
 use crate::scram_messages::channel_binding_flag::ChannelBindingFlag;
@@ -13,7 +13,8 @@ pub enum ClientChannel {
     Absent,
 
     /// The client has a channel, but was offered no mechanism with `-PLUS`: its GS2 header is `y,,`. A server that
-    /// offered one rejects it, so that nobody on the way can remove the mechanism from the offer.
+    /// offered one has to reject it, so that nobody on the way can remove the mechanism from the offer. The client tests
+    /// extensions, so that nobody can hide the flag from such a server by moving text between the messages.
     NotOffered,
 
     /// The client binds this channel, by a mechanism with `-PLUS`: its GS2 header is `p=` and the kind.
@@ -39,6 +40,16 @@ impl ClientChannel {
         match self {
             ClientChannel::Absent | ClientChannel::NotOffered => false,
             ClientChannel::Bound(_) => true,
+        }
+    }
+
+    /// Returns whether the client has a channel, whether it binds it or not.
+    pub fn is_there(&self) -> bool
+        ensures { result ≡ has_channel self.now }
+    {
+        match self {
+            ClientChannel::Absent => false,
+            ClientChannel::NotOffered | ClientChannel::Bound(_) => true,
         }
     }
 

@@ -4,7 +4,7 @@ ghost use Rattle.std.specs.Prelude.{◌≡◌, ◌≢◌, ◌++◌, true, false,
 ghost use Rattle.fe2o3_scram.specs.private.Tests.{binding_tests, final_nonce_tests, spelling_tests};
 ghost use Rattle.fe2o3_scram.specs.Readings.{Gives, IsFirst, NoneHolds};
 ghost use Rattle.fe2o3_scram.specs.ClientFinal.{HasProof, ReachesBase64, ReachesBinding, ReadsFinalText, client_final_values};
-ghost use Rattle.fe2o3_scram.specs.ChannelBinding.{cbind_input, needs_strict, plain_header};
+ghost use Rattle.fe2o3_scram.specs.ChannelBinding.{cbind_input, has_more_than_flag, plain_header};
 ghost use Rattle.fe2o3_scram.specs.Texts.{Part, LastPart, HasBase64, base64_text};
 
 use crate::scram_messages::attributes::{CHANNEL_BINDING_KEY, NONCE_KEY, PROOF_KEY};
@@ -54,7 +54,8 @@ impl<'a> ClientFinal<'a> {
     /// Like `parse`, of a client with this header: its channel binding has to be the GS2 header and the data of the
     /// channel, in base64, instead of `biws` (`ServerRules::expected_channel`). After the other errors a
     /// `strict` server returns `MisplacedAttribute` if a part between the nonce and the proof is no extension (RFC 5802,
-    /// section 7). If a channel or an identity is expected, `OutOfMemory` may be returned for any channel binding.
+    /// section 7); `compute_server_final_message_with_header` is so to each header but `n,,`. If a channel or an identity is
+    /// expected, `OutOfMemory` may be returned for any channel binding.
     pub fn parse_with_header(
         alloc: Global,
         header: &ClientHeader<'_>,
@@ -106,8 +107,8 @@ fn test_binding(
 /// Returns whether the text is the expected GS2 header in base64, and neither a channel nor an identity is expected.
 fn is_header_alone(header: &ClientHeader<'_>, base64_binding: &str) -> bool
     ensures same { result ≡ true → base64_binding.now ≡ base64_text (cbind_input header.now) }
-    ensures unbound { result ≡ true → needs_strict header.now ≡ false }
-    ensures other { result ≡ false → needs_strict header.now ≡ false
+    ensures unbound { result ≡ true → has_more_than_flag header.now ≡ false }
+    ensures other { result ≡ false → has_more_than_flag header.now ≡ false
         → base64_binding.now ≢ base64_text (cbind_input header.now) }
 {
     match header.plain_base64() {

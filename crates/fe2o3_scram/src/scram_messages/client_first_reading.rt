@@ -57,8 +57,9 @@ impl<'a> ClientFirst<'a> {
     /// identity. An identity with escapes takes memory too.
     ///
     /// After the other errors, a strict server returns `CannotParseUsername` if the name is empty or has NUL, and
-    /// `CannotParseClientNonce` if the nonce is empty or not printable. Last, a server that is strict, binds channels or
-    /// accepts identities returns `MisplacedAttribute` if a part after the nonce is no extension (RFC 5802, section 7).
+    /// `CannotParseClientNonce` if the nonce is empty or not printable. Last, a server that tests extensions
+    /// (`ServerRules::is_strict`) returns `MisplacedAttribute` if a part after the nonce is no extension (RFC 5802,
+    /// section 7).
     pub fn parse_with_rules(
         alloc: Global,
         text: &'a [u8],

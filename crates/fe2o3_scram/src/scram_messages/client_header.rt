@@ -1,7 +1,7 @@
 //! What a client puts before its name, and repeats under its proof (RFC 5802, sections 6 and 7).
 
 ghost use Rattle.std.specs.Prelude.{◌≡◌, ◌++◌, ◌||◌, ◌↔◌, true, false, IfOk, OnOk, MatchOption, option_map, string_bytes};
-ghost use Rattle.fe2o3_scram.specs.ChannelBinding.{cbind_input, header_of, header_text, needs_strict, plain_header};
+ghost use Rattle.fe2o3_scram.specs.ChannelBinding.{cbind_input, has_more_than_flag, header_of, header_text, needs_strict, plain_header};
 ghost use Rattle.fe2o3_scram.specs.Texts.{base64_text};
 
 use crate::OutOfMemory;
@@ -48,11 +48,12 @@ impl<'a> ClientHeader<'a> {
         ClientHeader::new(ClientChannel::Absent, None)
     }
 
-    /// Returns whether a side that sends or expects this header has to be strict: it binds a channel or names an identity.
+    /// Returns whether a side that sends or expects this header has to be strict: the client
+    /// has a channel, whether it binds it or not, or names an identity.
     pub fn needs_strict(&self) -> bool
         ensures { result ≡ needs_strict self.now }
     {
-        self.channel.is_bound() || self.acts_for.is_some()
+        self.channel.is_there() || self.acts_for.is_some()
     }
 
     /// Returns whether a side with this header is strict: it has to be, or is set to.
@@ -126,8 +127,8 @@ impl<'a> ClientHeader<'a> {
 
     /// Returns the channel binding in base64 of a client that binds no channel and acts for itself, if this is one.
     pub(crate) fn plain_base64(&self) -> Option<&'static str>
-        ensures { MatchOption result (needs_strict self.now ≡ true)
-            (λ text. (needs_strict self.now ≡ false) × (text.now ≡ base64_text (cbind_input self.now))) }
+        ensures { MatchOption result (has_more_than_flag self.now ≡ true)
+            (λ text. (has_more_than_flag self.now ≡ false) × (text.now ≡ base64_text (cbind_input self.now))) }
     {
         if self.acts_for.is_some() {
             return None;

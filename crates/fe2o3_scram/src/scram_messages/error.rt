@@ -58,7 +58,8 @@ pub enum ScramErrorKind {
     IterationCountTooLarge,
 
     /// A part in the place of an extension is none (RFC 5802, section 7): after the iteration count, or after the
-    /// signature. Only a client that is strict or binds a channel returns it.
+    /// signature. Only a client that is strict, has a channel (also one that says `y,,`) or acts for somebody else returns
+    /// it.
     #[error("Attribute in the place of an extension")]
     MisplacedAttribute,
 
@@ -115,7 +116,8 @@ pub enum ServerScramErrorKind {
     #[error("Invalid UTF-8")]
     Utf8Error,
 
-    /// The client-first message does not begin with `n,,`.
+    /// The client-first message does not begin with a GS2 header that the server accepts: `n,,`, and by its rules `y,,`,
+    /// `p=` with the kind of a channel, or `a=` with an identity.
     #[error("Cannot parse GS2-header")]
     CannotParseGs2Header,
 
@@ -136,7 +138,7 @@ pub enum ServerScramErrorKind {
     #[error("LHS and RHS of XOR have different length")]
     XorLengthMismatch,
 
-    /// The password is not printable ASCII.
+    /// Never returned by a server, which has records and no password.
     #[error("Error normalizing password")]
     NormalizeError,
 
@@ -145,7 +147,7 @@ pub enum ServerScramErrorKind {
     #[error("Error parsing client final message")]
     CannotParseClientFinalMessage,
 
-    /// The channel binding is not `n,,`.
+    /// The channel binding has another GS2 header than the client-first message, or other data than the server's channel.
     #[error("Invalid channel binding")]
     InvalidChannelBinding,
 
@@ -162,8 +164,8 @@ pub enum ServerScramErrorKind {
     ProofNotFoundInClientFinal,
 
     /// A part in the place of an extension is none (RFC 5802, section 7): after the nonce of the client-first message, or
-    /// between the nonce and the proof of the client-final message. Only a server that is strict or binds channels returns
-    /// it.
+    /// between the nonce and the proof of the client-final message. Only a server that tests extensions returns it
+    /// (`ServerRules::is_strict`), and one that accepts the GS2 header `y,,`, to a client that sends it.
     #[error("Attribute in the place of an extension")]
     MisplacedAttribute,
 

@@ -97,8 +97,9 @@ impl ScramVersion {
     }
 
     /// Like `compute_server_final_message_metered`, to a client with this header, of a server that is `strict` or not
-    /// (`ClientFinal::parse_with_header`). A server that expects a channel or an identity is strict in any case. A user who
-    /// may not act for the identity gets `AuthenticationFailed`, after the proof is tested and before the answer is signed.
+    /// (`ClientFinal::parse_with_header`). A server that expects a channel, `y,,` or an identity is strict in any case. A
+    /// user who may not act for the identity gets `AuthenticationFailed`, after the proof is tested and before the answer
+    /// is signed.
     pub fn compute_server_final_message_with_header(
         &self,
         alloc: Global,

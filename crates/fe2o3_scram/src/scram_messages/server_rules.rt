@@ -18,8 +18,13 @@ pub struct ServerRules {
 
     /// Whether messages are read by the grammar of RFC 5802, section 7: a user name has to be of one or more characters
     /// and without NUL, a nonce printable and not empty, and what follows the nonce an extension. Extensions are ignored in
-    /// any case. A server that binds channels tests them in any case.
+    /// any case. A server that binds channels or accepts identities tests what follows the nonce in any case.
     pub strict: bool,
+
+    /// Whether the server rejects what is no extension in the place of one, as one that binds channels does, and nothing
+    /// more: an empty user name is accepted. A server that offers SCRAM with and without `-PLUS` sets it for both, so that
+    /// no client that has a channel is talked out of binding it, whatever the client tests itself.
+    pub reject_misplaced: bool,
 
     /// The channel, if the server is of a mechanism with `-PLUS` (RFC 5802, section 6). It then accepts only clients
     /// that bind that channel, by a kind of which it has the data.
@@ -38,17 +43,18 @@ impl ServerRules {
         ServerRules {
             accept_cbind_flag_y: false,
             strict: false,
+            reject_misplaced: false,
             channels: None,
             accept_authzid: false,
         }
     }
 
-    /// Returns whether the server rejects what is no extension in the place of one: it is strict, binds channels, or
-    /// accepts identities.
+    /// Returns whether the server rejects what is no extension in the place of one: it is strict, binds channels,
+    /// accepts identities, or is set to it alone.
     pub fn is_strict(&self) -> bool
         ensures { result ≡ is_strict self.now }
     {
-        self.channels.is_some() || (self.accept_authzid || self.strict)
+        self.channels.is_some() || (self.accept_authzid || (self.reject_misplaced || self.strict))
     }
 
     /// Returns the channel that the server expects of a client with this flag in its GS2 header. If the server has no

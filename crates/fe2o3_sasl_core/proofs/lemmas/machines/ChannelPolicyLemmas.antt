@@ -1,5 +1,5 @@
 -- What a client that has a channel says of it (RFC 5802, section 6): `selection_keeps_channel`, `offered_channel_is_bound`,
--- `unoffered_channel_is_said`, `required_channel_is_bound`.
+-- `unoffered_channel_is_said`, `required_channel_is_bound`, `selected_scram_has_channel`.
 use Rattle.std.proofs.Common.{◌≡◌, ◌≢◌, ◌⊎◌, ◌&&◌, ◌++◌, not, ℕ, zero, suc, Bool, true, false, Option, Some, None, List, [], ◌∷◌, length, take, refl, sym, ◌∙◌, ap, subst, inl, inr, arith}
 use Rattle.std.specs.List.{AllByRecursion, Contains}
 use Rattle.std.specs.Prelude.{is_some, slice_get}
@@ -9,7 +9,7 @@ use Rattle.fe2o3_scram.specs.declared.hmac.ScramVersion.TheVariants.{Sha1, Sha25
 use Rattle.fe2o3_scram.specs.declared.scram_messages.channel_binding_flag.ChannelBindingFlag.{ChannelBindingFlag}
 use Rattle.fe2o3_scram.specs.declared.scram_messages.channel_binding_flag.ChannelBindingFlag.TheVariants.{ClientSupports, Required}
 use Rattle.fe2o3_scram.specs.declared.scram_messages.client_channel.ClientChannel.{ClientChannel}
-use Rattle.fe2o3_scram.specs.declared.scram_messages.client_channel.ClientChannel.TheVariants.{Bound, NotOffered}
+use Rattle.fe2o3_scram.specs.declared.scram_messages.client_channel.ClientChannel.TheVariants.{Absent, Bound, NotOffered}
 use Rattle.fe2o3_scram.specs.ChannelBinding.{flag_of, is_bound, mechanism_of, plus_name, ClientHeader, header_of}
 use Rattle.fe2o3_scram.specs.ClientFirst.{client_first_bare, client_first_with}
 use Rattle.fe2o3_scram.specs.ClientSecret.{Secret, Password, Keys, Both}
@@ -18,7 +18,7 @@ use Rattle.fe2o3_scram.specs.ScramClient.{ClientSide, fresh_client, with_channel
 use Rattle.fe2o3_scram.specs.Texts.{base64_text}
 use Rattle.fe2o3_scram.proofs.lemmas.texts.DecisionLemmas.{Decided, same_or}
 use Rattle.fe2o3_sasl_core.specs.ClientPolicy.{CanTake, IsFirstTaken, SelectsProfile, bound_channel, by_strength, is_allowed, is_from, policy_name, profile_by, scram_by, secret_for, unbound_channel}
-use Rattle.fe2o3_sasl_core.specs.ClientPolicyLaws.{BeginsWithHeader, BindsExactly, IsAllowedByName, OfferedChannelIsBound, OffersBinding, OffersScram, OffersUnbound, RequiredChannelIsBound, SaysNotOffered, SelectionKeepsChannel, UnofferedChannelIsSaid}
+use Rattle.fe2o3_sasl_core.specs.ClientPolicyLaws.{BeginsWithHeader, BindsExactly, IsAllowedByName, OfferedChannelIsBound, OffersBinding, OffersScram, OffersUnbound, RequiredChannelIsBound, SaysNotOffered, SelectedScramHasChannel, SelectionKeepsChannel, UnofferedChannelIsSaid}
 use Rattle.fe2o3_sasl_core.specs.Profiles.{Profile, ScramProfile, PlainProfile, AnonymousProfile, ExternalProfile, initial_response, profile_name}
 use Rattle.fe2o3_sasl_core.specs.declared.client_policy.ClientPolicy.{ClientPolicy}
 use Rattle.fe2o3_sasl_core.specs.declared.client_policy.Mechanism.{Mechanism}
@@ -495,3 +495,29 @@ pub required_channel_is_bound : RequiredChannelIsBound
 required_channel_is_bound policy user secret names client must (mechanism, first, selected) =
     required policy user secret names client mechanism must (place policy user secret names mechanism first) first.2.0
     selected
+
+same_client : (client other : ClientSide) → ScramProfile client ≡ ScramProfile other → client ≡ other
+same_client client other same = cc
+
+bound_not_absent : (binding : ChannelBinding) → Bound binding ≢ Absent
+bound_not_absent binding same = cc
+
+unoffered_not_absent : NotOffered ≢ Absent
+unoffered_not_absent same = cc
+
+pub selected_scram_has_channel : SelectedScramHasChannel
+selected_scram_has_channel policy user secret names binding client channel selects =
+    go (selection_keeps_channel policy user secret names binding (ScramProfile client) channel selects)
+  where
+    channel_of : (other : ClientSide) → ScramProfile client ≡ ScramProfile other → client.channel ≡ other.channel
+    channel_of other same = ap (λ (c : ClientSide). c.channel) (same_client client other same)
+
+    go : BindsExactly binding (ScramProfile client)
+        ⊎ (¬ OffersBinding policy secret names
+        × (SaysNotOffered (ScramProfile client) ⊎ IsAllowedByName policy (ScramProfile client)))
+        → client.channel ≢ Absent
+    go (inl binds) absent =
+        bound_not_absent binding (sym (channel_of binds.client binds.scram ∙ binds.channel) ∙ absent)
+    go (inr (none, inl says)) absent =
+        unoffered_not_absent (sym (channel_of says.client says.scram ∙ says.channel) ∙ absent)
+    go (inr (none, inr other)) absent = absurd other

@@ -211,11 +211,11 @@ flag_of_mechanism (Some channels) accept_y accept (Required TlsServerEndPoint) t
 flag_of_mechanism (Some channels) accept_y accept (Required TlsExporter) takes = (no_data, refl)
 
 -- a claim is read strictly only where each server is strict
-strict_like_servers : (channels : Option ChannelBindings) (accept strict : Bool)
-    → T (is_strict (headers_of (is_some channels) accept)) → T (is_some channels || (accept || strict))
-strict_like_servers None false strict is = absurd is
-strict_like_servers None true strict is = tt
-strict_like_servers (Some channels) accept strict is = tt
+strict_like_servers : (channels : Option ChannelBindings) (accept rest : Bool)
+    → T (is_strict (headers_of (is_some channels) accept)) → T (is_some channels || (accept || rest))
+strict_like_servers None false rest is = absurd is
+strict_like_servers None true rest is = tt
+strict_like_servers (Some channels) accept rest is = tt
 
 -- what claims are read by is not set to be strict
 not_strict : (plus accept : Bool) → ¬ T (headers_of plus accept).strict
@@ -245,7 +245,7 @@ read_by_server rules text first reads =
                   λ wrong. not_strict (is_some rules.channels) accept wrong.0,
                   (
                     λ wrong. reads.0.1.1.1.1.1.1.0 (
-                      strict_like_servers rules.channels accept rules.strict wrong.0,
+                      strict_like_servers rules.channels accept (rules.reject_misplaced || rules.strict) wrong.0,
                       (
                         first.header,
                         first.bare,

@@ -1,6 +1,5 @@
 -- A server keeps the claim of the last init that it answered: `last_answered_init_is_kept`.
-use Rattle.std.proofs.Common.{◌≡◌, ◌⊎◌, ◌≤◌, ◌+◌, ℕ, zero, suc, Option, Some, None, List, [], ◌∷◌, refl, sym, ap, ◌∙◌, subst, inl, inr, Result, Ok, Err, arith}
-use Rattle.std.specs.Prelude.{slice_get}
+use Rattle.std.proofs.Common.{◌≡◌, ◌⊎◌, ◌+◌, ℕ, zero, suc, Option, Some, None, List, [], ◌∷◌, refl, sym, ap, ◌∙◌, subst, inl, inr, Result, Ok, Err, arith}
 use Rattle.fe2o3_sasl_wire.specs.declared.sasl_frames.error.Error.{Error}
 use Rattle.fe2o3_sasl_wire.specs.declared.sasl_frames.error.Error.TheVariants as faults
 use Rattle.fe2o3_sasl_wire.specs.SaslFrames as frames
@@ -9,10 +8,43 @@ use Rattle.fe2o3_sasl_core.specs.AnyMechanismLaws.{Machine}
 use Rattle.fe2o3_sasl_core.specs.Bodies.{SpellsBody, server_says}
 use Rattle.fe2o3_sasl_core.specs.Events.{Given, ServerSays, Failed}
 use Rattle.fe2o3_sasl_core.specs.ExtraChallengeLaws.{IsError}
-use Rattle.fe2o3_sasl_core.specs.LoginAttemptLaws.{AnsweredInit, LastAnsweredInitIsKept, NoAnsweredInit}
-use Rattle.fe2o3_sasl_core.specs.LoginAttempts.{Attempt, IsAttempt, Recorded, recorded_machine}
-use Rattle.fe2o3_sasl_core.specs.Runs.{Runs, AcceptorSteps, AcceptorAnswers, AcceptorGives, SendsCanonical}
+use Rattle.fe2o3_sasl_core.specs.LoginAttemptLaws.{AnsweredInit, ContinuesClaim, LastAnsweredInitIsKept, NoAnsweredInit}
+use Rattle.fe2o3_sasl_core.specs.LoginAttempts.{Attempt, IsAttempt, Recorded, RecordsResponse, or_late, recorded_machine, with_late}
+use Rattle.fe2o3_sasl_core.specs.Runs.{Runs, AcceptorSteps, AcceptorGives, SendsCanonical}
 use Rattle.fe2o3_sasl_core.proofs.lemmas.frames.SpellingLemmas.{one_spelled_frame}
+
+-- ---- the claim of an init, with the user of a late initial response
+
+both_late : (user late other : Option (List ℕ)) → or_late (or_late user late) other ≡ or_late user (or_late late other)
+both_late (Some user) late other = refl
+both_late None late other = refl
+
+no_late : (user : Option (List ℕ)) → or_late user None ≡ user
+no_late (Some user) = refl
+no_late None = refl
+
+with_both : (attempt : Attempt) (late other : Option (List ℕ))
+    → with_late (with_late attempt late) other ≡ with_late attempt (or_late late other)
+with_both attempt late other i = record attempt { user = both_late attempt.user late other i }
+
+with_none : (attempt : Attempt) → with_late attempt None ≡ attempt
+with_none attempt i = record attempt { user = no_late attempt.user i }
+
+same_claim : (before after : Option Attempt) → after ≡ before → ContinuesClaim before after
+same_claim None after is = is
+same_claim (Some attempt) after is = (None, is ∙ ap (λ (a : Attempt). Some a) (sym (with_none attempt)))
+
+on_and_on : (before mid after : Option Attempt) → ContinuesClaim before mid → ContinuesClaim mid after
+    → ContinuesClaim before after
+on_and_on None mid after first then = subst (λ (claim : Option Attempt). ContinuesClaim claim after) first then
+on_and_on (Some attempt) mid after (late, is) then =
+    let more = subst (λ (claim : Option Attempt). ContinuesClaim claim after) is then in
+    (or_late late more.0, more.1 ∙ ap (λ (a : Attempt). Some a) (with_both attempt late more.0))
+
+response_continues : (text : List ℕ) (before after : Option Attempt) → RecordsResponse text before after
+    → ContinuesClaim before after
+response_continues text None after is = is
+response_continues text (Some attempt) after (late, claims, is) = (late, is)
 
 -- ---- a step
 
@@ -21,16 +53,16 @@ abbrev Claims : Given → ServerSays → Attempt → Type 0
 Claims event says attempt =
     (frame : SaslFrame) × SpellsBody event.body (Ok frame) × IsAttempt frame attempt × ¬ IsError says
 
--- what a step does to the claim: an init that is answered replaces it, and otherwise it is unchanged
+-- what a step does to the claim: an init that is answered replaces it, and otherwise it continues
 abbrev StepsClaim : {S : Type 0} → Recorded S → Given → ServerSays → Recorded S → Type 0
 StepsClaim server event says next =
     ((attempt : Attempt) × Claims event says attempt × (next.last ≡ Some attempt))
-    ⊎ (((attempt : Attempt) → ¬ Claims event says attempt) × (next.last ≡ server.last))
+    ⊎ (((attempt : Attempt) → ¬ Claims event says attempt) × ContinuesClaim server.last next.last)
 
 stays : {S : Type 0} (server next : Recorded S) (event : Given) (says : ServerSays) (fault : Error)
     → says ≡ Failed fault → next.last ≡ server.last → StepsClaim server event says next
 stays server next event says fault failed same =
-    inr ((λ attempt claims. claims.3 (subst IsError (sym failed) tt)), same)
+    inr ((λ attempt claims. claims.3 (subst IsError (sym failed) tt)), same_claim server.last next.last same)
 
 said : (reply : SaslFrame) (body : List ℕ) → ¬ IsError (server_says reply body)
 said (frames.Outcome code more) body error = error
@@ -56,10 +88,12 @@ init_sent server mid next event says reply frame attempt (Some body) spells is t
 )
 
 response_sent : {S : Type 0} (server mid next : Recorded S) (say : List ℕ → ServerSays) (says : ServerSays)
-    (body : Option (List ℕ)) → mid.last ≡ server.last
-    → SendsCanonical (Failed faults.TooLarge) say body server mid says next → next.last ≡ server.last
-response_sent server mid next say says None to sent = last_of next server sent.1
-response_sent server mid next say says (Some body) to sent = last_of next mid sent.1 ∙ to
+    (body : Option (List ℕ)) → ContinuesClaim server.last mid.last
+    → SendsCanonical (Failed faults.TooLarge) say body server mid says next → ContinuesClaim server.last next.last
+response_sent server mid next say says None to sent =
+    same_claim server.last next.last (last_of next server sent.1)
+response_sent server mid next say says (Some body) to sent =
+    subst (λ (claim : Option Attempt). ContinuesClaim server.last claim) (sym (last_of next mid sent.1)) to
 
 no_claim : (event : Given) (says : ServerSays) (text : List ℕ)
     → SpellsBody event.body (Ok (frames.Response text)) → (attempt : Attempt) → ¬ Claims event says attempt
@@ -80,7 +114,8 @@ gives machine server event (Ok (frames.Response text)) says next spells (inl wan
     stays server next event says faults.OutOfMemory want.0 (last_of next server want.1)
 gives machine server event (Ok (frames.Response text)) says next spells (inr (reply, mid, (answers, to), sent)) = inr (
   no_claim event says text spells,
-  response_sent server mid next (server_says reply) says (canonical reply) to sent,
+  response_sent server mid next (server_says reply) says (canonical reply)
+      (response_continues text server.last mid.last to) sent,
 )
 gives machine server event (Ok frame) says next spells is =
     stays server next event says faults.NotImplemented is.0 (last_of next server is.1)
@@ -159,9 +194,9 @@ none_at_all event events says replies not none (suc at) attempt least a =
 
 -- which claim is kept
 abbrev Keeps : Option Attempt → Option Attempt → List Given → List ServerSays → Type 0
-Keeps before after events replies = (NoAnsweredInit events replies 0 × (after ≡ before))
+Keeps before after events replies = (NoAnsweredInit events replies 0 × ContinuesClaim before after)
     ⊎ ((at : ℕ) × (attempt : Attempt) × AnsweredInit events replies at attempt
-    × NoAnsweredInit events replies (at + 1) × (after ≡ Some attempt))
+    × NoAnsweredInit events replies (at + 1) × ContinuesClaim (Some attempt) after)
 
 keeps_more : {S : Type 0} (server next : Recorded S) (after : Option Attempt) (event : Given) (events : List Given)
     (says : ServerSays) (replies : List ServerSays) → StepsClaim server event says next
@@ -178,16 +213,19 @@ keeps_more server next after event events says replies (inl (attempt, claims, to
   attempt,
   first_answered event events says replies attempt claims,
   none_later event events says replies 0 1 (omega arith) none,
-  is ∙ to,
+  subst (λ (claim : Option Attempt). ContinuesClaim claim after) to is,
 )
 keeps_more server next after event events says replies (inr (not, to)) (inl (none, is)) =
-    inl (none_at_all event events says replies not none, is ∙ to)
+    inl (none_at_all event events says replies not none, on_and_on server.last next.last after to is)
 
 runs_keep : {S : Type 0} (machine : Machine S) (server last : Recorded S) (events : List Given)
     (replies : List ServerSays) → Runs (AcceptorSteps (recorded_machine machine)) server events replies last
     → Keeps server.last last.last events replies
 runs_keep machine server last [] replies runs =
-    inl ((λ at attempt least a. let is = a.is in absurd (cc)), last_of last server runs.1)
+    inl (
+      (λ at attempt least a. let is = a.is in absurd (cc)),
+      same_claim server.last last.last (last_of last server runs.1),
+    )
 runs_keep machine server last (event ∷ events) replies runs =
     let step = gives machine server event runs.3.0 runs.0 runs.1 runs.3.1 runs.3.2 in
     let rest = runs_keep machine runs.1 last events runs.2 runs.5 in

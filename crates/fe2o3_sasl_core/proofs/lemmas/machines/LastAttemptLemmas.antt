@@ -1,15 +1,15 @@
 -- A server that keeps the last claim answers like its acceptor: `replies_like_acceptor`, `runs_like_acceptor`,
 -- `one_reply_is_kept`, `some_reply_is_kept`, `bounds_hold`.
-use Rattle.std.proofs.Common.{◌≡◌, ◌↔◌, ℕ, Option, Some, None, List, [], ◌∷◌, refl, sym, ap, ◌∙◌, inl, inr, Result, Ok, Err}
+use Rattle.std.proofs.Common.{◌≡◌, ℕ, Option, Some, None, List, [], ◌∷◌, refl, sym, ap, ◌∙◌, inl, inr, Result, Ok, Err}
 use Rattle.fe2o3_sasl_wire.specs.declared.sasl_frames.error.Error.{Error}
 use Rattle.fe2o3_sasl_wire.specs.declared.sasl_frames.error.Error.TheVariants as faults
 use Rattle.fe2o3_sasl_wire.specs.SaslFrames as frames
 use Rattle.fe2o3_sasl_wire.specs.SaslFrames.{SaslFrame, canonical}
 use Rattle.fe2o3_sasl_core.specs.AnyMechanismLaws.{Machine}
-use Rattle.fe2o3_sasl_core.specs.Bodies.{carried, server_says}
+use Rattle.fe2o3_sasl_core.specs.Bodies.{server_says}
 use Rattle.fe2o3_sasl_core.specs.Events.{Given, ServerSays, Failed}
 use Rattle.fe2o3_sasl_core.specs.LoginAttemptLaws.{RecordedBoundsHold, RecordedChallengesOnlyAtInit, RecordedOneReplyIsKept, RecordedRepliesLikeAcceptor, RecordedRunsLikeAcceptor, RecordedSomeReplyIsKept, recording}
-use Rattle.fe2o3_sasl_core.specs.LoginAttempts.{Attempt, ClaimIn, IsAttempt, Recorded, RecordsFrame, recorded_machine}
+use Rattle.fe2o3_sasl_core.specs.LoginAttempts.{Attempt, ClaimIn, IsAttempt, LateClaim, Recorded, RecordsFrame, RecordsResponse, recorded_machine, with_late}
 use Rattle.fe2o3_sasl_core.specs.Runs.{Runs, AcceptorSteps, AcceptorAnswers, AcceptorGives, SendsCanonical}
 use Rattle.fe2o3_sasl_core.proofs.lemmas.machines.ClaimLemmas.{one_claim, some_claim}
 
@@ -34,10 +34,35 @@ one_attempt mechanism response hostname attempt other is too =
     let host = is.2 ∙ sym too.2 in
     λ i. record { mechanism = same i; user = user i; hostname = host i }
 
+one_late : (claimed : Option (List ℕ)) (mechanism text : List ℕ) (late other : Option (List ℕ))
+    → LateClaim claimed mechanism text late → LateClaim claimed mechanism text other → late ≡ other
+one_late (Some user) mechanism text late other is too = is ∙ sym too
+one_late None mechanism text late other is too = one_claim mechanism text late other is too
+
+some_late : (claimed : Option (List ℕ)) (mechanism text : List ℕ)
+    → (late : Option (List ℕ)) × LateClaim claimed mechanism text late
+some_late (Some user) mechanism text = (None, refl)
+some_late None mechanism text = some_claim mechanism text
+
+one_response : (text : List ℕ) (before after other : Option Attempt) → RecordsResponse text before after
+    → RecordsResponse text before other → after ≡ other
+one_response text None after other is too = is ∙ sym too
+one_response text (Some attempt) after other (late, claims, to) (late', claims', to') =
+    let same = one_late attempt.user attempt.mechanism text late late' claims claims' in
+    to ∙ (ap (λ (user : Option (List ℕ)). Some (with_late attempt user)) same ∙ sym to')
+
+some_response : (text : List ℕ) (before : Option Attempt)
+    → (after : Option Attempt) × RecordsResponse text before after
+some_response text None = (None, refl)
+some_response text (Some attempt) =
+    let late = some_late attempt.user attempt.mechanism text in
+    (Some (with_late attempt late.0), (late.0, late.1, refl))
+
 one_record : (frame : SaslFrame) (before after other : Option Attempt) → RecordsFrame frame before after
     → RecordsFrame frame before other → after ≡ other
 one_record (frames.Init mechanism response hostname) before after other (attempt, is, to) (attempt', is', to') =
     to ∙ (ap (λ (a : Attempt). Some a) (one_attempt mechanism response hostname attempt attempt' is is') ∙ sym to')
+one_record (frames.Response text) before after other is too = one_response text before after other is too
 one_record frame before after other is too = is ∙ sym too
 
 some_record : (frame : SaslFrame) (before : Option Attempt) → (after : Option Attempt) × RecordsFrame frame before after
@@ -45,6 +70,7 @@ some_record (frames.Init mechanism response hostname) before =
     let user = some_in mechanism response in
     let attempt : Attempt = record { mechanism = mechanism; user = user.0; hostname = hostname } in
     (Some attempt, (attempt, (refl, user.1, refl), refl))
+some_record (frames.Response text) before = some_response text before
 some_record frame before = (before, refl)
 
 -- ---- an answer to a frame

@@ -4,7 +4,8 @@ ghost use Rattle.std.specs.Prelude.{◌≡◌, ◌≢◌, ◌↔◌, [], true, f
 ghost use Rattle.fe2o3_scram.specs.Mixed.{provider_for};
 ghost use Rattle.fe2o3_sasl_core.specs.ExternalServer.{external_of};
 ghost use Rattle.fe2o3_sasl_core.specs.PlainServer.{plain_state};
-ghost use Rattle.fe2o3_sasl_core.specs.PasswordServer.{HasLongSalts, OffersNothing, all_scrams_in, all_scrams_state, asked_of, count_of_unknown, exchange_with, external_mechanism, external_name, first_asked, name_where, names_for, offering_for, opened, or_no_channels, others_names, others_of, others_state, part_asked, password_server, password_state, restored_held, scram_provider, scram_rules, scram_state, scrams_at, scrams_in, scrams_state, second_asked, settings_of, state_held};
+ghost use Rattle.fe2o3_sasl_core.specs.PasswordServer.{HasLongSalts, OffersNothing, all_scrams_in, all_scrams_known, all_scrams_state, asked_of, authenticator_state, count_of_unknown, exchange_with, external_mechanism, external_name, first_asked, known_for, name_where, names_for, offering_for, opened, or_no_channels, others_names, others_of, others_state, part_asked, password_known, password_known_for, password_server, password_state, restored_held, scram_known, scram_provider, scram_rules, scram_state, scrams_at, scrams_in, scrams_known, scrams_known_for, scrams_state, second_asked, settings_of, state_held, weaker_known};
+ghost use Rattle.fe2o3_sasl_core.specs.ScramRejections.{all_records};
 ghost use Rattle.fe2o3_sasl_core.specs.AnyMechanism.{both_names};
 ghost use Rattle.fe2o3_sasl_core.specs.AnyMechanismSides.{both_states};
 ghost use Rattle.fe2o3_sasl_core.specs.RestrictMechanisms.{offering_names, offering_of};
@@ -16,11 +17,13 @@ ghost use Rattle.fe2o3_sasl_core.specs.declared.password_server.builder.BuildErr
 use crate::OutOfMemory;
 use crate::any_mechanism::{AnyMechanism, HasMechanism, Selected};
 use crate::external_server::ExternalServer;
+use crate::hash_records::HashRecords;
 use crate::password_server::PasswordServer;
 use crate::password_server::all_scrams::AllScrams;
 use crate::password_server::builder::{BuildError, PasswordServerBuilder, Restored, RestoredState};
 use crate::password_server::others::Others;
-use crate::password_server::scrams::{Scram, Scrams, Weaker, second_asked};
+use crate::password_server::scram::{Authenticator, Scram};
+use crate::password_server::scrams::{Scrams, Weaker, second_asked};
 use crate::plain_server::PlainServer;
 use crate::restrict_mechanisms::{OfferError, RestrictMechanisms};
 use fe2o3_scram::credentials::{DEFAULT_SCRAM_ITERATIONS, RecordStore};
@@ -31,9 +34,10 @@ use std::alloc::Global;
 
 impl RestoredState<'_> {
     /// Returns SCRAM in this state.
-    fn restore(self, alloc: Global, scram: Scram) -> Result<Scram, OutOfMemory>
-        ensures { IfOk result (λ restored. scram_state restored
+    fn restore(self, alloc: Global, scram: Authenticator) -> Result<Authenticator, OutOfMemory>
+        ensures state { IfOk result (λ restored. authenticator_state restored
             ≡ ScramAcceptor (served_by (λ store. store) scram) (state_held self.entry)) }
+        ensures known { IfOk result (λ restored. provider_in restored ≡ provider_in scram) }
     {
         match self {
             RestoredState::Challenge { challenge, stored } => {
@@ -57,6 +61,8 @@ impl PasswordServerBuilder<'_> {
     /// be offered, and otherwise `OutOfMemory`.
     pub fn build(&self, alloc: Global) -> Result<PasswordServer, BuildError>
         ensures ok { IfOk result (λ server. password_state server ≡ password_server (settings_of self.now)) }
+        ensures known { IfOk result (λ server.
+            password_known server ≡ password_known_for (settings_of self.now).records) }
         ensures some { IfOk result (λ _. ¬ OffersNothing (settings_of self.now)) }
         ensures short { IfOk result (λ _. ¬ HasLongSalts (settings_of self.now)) }
         ensures err { IfErr result (λ error. error ≡ BuildError.SaltTooLong → HasLongSalts (settings_of self.now)) }
@@ -82,6 +88,7 @@ impl PasswordServerBuilder<'_> {
     ) -> Result<RestrictMechanisms<AnyMechanism<A, Others>>, BuildError>
         ensures ok { IfOk result (λ offering. offering_of (both_states A.state others_state) offering
             ≡ offering_for (settings_of self.now) (A.state scrams)) }
+        ensures known { IfOk result (λ offering. A.known offering.acceptor.first ≡ A.known scrams) }
         ensures some { IfOk result (λ _. offering_names (λ parts. both_names (A.names parts.first) (others_names parts.second))
             (offering_for (settings_of self.now) (A.state scrams)) ≢ []) }
         ensures none { IfErr result (λ error. error ≡ BuildNoMechanism
@@ -171,6 +178,7 @@ impl PasswordServerBuilder<'_> {
             ServerRules {
                 accept_cbind_flag_y: self.rules.accept_cbind_flag_y
                     && !self.rules.channels.is_some(),
+                reject_misplaced: self.rules.reject_misplaced || self.rules.channels.is_some(),
                 channels: None,
                 ..self.rules
             }
@@ -182,6 +190,8 @@ impl PasswordServerBuilder<'_> {
         ensures ok { IfOk result (λ scrams. all_scrams_state scrams ≡ all_scrams_in (settings_of self.now)
             (scrams_at (exchange_with true (settings_of self.now).restored))
             (scrams_at (exchange_with false (settings_of self.now).restored)) (part_asked (settings_of self.now).restored)) }
+        ensures known { IfOk result (λ scrams.
+            all_scrams_known scrams ≡ password_known_for (settings_of self.now).records) }
         ensures err { IfErr result (λ error. (error ≡ BuildNoMechanism → ⊥)
             × (error ≡ BuildSaltTooLong → HasLongSalts (settings_of self.now))) }
     {
@@ -196,14 +206,17 @@ impl PasswordServerBuilder<'_> {
     fn scrams(&self, alloc: Global, plus: bool) -> Result<Scrams, BuildError>
         ensures ok { IfOk result (λ scrams. scrams_state scrams
             ≡ scrams_in plus (settings_of self.now) (scrams_at (exchange_with plus (settings_of self.now).restored))) }
+        ensures known { IfOk result (λ scrams. scrams_known scrams ≡ scrams_known_for (settings_of self.now).records) }
         ensures err { IfErr result (λ error. (error ≡ BuildNoMechanism → ⊥)
             × (error ≡ BuildSaltTooLong → HasLongSalts (settings_of self.now))) }
     {
         let exchange = self.exchange(plus);
         let asked = version_of(&exchange);
         let strongest = self.scram(alloc, plus, &exchange, ScramVersion::Sha512)?;
-        let weaker = self.weaker(alloc, plus, &exchange)?;
-        Ok(Scrams::new(strongest, weaker, asked))
+        match self.weaker(alloc, plus, &exchange) {
+            Ok(weaker) => Ok(Scrams::new(strongest, weaker, asked)),
+            Err(error) => Err(error),
+        }
     }
 
     /// Returns SCRAM by SHA-256 and SHA-1.
@@ -215,12 +228,19 @@ impl PasswordServerBuilder<'_> {
     ) -> Result<Weaker, BuildError>
         ensures ok { IfOk result (λ scrams. both_states scram_state scram_state scrams
             ≡ (scrams_in plus (settings_of self.now) (scrams_at (option_map restored_held exchange.now))).second) }
+        ensures known { IfOk result (λ scrams.
+            weaker_known scrams ≡ (scrams_known_for (settings_of self.now).records).1) }
         ensures err { IfErr result (λ error. (error ≡ BuildNoMechanism → ⊥)
             × (error ≡ BuildSaltTooLong → HasLongSalts (settings_of self.now))) }
     {
         let first = self.scram(alloc, plus, exchange, ScramVersion::Sha256)?;
-        let second = self.scram(alloc, plus, exchange, ScramVersion::Sha1)?;
-        Ok(AnyMechanism::with_selected(first, second, second_asked(version_of(exchange))))
+        match self.scram(alloc, plus, exchange, ScramVersion::Sha1) {
+            Ok(second) => {
+                let asked = second_asked(version_of(exchange));
+                Ok(AnyMechanism::with_selected(first, second, asked))
+            }
+            Err(error) => Err(error),
+        }
     }
 
     /// Returns the server of SCRAM by this hash, in the exchange if it is of this hash.
@@ -233,22 +253,42 @@ impl PasswordServerBuilder<'_> {
     ) -> Result<Scram, BuildError>
         ensures ok { IfOk result (λ scram. scram_state scram ≡ ScramAcceptor
             (scram_provider plus (settings_of self.now) version) (opened (option_map restored_held exchange.now) version)) }
+        ensures known { IfOk result (λ scram. scram_known scram ≡ known_for (settings_of self.now).records version) }
         ensures err { IfErr result (λ error. (error ≡ BuildNoMechanism → ⊥)
             × (error ≡ BuildSaltTooLong → HasLongSalts (settings_of self.now))) }
     {
         let fresh = self.fresh(alloc, plus, version)?;
-        match exchange {
+        let authenticator = match exchange {
             Some(restored) if is_version(restored.version, version) => {
-                Ok(restored.state.restore(alloc, fresh)?)
+                restored.state.restore(alloc, fresh)?
             }
-            _ => Ok(fresh),
-        }
+            _ => fresh,
+        };
+        Ok(Scram::new(authenticator, self.hash_records()?))
+    }
+
+    /// Returns the records for every hash, which are shared.
+    fn hash_records(&self) -> Result<HashRecords, OutOfMemory>
+        ensures { IfOk result (λ records. all_records records
+            ≡ (known_for (settings_of self.now).records ScramVersion.Sha1).all) }
+    {
+        Ok(HashRecords {
+            sha_1: self.store(ScramVersion::Sha1)?,
+            sha_256: self.store(ScramVersion::Sha256)?,
+            sha_512: self.store(ScramVersion::Sha512)?,
+        })
     }
 
     /// Returns the server of SCRAM by this hash, without an open challenge.
-    fn fresh(&self, alloc: Global, plus: bool, version: ScramVersion) -> Result<Scram, BuildError>
-        ensures ok { IfOk result (λ scram. scram_state scram
+    fn fresh(
+        &self,
+        alloc: Global,
+        plus: bool,
+        version: ScramVersion,
+    ) -> Result<Authenticator, BuildError>
+        ensures ok { IfOk result (λ scram. authenticator_state scram
             ≡ ScramAcceptor (scram_provider plus (settings_of self.now) version) Initial) }
+        ensures known { IfOk result (λ scram. provider_in scram ≡ provider_for version (settings_of self.now).records) }
         ensures err { IfErr result (λ error. (error ≡ BuildNoMechanism → ⊥)
             × (error ≡ BuildSaltTooLong → HasLongSalts (settings_of self.now))) }
     {
@@ -263,7 +303,7 @@ impl PasswordServerBuilder<'_> {
     }
 
     /// Returns the server of SCRAM by this hash, without an open challenge and without mock authentication.
-    fn without_mock(&self, plus: bool, version: ScramVersion) -> Result<Scram, OutOfMemory>
+    fn without_mock(&self, plus: bool, version: ScramVersion) -> Result<Authenticator, OutOfMemory>
         ensures provider { IfOk result (λ scram. provider_in scram ≡ provider_for version (settings_of self.now).records) }
         ensures rules { IfOk result (λ scram. rules_in scram ≡ scram_rules plus (settings_of self.now).rules) }
         ensures rights { IfOk result (λ scram. rights_in scram ≡ (settings_of self.now).rights) }

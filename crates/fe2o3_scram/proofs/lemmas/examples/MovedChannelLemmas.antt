@@ -1,18 +1,20 @@
 -- Two sides of which neither is strict, and what someone on the way can do to them.
-use Rattle.std.proofs.Common.{◌≡◌, ◌≤◌, ◌<◌, ◌^◌, ℕ, false, List, [], ◌∷◌, ◌++◌, refl, sym, ap, ◌∙◌, arith, codes, append_assoc, Ok}
+use Rattle.std.proofs.Common.{◌<◌, ◌^◌, ℕ, false, List, [], ◌∷◌, ◌++◌, refl, ap, arith, codes, append_assoc, Ok}
 use Rattle.std.specs.Fmt.{decimal}
 use Rattle.std.specs.Str.{IsUtf8}
 use Rattle.std.proofs.lemmas.Str.{IsUtf8-append}
 use Rattle.fe2o3_scram.specs.ChannelBinding.{ClientHeader, cbind_input}
 use Rattle.fe2o3_scram.specs.ClientFinal.{ClientFinal, NamesClientFinal, ReadsFinalText, client_final_of, without_proof_with}
 use Rattle.fe2o3_scram.specs.ClientSecret.{Password, no_limit}
-use Rattle.fe2o3_scram.specs.examples.MovedChannels.{MovedChannelsPass, lax_client, moved_first, moved_without}
-use Rattle.fe2o3_scram.specs.ServerFirst.{HasCount, NamesServerFirst, ServerFirst, server_first_of}
+use Rattle.fe2o3_scram.specs.Credentials.{Record}
+use Rattle.fe2o3_scram.specs.examples.MovedChannels.{MovedChannelsPass, MovedFirstsAreRefused, lax_client, moved_first, moved_without}
+use Rattle.fe2o3_scram.specs.ServerFirst.{HasCount, NamesServerFirst, ServerFirst, client_of, server_first_of}
 use Rattle.fe2o3_scram.specs.Texts.{HasBase64, NoComma, Part, Parts, base64_text}
 use Rattle.fe2o3_scram.proofs.lemmas.messages.ClientFinalLemmas.{text_read}
 use Rattle.fe2o3_scram.proofs.lemmas.messages.ExchangeLemmas.{IsCount-decimal, no_comma-decimal, not_extended, only_part, part_of, two_parts}
 use Rattle.fe2o3_scram.proofs.lemmas.messages.HeaderLemmas.{IsBytes-cbind_input}
 use Rattle.fe2o3_scram.proofs.lemmas.messages.ServerFirstLemmas.{not_too_large, not_too_small, same_nonce, secret_holds, values_read}
+use Rattle.fe2o3_scram.proofs.lemmas.messages.StrictSideLemmas.{none_after_count, strict_of_channel}
 use Rattle.fe2o3_scram.proofs.lemmas.texts.AsciiLemmas.{IsUtf8-base64_text, utf8_behind}
 use Rattle.fe2o3_scram.proofs.lemmas.texts.Base64Lemmas.{no_comma-base64_text}
 use Rattle.fe2o3_scram.proofs.lemmas.texts.JoinedTextLemmas.{three_joined, two_joined}
@@ -38,9 +40,12 @@ read header nonce text final utf8 names = text_read header false nonce text utf8
     (λ none. none _ names.nonce, (λ other. other names.nonce, tt))
     (λ none. none _ _ names.proof.1, (λ none. none final names.proof, (λ wrong. wrong.0, tt))) names
 
-pub moved_channels_pass : MovedChannelsPass
-moved_channels_pass password own both bare ours theirs proof stored normal begins plain utf8 bytes proved salted some
-    small =
+-- the parts of the server's message with the two attributes after it
+moved_parts : (both : List ℕ) (stored : Record) (theirs : ClientHeader) → NoComma both → stored.count < 2 ^ 32
+    → Parts (moved_first (server_first_of both stored) theirs both)
+    ((codes "r=" ++ both) ∷ (codes "s=" ++ base64_text stored.salt) ∷ (codes "i=" ++ decimal stored.count)
+    ∷ (codes "c=" ++ base64_text (cbind_input theirs)) ∷ (codes "r=" ++ both) ∷ [])
+moved_parts both stored theirs plain small =
     let wide : stored.count < 2 ^ 64 = omega (arith, small) in
     let full = codes "r=" ++ both in
     let salt = codes "s=" ++ base64_text stored.salt in
@@ -49,9 +54,24 @@ moved_channels_pass password own both bare ours theirs proof stored normal begin
     (only_part full (part_of (codes "r=") both refl plain))
     (only_part salt (part_of (codes "s=") (base64_text stored.salt) refl (no_comma-base64_text stored.salt)))
     (only_part count (part_of (codes "i=") (decimal stored.count) refl (no_comma-decimal stored.count wide))) in
+    two_joined (server_first_of both stored) (without_proof_with theirs both) _ _ first (without_parts theirs both plain)
+
+pub moved_firsts_are_refused : MovedFirstsAreRefused
+moved_firsts_are_refused secret limits strict own both ours theirs stored first has plain small reads =
+    none_after_count (client_of own secret limits ours strict) (moved_first (server_first_of both stored) theirs both) first
+    (strict_of_channel ours strict has) reads (
+      3,
+      codes "c=" ++ base64_text (cbind_input theirs),
+      omega (arith),
+      (_, moved_parts both stored theirs plain small, refl),
+      refl,
+    )
+
+pub moved_channels_pass : MovedChannelsPass
+moved_channels_pass password own both bare ours theirs proof stored normal begins plain utf8 bytes proved salted some
+    small =
     let text = moved_first (server_first_of both stored) theirs both in
-    let parts = two_joined (server_first_of both stored) (without_proof_with theirs both) _ _ first
-    (without_parts theirs both plain) in
+    let parts = moved_parts both stored theirs plain small in
     let nonce : Part text 0 (codes "r=" ++ both) = (_, parts, refl) in
     let has_salt : HasBase64 text 1 (codes "s=") stored.salt = (salted, (_, parts, refl)) in
     let digits : Part text 2 (codes "i=" ++ decimal stored.count) = (_, parts, refl) in

@@ -51,7 +51,7 @@ pub record ClientHas (own text : List ℕ) (first : ServerFirst) : Type 0 where
   pub names : NamesServerFirst text first
 
 -- its parts: two of its first message, three and more of the challenge, two of its answer
-client_parts : (header : ClientHeader) (name own text : List ℕ) (first : ServerFirst) → (has : ClientHas own text first)
+pub client_parts : (header : ClientHeader) (name own text : List ℕ) (first : ServerFirst) → (has : ClientHas own text first)
     → (more : List (List ℕ)) × Parts text ((codes "r=" ++ first.nonce) ∷ (codes "s=" ++ base64_text first.salt)
     ∷ (codes "i=" ++ has.names.count.0) ∷ more) × Parts (auth_message (client_first_bare name own) text
     (without_proof_with header first.nonce))
@@ -117,25 +117,26 @@ pub record ServerHas (version : ScramVersion) (rules : ServerRules) (rights : Ri
       NamesAcceptedFinal (server_against version rules rights challenge stored) response final
 
 -- the channel binding that a server expects
-abbrev expected : ServerRules → ClientFirst → List ℕ
+abbrev pub expected : ServerRules → ClientFirst → List ℕ
 expected rules client = cbind_input (expected_header rules.channels client.header)
 
 -- its parts: two and more of the client-first message, three of its challenge, two and more of the response
-record ServerParts (rules : ServerRules) (client : ClientFirst) (its : List ℕ) (stored : Record) (without : List ℕ)
+pub record ServerParts (rules : ServerRules) (client : ClientFirst) (its : List ℕ) (stored : Record) (without : List ℕ)
     : Type 0 where
-  extra : List (List ℕ)
-  middle : List (List ℕ)
-  bare : Parts client.bare ((codes "n=" ++ escaped client.user) ∷ (codes "r=" ++ client.nonce) ∷ extra)
-  rest : Parts without ((codes "c=" ++ base64_text (expected rules client))
+  pub extra : List (List ℕ)
+  pub middle : List (List ℕ)
+  pub bare : Parts client.bare ((codes "n=" ++ escaped client.user) ∷ (codes "r=" ++ client.nonce) ∷ extra)
+  pub rest : Parts without ((codes "c=" ++ base64_text (expected rules client))
       ∷ (codes "r=" ++ (challenge_of client its stored).nonce) ∷ middle)
-  message : let challenge = challenge_of client its stored in
+  pub message : let challenge = challenge_of client its stored in
       Parts (auth_message client.bare challenge.first without)
       (((codes "n=" ++ escaped client.user) ∷ (codes "r=" ++ client.nonce) ∷ extra)
       ++ (((codes "r=" ++ challenge.nonce) ∷ (codes "s=" ++ base64_text stored.salt)
       ∷ (codes "i=" ++ decimal stored.count) ∷ [])
       ++ ((codes "c=" ++ base64_text (expected rules client)) ∷ (codes "r=" ++ challenge.nonce) ∷ middle)))
 
-server_parts : {rights : Rights} (version : ScramVersion) (rules : ServerRules) (client : ClientFirst) (its : List ℕ) (stored : Record) (final : ClientFinal)
+pub server_parts : {rights : Rights} (version : ScramVersion) (rules : ServerRules) (client : ClientFirst) (its : List ℕ)
+    (stored : Record) (final : ClientFinal)
     → stored.count < 2 ^ 32 → ServerHas version rules rights client its stored final → ServerParts rules client its stored final.without
 server_parts version rules client its stored final small has =
     let wide : stored.count < 2 ^ 64 = omega (arith, small) in
@@ -265,7 +266,7 @@ header_expected : (rules : ServerRules) (header : Gs2Header) → header_of (expe
 header_expected rules header = λ i. record { flag = flag_expected rules header.flag i; acts_for = header.acts_for }
 
 -- channel bindings that are spelled alike are one
-same_binding : (header : ClientHeader) (rules : ServerRules) (client : ClientFirst) → HoldsHeaderBytes header
+pub same_binding : (header : ClientHeader) (rules : ServerRules) (client : ClientFirst) → HoldsHeaderBytes header
     → IsBytes (expected rules client) → base64_text (cbind_input header) ≡ base64_text (expected rules client)
     → (header_of header ≡ client.header)
     × (cbind_data header.channel ≡ cbind_data (expected_header rules.channels client.header).channel)
@@ -390,14 +391,14 @@ one_signature version other key its_key auth its_auth last has part =
 
 -- ---- one client's and one server's texts
 
-client_has : (side : ClientSide) (own text : List ℕ) (client : ClientKnows side own text)
+pub client_has : (side : ClientSide) (own text : List ℕ) (client : ClientKnows side own text)
     → ClientHas (base64_text own) text client.first
 client_has side own text client = record {
   plain = no_comma-base64_text own;
   names = names_server_first (holding side (base64_text own)) text client.first client.reads;
 }
 
-server_has : (provider : Provider) (its init response : List ℕ) (server : ServerKnows provider its init response)
+pub server_has : (provider : Provider) (its init response : List ℕ) (server : ServerKnows provider its init response)
     → ServerHas provider.version provider.rules provider.rights server.client (base64_text its) server.stored server.final
 server_has provider its init response server =
     let challenge = challenge_known server in

@@ -7,7 +7,7 @@ use Rattle.fe2o3_scram.specs.declared.scram_messages.error.ServerScramErrorKind.
 use Rattle.fe2o3_scram.specs.declared.scram_messages.error.ServerScramErrorKind.TheVariants.{Utf8Error, AuthenticationFailed, OutOfMemory}
 use Rattle.fe2o3_scram.specs.declared.scram_messages.client_channel.ClientChannel.{ClientChannel}
 use Rattle.fe2o3_scram.specs.declared.scram_messages.client_channel.ClientChannel.TheVariants.{Absent, NotOffered, Bound}
-use Rattle.fe2o3_scram.specs.ChannelBinding.{ClientHeader, cbind_input, is_bound, needs_strict}
+use Rattle.fe2o3_scram.specs.ChannelBinding.{ClientHeader, cbind_input, is_bound, has_more_than_flag}
 use Rattle.fe2o3_scram.specs.Texts.{base64_text, IsBase64, Part, LastPart, StartsWith, HasBase64}
 use Rattle.fe2o3_scram.specs.Hmac.{digest_len}
 use Rattle.fe2o3_scram.specs.Readings.{IsFirst, NoneHolds, Gives}
@@ -50,7 +50,7 @@ plain_bytes NotOffered (Some name) is = absurd (cc)
 plain_bytes (Bound binding) acts_for is = absurd (cc)
 
 -- a text that spells the expected binding, which holds bytes
-pub this_binding : (header : ClientHeader) (text spelling : List ℕ) → needs_strict header ≡ false
+pub this_binding : (header : ClientHeader) (text spelling : List ℕ) → has_more_than_flag header ≡ false
     → Part text 0 (codes "c=" ++ spelling) → spelling ≡ base64_text (cbind_input header)
     → HasBase64 text 0 (codes "c=") (cbind_input header)
 this_binding header text spelling plain is same =
@@ -69,7 +69,7 @@ other_bytes header text spelling bytes is spells other has = other
 
 -- a text whose binding is decoded reaches an allocation
 pub reaches_binding : (header : ClientHeader) (text spelling : List ℕ) → Part text 0 (codes "c=" ++ spelling)
-    → (needs_strict header ≡ false → spelling ≢ base64_text (cbind_input header)) → ReachesBinding header text
+    → (has_more_than_flag header ≡ false → spelling ≢ base64_text (cbind_input header)) → ReachesBinding header text
 reaches_binding header text spelling is other =
     ((spelling, is), λ plain. other_spelling header text spelling is (other plain))
 

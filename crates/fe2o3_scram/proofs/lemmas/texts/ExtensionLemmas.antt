@@ -65,7 +65,7 @@ one_mark P (x ∷ xs) ys (u ∷ us) vs p q has none after same =
 -- ---- attributes
 
 -- the part is a channel binding
-abbrev IsBinding : List ℕ → Type 0
+abbrev pub IsBinding : List ℕ → Type 0
 IsBinding part = StartsWith part (codes "c=")
 
 -- it is an iteration count
@@ -175,3 +175,51 @@ none_of_server f s i c f' s' i' c' more extra middle plain too same =
       none_before nonce salt its_nonce its_salt extra (sym counted.0),
       ap (λ (z : List (List ℕ)). drop 1 z) end,
     )
+
+-- ---- the one channel binding
+
+-- a server's AuthMessage that has no attribute of RFC 5802 in the place of extensions has one channel binding, however
+-- somebody else cuts it
+pub binding_of_server : (u n f s i c : List ℕ) (extra middle us vs : List (List ℕ)) (q : List ℕ) → IsBinding q
+    → NoAttributes extra → NoAttributes middle
+    → (110 ∷ 61 ∷ u) ∷ (114 ∷ 61 ∷ n) ∷ of_server f s i c extra middle ≡ us ++ q ∷ vs → 99 ∷ 61 ∷ c ≡ q
+binding_of_server u n f s i c extra middle us vs q has plain too same =
+    let three = (114 ∷ 61 ∷ f) ∷ (115 ∷ 61 ∷ s) ∷ (105 ∷ 61 ∷ i) ∷ [] in
+    let rest = (114 ∷ 61 ∷ f) ∷ middle in
+    let nonce = other_letter 114 99 f (λ e. omega (arith, e)) in
+    (one_mark IsBinding ((110 ∷ 61 ∷ u) ∷ (114 ∷ 61 ∷ n) ∷ (extra ++ three)) rest us vs (99 ∷ 61 ∷ c) q has (
+      other_letter 110 99 u (λ e. omega (arith, e)),
+      (
+        other_letter 114 99 n (λ e. omega (arith, e)),
+        all_not-append IsBinding extra three (no_bindings extra plain) (
+          nonce,
+          (other_letter 115 99 s (λ e. omega (arith, e)), (other_letter 105 99 i (λ e. omega (arith, e)), tt)),
+        ),
+      ),
+    )
+    (nonce, no_bindings middle too)
+    (ap (λ (z : List (List ℕ)). (110 ∷ 61 ∷ u) ∷ (114 ∷ 61 ∷ n) ∷ z)
+    (append_assoc extra three ((99 ∷ 61 ∷ c) ∷ rest)) ∙ same)).1
+
+-- and so has a client's
+pub binding_of_client : (u n f s i c : List ℕ) (more us vs : List (List ℕ)) (q : List ℕ) → IsBinding q
+    → NoAttributes more → (110 ∷ 61 ∷ u) ∷ (114 ∷ 61 ∷ n) ∷ of_client f s i c more ≡ us ++ q ∷ vs
+    → 99 ∷ 61 ∷ c ≡ q
+binding_of_client u n f s i c more us vs q has plain same =
+    let nonce = other_letter 114 99 f (λ e. omega (arith, e)) in
+    (one_mark IsBinding
+    ((110 ∷ 61 ∷ u) ∷ (114 ∷ 61 ∷ n) ∷ (114 ∷ 61 ∷ f) ∷ (115 ∷ 61 ∷ s) ∷ (105 ∷ 61 ∷ i) ∷ more)
+    ((114 ∷ 61 ∷ f) ∷ []) us vs (99 ∷ 61 ∷ c) q has (
+      other_letter 110 99 u (λ e. omega (arith, e)),
+      (
+        other_letter 114 99 n (λ e. omega (arith, e)),
+        (
+          nonce,
+          (
+            other_letter 115 99 s (λ e. omega (arith, e)),
+            (other_letter 105 99 i (λ e. omega (arith, e)), no_bindings more plain),
+          ),
+        ),
+      ),
+    )
+    (nonce, tt) same).1
