@@ -1,16 +1,21 @@
 -- What the file of the secret of mock authentication has to be: the project's own (docs/SECURITY.md).
-use Rattle.std.specs.Prelude.{◌≡◌, ◌≢◌, ℕ, ◌%◌, Bool, true, false}
+use Rattle.std.specs.Prelude.{◌≡◌, ◌≢◌, ◌%◌, ℕ}
+use Rattle.std.specs.Fs.{IsFile, file_type, metadata_mode}
+use Rattle.std.specs.declared.fs.attrs.Metadata.{Metadata}
 use Rattle.mock_secret.specs.declared.SecretError.{SecretError}
 use Rattle.mock_secret.specs.declared.SecretError.TheVariants as errors
 
--- a file of this kind, mode and length holds a secret: it is a regular file, its mode gives group and others nothing
--- (the last six bits), and it has 32 bytes
-abbrev pub HoldsSecret : Bool → ℕ → ℕ → Type 0
-HoldsSecret is_regular mode len = (is_regular ≡ true) × (mode % 64 ≡ 0) × (len ≡ 32)
+-- the mode gives group and others nothing: its last six bits are zero
+abbrev pub IsPrivate : Metadata → Type 0
+IsPrivate metadata = metadata_mode metadata % 64 ≡ 0
+
+-- a file with this metadata, from which this number of bytes was read, holds a secret
+abbrev pub HoldsSecret : Metadata → ℕ → Type 0
+HoldsSecret metadata len = IsFile (file_type metadata) × IsPrivate metadata × (len ≡ 32)
 
 -- the first of these that does not hold
-abbrev pub IsFirstFault : Bool → ℕ → ℕ → SecretError → Type 0
-IsFirstFault is_regular mode len errors.NotRegular = is_regular ≡ false
-IsFirstFault is_regular mode len errors.NotPrivate = (is_regular ≡ true) × (mode % 64 ≢ 0)
-IsFirstFault is_regular mode len errors.WrongLength = (is_regular ≡ true) × (mode % 64 ≡ 0) × (len ≢ 32)
-IsFirstFault is_regular mode len other = is_regular ≢ is_regular
+abbrev pub IsFirstFault : Metadata → ℕ → SecretError → Type 0
+IsFirstFault metadata len errors.NotRegular = ¬ IsFile (file_type metadata)
+IsFirstFault metadata len errors.NotPrivate = IsFile (file_type metadata) × ¬ IsPrivate metadata
+IsFirstFault metadata len errors.WrongLength = IsFile (file_type metadata) × IsPrivate metadata × (len ≢ 32)
+IsFirstFault metadata len other = ⊥

@@ -4,11 +4,12 @@
 #![tactic(auto)]
 
 ghost use Rattle.std.specs.Prelude.{◌≡◌, ◌++◌, IfOk, MatchResult, codes, length, string_bytes};
+ghost use Rattle.std.specs.Fs.{permissions_mode};
 ghost use Rattle.mock_secret.specs.Secrets.{HoldsSecret, IsFirstFault};
 
 use std::alloc::{AllocError, Global};
 use std::fs;
-use std::fs::{OpenFile, OpenOptions, Permissions};
+use std::fs::{Metadata, OpenFile, OpenOptions, Permissions};
 use std::io::{Error, ErrorKind, Read, Write};
 use std::os::unix::fs::{OpenOptionsExt, PermissionsExt};
 use std::random::RandomSource;
@@ -121,32 +122,31 @@ fn read_open<F: Read + OpenFile>(alloc: Global, open: &mut F) -> Result<Vec<u8>,
     ensures { IfOk result (λ secret. length secret.items ≡ 32) }
 {
     let metadata = open.metadata().map_err(SecretError::of_reading)?;
-    let (is_regular, mode) = (metadata.is_file(), metadata.permissions().mode());
     let mut secret = Vec::new(alloc);
     open.by_ref()
         .take(LEN as u64 + 1)
         .read_to_end(&mut secret)
         .map_err(SecretError::of_reading)?;
-    test(is_regular, mode, secret.len())?;
-    Ok(secret)
+    tested(&metadata, secret)
 }
 
-/// Checks, in this order, that a file is regular, that its mode gives no access to its group and to others, and that it
-/// has 32 bytes.
-pub fn test(is_regular: bool, mode: u32, len: usize) -> Result<(), SecretError>
-    ensures { MatchResult result (λ _. HoldsSecret is_regular mode len)
-        (λ error. IsFirstFault is_regular mode len error) }
+/// Returns the bytes of a file, if they are a secret by the file's metadata and their number. Checks, in this order, that
+/// the file is regular, that its mode gives no access to its group and to others, and that there are 32 bytes.
+fn tested(metadata: &Metadata, bytes: Vec<u8>) -> Result<Vec<u8>, SecretError>
+    ensures { MatchResult result
+        (λ secret. (secret.items ≡ bytes.items) × HoldsSecret metadata.now (length bytes.items))
+        (IsFirstFault metadata.now (length bytes.items)) }
 {
-    if !is_regular {
+    if !metadata.is_file() {
         return Err(SecretError::NotRegular);
     }
-    if mode % 0o100 != 0 {
+    if metadata.permissions().mode() % 0o100 != 0 {
         return Err(SecretError::NotPrivate);
     }
-    if len != LEN {
+    if bytes.len() != LEN {
         return Err(SecretError::WrongLength);
     }
-    Ok(())
+    Ok(bytes)
 }
 
 /// Makes the file of a secret, unless another process is faster. Writes the secret under a name that no other process
@@ -176,15 +176,22 @@ fn name_beside<R: RandomSource + AllocGlobal>(rt: &R, file: &str) -> Result<Stri
 /// Creates a new file that only its owner can read and write.
 fn create<R: Files>(rt: &R, beside: &str) -> Result<R::File, SecretError> {
     let mut options = OpenOptions::new();
-    options.write(true).create_new(true).mode(0o600);
+    options.write(true).create_new(true).mode(private().mode());
     options.open(rt, beside).map_err(SecretError::of_writing)
+}
+
+/// The mode of the file: only its owner can read and write it.
+fn private() -> Permissions
+    ensures { permissions_mode result ≡ 0o600 }
+{
+    Permissions::from_mode(0o600)
 }
 
 /// Writes a secret to a new file, and syncs it to the disk.
 fn fill<R: RandomSource, F: Write + OpenFile>(rt: &R, new: &mut F) -> Result<(), SecretError> {
     let mut secret = [0; LEN];
     rt.fill_bytes(&mut secret).map_err(SecretError::of_random)?;
-    new.set_permissions(Permissions::from_mode(0o600))
+    new.set_permissions(private())
         .map_err(SecretError::of_writing)?;
     new.write_all(&secret).map_err(SecretError::of_writing)?;
     new.sync_all().map_err(SecretError::of_writing)

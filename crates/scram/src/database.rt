@@ -39,6 +39,18 @@ impl Database<HostRuntime> for SqliteFile {
         user_lines(rt.alloc(), &mut pages, name, version)
     }
 
+    fn first_line(
+        &self,
+        rt: &HostRuntime,
+        path: &str,
+        version: ScramVersion,
+    ) -> Result<String, Stop> {
+        let mut pages = file::open(rt, path, WAIT, false).map_err(stop_of)?;
+        let mut text = String::new(rt.alloc());
+        push_first(rt.alloc(), &mut pages, version, &mut text)?;
+        Ok(text)
+    }
+
     fn lines(&self, rt: &HostRuntime, path: &str) -> Result<String, Stop> {
         let mut pages = file::open(rt, path, WAIT, false).map_err(stop_of)?;
         all_lines(rt.alloc(), &mut pages)
@@ -53,7 +65,7 @@ impl Database<HostRuntime> for SqliteFile {
         change: &C,
     ) -> Result<Changed, Stop> {
         let mut pages = file::open(rt, path, wait, change.makes_files()).map_err(stop_of)?;
-        let changed = apply(rt.alloc(), &mut pages, name, change)?;
+        let changed = apply(rt, &mut pages, name, change)?;
         file::save(&mut pages).map_err(stop_of)?;
         Ok(changed)
     }
@@ -117,19 +129,83 @@ fn record_of(version: ScramVersion, user: StoredUser) -> ScramRecord {
 
 /// Changes the rows of a user.
 fn apply<P: Pages, C: Change>(
-    alloc: Global,
+    rt: &HostRuntime,
     pages: &mut P,
     name: &str,
     change: &C,
 ) -> Result<Changed, Stop> {
+    let alloc = rt.alloc();
     let old = user_lines(alloc, pages, name, None)?;
-    let changed = change.apply(alloc, &old)?;
+    let firsts = firsts(alloc, pages, &old, change)?;
+    let changed = change.apply(rt, &old, &firsts)?;
     let root = schema::root(alloc, pages).map_err(stop_of)?;
     let users = MultiRecordStore::parse_lines(alloc, &changed.text)?;
     for version in &VERSIONS {
         put(alloc, pages, root, name, *version, &users)?;
     }
     Ok(changed)
+}
+
+/// Returns the line of the first record for each version for which a change makes a record.
+fn firsts<P: Pages, C: Change>(
+    alloc: Global,
+    pages: &mut P,
+    old: &str,
+    change: &C,
+) -> Result<String, Stop> {
+    let mut text = String::new(alloc);
+    for version in &VERSIONS {
+        if change.makes_record(old, *version) {
+            push_first(alloc, pages, *version, &mut text)?;
+        }
+    }
+    Ok(text)
+}
+
+/// Appends the line of the first record for a version, in the order of the names, if there is one.
+fn push_first<P: Pages>(
+    alloc: Global,
+    pages: &mut P,
+    version: ScramVersion,
+    text: &mut String,
+) -> Result<(), Stop> {
+    let root = schema::root(alloc, pages).map_err(stop_of)?;
+    let (mut key, mut batch) = (Row::new(alloc), Batch::new(alloc));
+    for _ in 0..u64::MAX {
+        let filled = fill_after(alloc, pages, root, &key, &mut batch);
+        filled.map_err(DatabaseError::from).map_err(stop_of)?;
+        if batch.is_empty() || push_first_of(alloc, pages, &mut batch, &mut key, version, text)? {
+            break;
+        }
+    }
+    Ok(())
+}
+
+/// Appends the line of the first row of a batch for a version, and returns whether there is one. Sets the key of the last row
+/// that was read.
+fn push_first_of<P: Pages>(
+    alloc: Global,
+    pages: &mut P,
+    batch: &mut Batch,
+    key: &mut Row,
+    version: ScramVersion,
+    text: &mut String,
+) -> Result<bool, Stop> {
+    for _ in 0..u64::MAX {
+        let taken = batch.next(pages);
+        if !taken.map_err(DatabaseError::from).map_err(stop_of)? {
+            break;
+        }
+        let row = row_of(alloc, batch.payload())?;
+        key.clear();
+        key.push(row.get(0))?;
+        key.push(row.get(1))?;
+        if version_in(&row) == Some(version) {
+            push_row(alloc, batch.payload(), key, text)?;
+            return Ok(true);
+        }
+    }
+    Ok(false)
 }
 
 /// Gives a user the row of the record for a mechanism, or none if there is no record.
@@ -234,6 +310,8 @@ fn text_in(row: &Row, at: usize) -> Option<&str> {
 fn stop_of(error: DatabaseError) -> Stop {
     Stop::Database(match error {
         DatabaseError::OutOfMemory => return Stop::OutOfMemory,
+        DatabaseError::Beside => return Stop::Busy,
+        DatabaseError::DanglingLink => return Stop::DanglingLink,
         DatabaseError::Missing => DatabaseFault::Missing,
         DatabaseError::Locked => DatabaseFault::Locked,
         DatabaseError::Journal => DatabaseFault::Journal,

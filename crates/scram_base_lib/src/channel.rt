@@ -1,6 +1,6 @@
 //! The channel of an argument `KIND:HEX`, and what a client and a server do with it (RFC 5802, section 6).
 
-ghost use Rattle.std.specs.Prelude.{◌≡◌, ◌≢◌, ◌⊎◌, ℕ, List, Ok, IfOk, IfErr, false, option_map};
+ghost use Rattle.std.specs.Prelude.{◌≡◌, ◌≢◌, ◌⊎◌, ◌||◌, ℕ, List, Ok, IfOk, IfErr, false, is_some, option_map};
 ghost use Rattle.hex.specs.Hex.{decode_of};
 ghost use Rattle.scram_base_lib.specs.Channel.{BindsOnly, RejectsChannel, SaysChannel, SpellsChannel, digits_in, name_in, only_data};
 
@@ -69,21 +69,25 @@ pub fn client_channel(
 }
 
 /// Returns what a server accepts: only clients that bind the channel of the argument, if there is one, and an identity to
-/// act for only with `accept_authzid`. The errors are those of [`parse_channel`].
+/// act for only with `accept_authzid`. A server with a channel rejects misplaced text, also without `reject_misplaced`. The
+/// errors are those of [`parse_channel`].
 pub fn server_rules(
     alloc: Global,
     word: Option<&str>,
     accept_y: bool,
     strict: bool,
+    reject_misplaced: bool,
     accept_authzid: bool,
 ) -> Result<ServerRules, Stop>
     ensures channels { IfOk result (λ rules. BindsOnly (option_map (λ word. word.now) word.entry) rules.channels) }
     ensures options { IfOk result (λ rules. (rules.accept_cbind_flag_y ≡ accept_y) × (rules.strict ≡ strict)
         × (rules.accept_authzid ≡ accept_authzid)) }
+    ensures misplaced { IfOk result (λ rules. rules.reject_misplaced ≡ (reject_misplaced || is_some word.entry)) }
 {
     Ok(ServerRules {
         accept_cbind_flag_y: accept_y,
         strict,
+        reject_misplaced: reject_misplaced || word.is_some(),
         channels: channels(alloc, word)?,
         accept_authzid,
     })

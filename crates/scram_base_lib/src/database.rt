@@ -19,6 +19,9 @@ pub trait Database<R> {
         version: Option<ScramVersion>,
     ) -> Result<String, Stop>;
 
+    /// Returns the line of the first record for a mechanism, in the order of the names, or an empty text if there is none.
+    fn first_line(&self, rt: &R, file: &str, version: ScramVersion) -> Result<String, Stop>;
+
     /// Returns the lines of all records.
     fn lines(&self, rt: &R, file: &str) -> Result<String, Stop>;
 
@@ -49,6 +52,10 @@ impl<R> Database<R> for NoDatabase {
         _name: &str,
         _version: Option<ScramVersion>,
     ) -> Result<String, Stop> {
+        Err(NONE)
+    }
+
+    fn first_line(&self, _rt: &R, _file: &str, _version: ScramVersion) -> Result<String, Stop> {
         Err(NONE)
     }
 

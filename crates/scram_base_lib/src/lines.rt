@@ -1,5 +1,9 @@
 //! The lines of a file of records.
 
+ghost use Rattle.std.specs.Prelude.{◌≡◌, ◌∷◌, [], IfOk};
+ghost use Rattle.std.specs.String.{string_bytes};
+ghost use Rattle.fe2o3_scram.specs.MultiRecordLines.{mixed_text};
+
 use crate::stop::Stop;
 use crate::store;
 use fe2o3_scram::{
@@ -20,6 +24,9 @@ pub struct UserLine<'a> {
 
     /// The iteration count.
     pub iterations: &'a str,
+
+    /// The salt, in base64.
+    pub salt: &'a str,
 }
 
 impl<'a> UserLine<'a> {
@@ -27,11 +34,13 @@ impl<'a> UserLine<'a> {
     pub fn of(line: &'a str) -> UserLine<'a> {
         let (name, record) = line.rsplit_once(' ').unwrap_or(("", ""));
         let (mechanism, rest) = record.split_once('$').unwrap_or(("", ""));
-        let (iterations, _) = rest.split_once(':').unwrap_or(("", ""));
+        let (iterations, rest) = rest.split_once(':').unwrap_or(("", ""));
+        let (salt, _) = rest.split_once('$').unwrap_or(("", ""));
         UserLine {
             name,
             mechanism,
             iterations,
+            salt,
         }
     }
 }
@@ -93,15 +102,19 @@ pub fn escaped(alloc: Global, name: &str) -> Result<String, Stop> {
 }
 
 /// Returns the line of a user, with its line feed.
-pub fn line_of(alloc: Global, name: &str, record: ScramRecord) -> Result<String, Stop> {
+pub fn line_of(alloc: Global, name: &str, kept: ScramRecord) -> Result<String, Stop>
+    ensures { IfOk result (λ line. string_bytes line ≡ mixed_text ((name.now, kept) ∷ [])) }
+{
     let name = name.to_string(alloc)?;
     let mut users = MultiRecordStore::new(alloc);
-    users.add(name, record)?;
+    users.add(name, kept)?;
     text_of(alloc, &users)
 }
 
 /// Returns the lines of users.
-fn text_of(alloc: Global, users: &MultiRecordStore) -> Result<String, Stop> {
+fn text_of(alloc: Global, users: &MultiRecordStore) -> Result<String, Stop>
+    ensures { IfOk result (λ text. string_bytes text ≡ mixed_text users.now) }
+{
     let lines = match users.to_lines(alloc) {
         Ok(lines) => lines,
         Err(WriteLinesError::UserNotWritable) => return Err(Stop::WrongName),

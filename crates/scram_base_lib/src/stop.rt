@@ -122,6 +122,10 @@ pub enum Stop {
     #[error("The file has no such record. scram users list shows its records.")]
     NoSuchRecord,
 
+    /// The records of the file differ in form, or a user has none for a mechanism that others have.
+    #[error("The records do not look alike, so clients can tell which users exist. scram users passwd mends a user's.")]
+    NotAlike,
+
     /// The password is wrong for a record.
     #[error("The password does not match every record.")]
     OtherPassword,
@@ -334,6 +338,7 @@ impl Stop {
             | Stop::Unsynced(_)
             | Stop::Database(_)
             | Stop::NoSuchRecord
+            | Stop::NotAlike
             | Stop::WrongKeys
             | Stop::OtherMechanism => Some(""),
             _ => None,
@@ -357,6 +362,7 @@ impl Stop {
             | Stop::WrongChannelLength
             | Stop::WrongRight => 2,
             Stop::NoSuchRecord
+            | Stop::NotAlike
             | Stop::OtherPassword
             | Stop::Client(_)
             | Stop::Server(_)

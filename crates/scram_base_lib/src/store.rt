@@ -3,10 +3,12 @@
 ghost use Rattle.std.specs.Prelude.{◌≡◌, ◌≢◌, None, Some};
 
 use crate::stop::Stop;
+use fe2o3_scram::ScramVersion;
 use std::alloc::{AllocError, Global};
 use std::fs::{Metadata, OpenFile, OpenOptions, Permissions};
 use std::io::{Error, ErrorKind, Read, Write};
 use std::os::unix::fs::{MetadataExt, OpenOptionsExt, PermissionsExt, lchown};
+use std::random::RandomSource;
 use std::rt::{Clock, Files};
 use std::time::Duration;
 use std::{fs, thread};
@@ -28,6 +30,9 @@ pub struct Changed {
 
     /// What the change did.
     pub done: &'static str,
+
+    /// Lines for the errors, each with its line feed.
+    pub notes: String,
 }
 
 /// A change of a file's text.
@@ -35,8 +40,17 @@ pub trait Change {
     /// Returns whether a missing file counts as an empty one.
     fn makes_files(&self) -> bool;
 
-    /// Returns the text after the change.
-    fn apply(&self, alloc: Global, text: &str) -> Result<Changed, Stop>;
+    /// Returns whether the change makes a record for a version where a text has these lines of the user.
+    fn makes_record(&self, text: &str, version: ScramVersion) -> bool;
+
+    /// Returns the text after the change. Another text has the first record of all users for each version for which the
+    /// change makes a record; it is the text itself if that has all users.
+    fn apply<R: RandomSource + AllocGlobal>(
+        &self,
+        rt: &R,
+        text: &str,
+        firsts: &str,
+    ) -> Result<Changed, Stop>;
 }
 
 /// A file's text, and its metadata if it exists.
@@ -65,7 +79,7 @@ fn unmarked(text: String) -> Result<String, Stop> {
 /// While `FILE.new` exists, no other process starts a change. This one waits for it for this many seconds.
 ///
 /// After an error other than `Unsynced` the old file is unchanged.
-pub fn make_change<R: Files + Clock + AllocGlobal, C: Change>(
+pub fn make_change<R: Files + Clock + RandomSource + AllocGlobal, C: Change>(
     rt: &R,
     file: &str,
     wait: u32,
@@ -155,7 +169,7 @@ fn of_creating(error: Error) -> Stop {
 }
 
 /// Writes the new file, and puts it in the place of the old one.
-fn fill<R: Files + AllocGlobal, C: Change>(
+fn fill<R: Files + RandomSource + AllocGlobal, C: Change>(
     rt: &R,
     target: &str,
     beside: &str,
@@ -163,7 +177,7 @@ fn fill<R: Files + AllocGlobal, C: Change>(
     change: &C,
 ) -> Result<Changed, Stop> {
     let old = read_old(rt, target, change.makes_files())?;
-    let changed = change.apply(rt.alloc(), &old.text)?;
+    let changed = change.apply(rt, &old.text, &old.text)?;
     let permissions = keep_owner(rt, beside, &new, &old.metadata)?;
     put(&mut new, &changed.text, permissions).map_err(Stop::of_writing)?;
     drop(new);

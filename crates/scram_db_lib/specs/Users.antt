@@ -1,6 +1,6 @@
 -- The table of users in a SQLite file: which rows it has, and which records they are. The file format is
 -- https://www.sqlite.org/fileformat2.html.
-use Rattle.std.specs.Prelude.{ℕ, Bool, true, false, List, [], ◌∷◌, Option, Some, None, Result, Ok, Err, ◌≡◌, map, take, find, pos, nat_lt, ◌^◌, if◌then◌else◌, ⊤}
+use Rattle.std.specs.Prelude.{ℕ, Bool, true, false, List, [], ◌∷◌, Option, Some, None, Result, Ok, Err, ◌≡◌, map, take, find, pos, nat_lt, ◌^◌, if◌then◌else◌, ⊤, codes, ◌++◌}
 use Rattle.std.specs.Ordering.{is_lt, is_eq, is_gt}
 use Rattle.std.specs.declared.cmp.Ordering.TheVariants.{Less, Greater}
 use Rattle.std.specs.declared.cmp.Ordering.{Ordering}
@@ -32,6 +32,27 @@ pub record IsTable (size : ℕ) (pages : PageMap) (root : ℕ) (rows : List Row)
   pub records : List (List ℕ)
   pub index : IsIndex by_key size layout root records
   pub read : map decode records ≡ rows
+
+-- the text of the table, by which SQLite reads it: the project's own
+unfoldable pub table_text : List ℕ
+table_text = codes "CREATE TABLE users (name TEXT NOT NULL, mechanism TEXT NOT NULL, salt BLOB NOT NULL, "
+    ++ (codes "iterations INTEGER NOT NULL, stored_key BLOB NOT NULL, server_key BLOB NOT NULL, "
+    ++ codes "PRIMARY KEY (name, mechanism)) WITHOUT ROWID")
+
+-- the row of the schema for the table of users, which begins with the page `root` (section 2.6)
+abbrev pub table_row : ℕ → Row
+table_row root =
+    Text (codes "table") ∷ Text (codes "users") ∷ Text (codes "users") ∷ Int (pos root) ∷ Text table_text ∷ []
+
+-- a row of the schema is that of the table of users, at any page; its third column is not read
+pub record IsUsers (row : Row) : Type 0 where
+  pub kind : column row 0 ≡ Text (codes "table")
+  pub name : column row 1 ≡ Text (codes "users")
+  pub text : column row 4 ≡ Text table_text
+
+-- a row of the schema is that of the table of users, which begins with the page `root`
+abbrev pub IsRowOfUsers : Row → ℕ → Type 0
+IsRowOfUsers row root = IsUsers row × (column row 3 ≡ Int (pos root))
 
 -- the key of a user's row for a mechanism
 abbrev pub user_key : List ℕ → List ℕ → Row

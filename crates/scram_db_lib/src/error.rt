@@ -5,16 +5,23 @@ ghost use Rattle.scram_db_lib.specs.Users.{named};
 
 use sqlite_pages::Error as PageError;
 use sqlite_std_file::OpenError;
+use sqlite_wal::Error as LogError;
 use std::alloc::AllocError;
 use std::error::Error;
-use std::fmt;
 use std::io::ErrorKind;
+use std::{fmt, io};
 
 /// Why a database cannot be used.
 #[derive(Debug, Clone, Copy, PartialEq, Eq)]
 pub enum DatabaseError {
-    /// The file does not exist.
+    /// The file does not exist, or it has no table yet.
     Missing,
+
+    /// The file is a link to a file that does not exist.
+    DanglingLink,
+
+    /// A new database cannot be made, because `FILE.new` beside it is another program's file, or has users.
+    Beside,
 
     /// Another program had the file open during the whole wait.
     Locked,
@@ -52,6 +59,8 @@ impl DatabaseError {
     pub fn text(self) -> &'static str {
         match self {
             DatabaseError::Missing => "it does not exist",
+            DatabaseError::DanglingLink => "it is a link to a file that does not exist",
+            DatabaseError::Beside => "the file with .new after its name is in the way",
             DatabaseError::Locked => "another program has it open",
             DatabaseError::Journal => "it has a rollback journal: open it with sqlite3 first",
             DatabaseError::Unopened(_) => "it or its log cannot be opened for reading and writing",
@@ -71,8 +80,27 @@ impl DatabaseError {
             OpenError::Busy => DatabaseError::Locked,
             OpenError::HotJournal => DatabaseError::Journal,
             OpenError::OutOfMemory => DatabaseError::OutOfMemory,
-            OpenError::Io(error) => DatabaseError::Unopened(error.kind()),
+            OpenError::Io(error) => of_system(error),
         }
+    }
+
+    /// Converts the error of a look at files that may have no database yet.
+    pub(crate) fn of_probe(error: LogError) -> DatabaseError {
+        match error {
+            LogError::OutOfMemory => DatabaseError::OutOfMemory,
+            LogError::Io(_) => DatabaseError::Io,
+            LogError::Full => DatabaseError::Full,
+            _ => DatabaseError::NotADatabase,
+        }
+    }
+}
+
+/// Converts the error of a call on a file.
+pub(crate) fn of_system(error: io::Error) -> DatabaseError {
+    match error.kind() {
+        ErrorKind::OutOfMemory => DatabaseError::OutOfMemory,
+        ErrorKind::StorageFull | ErrorKind::QuotaExceeded => DatabaseError::Full,
+        kind => DatabaseError::Unopened(kind),
     }
 }
 

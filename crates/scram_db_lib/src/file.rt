@@ -1,21 +1,21 @@
 //! The file of a database, at the edge of a program.
 
-ghost use Rattle.std.specs.Prelude.{IsTrue, IfOk};
+ghost use Rattle.std.specs.Prelude.{IsTrue, IfOk, OnOk};
 ghost use Rattle.sqlite_pool.specs.Opening.{AreUsable};
+ghost use Rattle.sqlite_pool.specs.Pool.{state, usable};
+ghost use Rattle.sqlite_pool.specs.File.{SameButHeader, in_use};
 
-use crate::error::DatabaseError;
-use crate::schema;
+use crate::error::{DatabaseError, of_system};
+use crate::{new_file, schema};
 use sqlite_disk::{Disk, Files};
 use sqlite_pager::{Options, Pager};
 use sqlite_pages::Error;
-use sqlite_pool::Pool;
+use sqlite_pool::{Pool, probe_blank};
 use sqlite_std_file::{File, Unknown};
 use sqlite_wal::{PageSize, probe_page_size};
 use std::alloc::Global;
-use std::fs::OpenOptions;
 use std::hash::{BuildHasher, RandomState};
 use std::io::ErrorKind;
-use std::os::unix::fs::OpenOptionsExt;
 use std::time::Duration;
 use std::{fs, thread};
 
@@ -29,9 +29,11 @@ const PAUSES: u64 = 50;
 const NEW_PAGE: usize = 4096;
 
 /// Opens a database. While another program has it open, tries again for this many seconds. The file is locked until the
-/// result is dropped: `sqlite3` finds it locked too. A missing or empty file is made if `makes` is set.
+/// result is dropped: `sqlite3` finds it locked too. If `makes` is set, a missing file is made with mode 0600, and a file
+/// without a table gets the table of users, with its owner and mode unchanged. Otherwise both are `Missing`.
 ///
-/// The errors are `Missing`, `Locked`, `Journal`, `Unopened`, `NotADatabase`, `Io`, `Full` and `OutOfMemory`.
+/// The errors are `Missing`, `Locked`, `Journal`, `DanglingLink`, `Beside`, `Unopened`, `NotADatabase`, `OtherSchema`,
+/// `Damaged`, `Io`, `Full` and `OutOfMemory`.
 pub fn open(
     rt: &HostRuntime,
     path: &str,
@@ -47,55 +49,66 @@ pub fn open(
     open_once(rt, path, makes)
 }
 
-/// Opens a database, or makes it if `makes` is set and the file is missing or empty.
+/// Opens a database. If `makes` is set, makes a missing file first.
 fn open_once(rt: &HostRuntime, path: &str, makes: bool) -> Result<Pool<File>, DatabaseError> {
-    if !exists(rt, path)? {
-        if !makes {
-            return Err(DatabaseError::Missing);
-        }
-        touch(rt, path)?;
+    match fs::metadata(rt, path) {
+        Ok(found) if found.len() > 0 || makes => {}
+        Ok(_) => return Err(DatabaseError::Missing),
+        Err(error) if error.kind() != ErrorKind::NotFound => return Err(of_system(error)),
+        Err(_) if makes => new_file::make(rt, path)?,
+        Err(_) => return Err(DatabaseError::Missing),
     }
+    open_files(rt, path, makes)
+}
+
+/// Opens a file and its log. If `makes` is set, makes the table of users in a file without a table.
+pub fn open_files(rt: &HostRuntime, path: &str, makes: bool) -> Result<Pool<File>, DatabaseError> {
     let options = options(rt)?;
     match sqlite_std_file::open(rt, path, Unknown) {
-        Ok(files) => begun(rt.alloc(), exists(rt, path), files, options),
+        Ok(files) => whole(rt.alloc(), files, options, makes),
         Err(error) => Err(DatabaseError::of_open(error)),
     }
 }
 
-/// Recovers or makes the database of files that are locked. Another program may have made it just before.
-fn begun<D: Disk + Drop>(
+/// Recovers the database of files that are locked. If there is no table yet and `makes` is set, makes the table of users.
+fn whole<D: Disk + Drop>(
     alloc: Global,
-    is_there: Result<bool, DatabaseError>,
     files: Files<D>,
     options: Options,
+    makes: bool,
 ) -> Result<Pool<D>, DatabaseError>
     requires log { IsTrue (D.Disk.is_usable files.log) }
     requires db { IsTrue (D.Disk.is_usable files.db) }
 {
-    match is_there {
-        Ok(true) => recovered(alloc, files, options),
-        Ok(false) => made(alloc, files, options),
-        Err(error) => Err(error),
+    let mut pool = opened(alloc, files, options, makes)?;
+    if schema::is_empty(alloc, &mut pool)? {
+        if !makes {
+            return Err(DatabaseError::Missing);
+        }
+        fill(alloc, &mut pool)?;
     }
+    Ok(pool)
 }
 
-/// Makes an empty file that only its owner can use, unless there is a file.
-fn touch(rt: &HostRuntime, path: &str) -> Result<(), DatabaseError> {
-    let mut options = OpenOptions::new();
-    options.write(true).create_new(true).mode(0o600);
-    match options.open(rt, path) {
-        Ok(_) => Ok(()),
-        Err(error) if error.kind() == ErrorKind::AlreadyExists => Ok(()),
-        Err(error) => Err(DatabaseError::Unopened(error.kind())),
-    }
-}
-
-/// Returns whether a file exists and is not empty.
-fn exists(rt: &HostRuntime, path: &str) -> Result<bool, DatabaseError> {
-    match fs::metadata(rt, path) {
-        Ok(found) => Ok(found.len() > 0),
-        Err(error) if error.kind() == ErrorKind::NotFound => Ok(false),
-        Err(error) => Err(DatabaseError::Unopened(error.kind())),
+/// Recovers the database of files. Where there is none yet, or where a crash left a part of its first page, makes one
+/// without a table if `makes` is set.
+fn opened<D: Disk + Drop>(
+    alloc: Global,
+    mut files: Files<D>,
+    options: Options,
+    makes: bool,
+) -> Result<Pool<D>, DatabaseError>
+    requires log { IsTrue (D.Disk.is_usable files.log) }
+    requires db { IsTrue (D.Disk.is_usable files.db) }
+{
+    let Some(size) = PageSize::new(NEW_PAGE) else {
+        return Err(DatabaseError::NotADatabase);
+    };
+    match probe_blank(alloc, &mut files, size, false) {
+        Ok(false) => recovered(alloc, files, options),
+        Ok(true) if makes => created(alloc, files, size, options),
+        Ok(true) => Err(DatabaseError::Missing),
+        Err(error) => Err(DatabaseError::of_probe(error)),
     }
 }
 
@@ -103,7 +116,7 @@ fn exists(rt: &HostRuntime, path: &str) -> Result<bool, DatabaseError> {
 fn options(rt: &HostRuntime) -> Result<Options, DatabaseError> {
     match RandomState::new(rt) {
         Ok(state) => Ok(Options::new(state.hash_one(&0u8))),
-        Err(error) => Err(DatabaseError::Unopened(error.kind())),
+        Err(error) => Err(of_system(error)),
     }
 }
 
@@ -128,40 +141,36 @@ fn recovered<D: Disk + Drop>(
     }
 }
 
-/// Makes a database with the table of users.
-fn made<D: Disk + Drop>(
+/// Makes a database without a table.
+fn created<D: Disk + Drop>(
     alloc: Global,
     files: Files<D>,
+    size: PageSize,
     options: Options,
 ) -> Result<Pool<D>, DatabaseError>
     requires log { IsTrue (D.Disk.is_usable files.log) }
     requires db { IsTrue (D.Disk.is_usable files.db) }
 {
-    let Some(size) = PageSize::new(NEW_PAGE) else {
-        return Err(DatabaseError::NotADatabase);
-    };
     let mut pool = pool(alloc, files, size, options)?;
-    match fill(alloc, &mut pool) {
+    match pool.create() {
         Ok(()) => Ok(pool),
-        Err(error) => Err(error),
+        Err(error) => Err(of_opening(error)),
     }
 }
 
-/// Makes the first pages of a database.
-fn fill<D: Disk>(alloc: Global, pool: &mut Pool<D>) -> Result<(), DatabaseError>
-    requires { AreUsable pool.old }
-{
-    match pool.create() {
-        Ok(()) => {}
-        Err(error) => return Err(of_opening(error)),
-    }
+/// Makes the table of users in a database without a table. A crash leaves the whole table or none.
+fn fill<D: Disk>(alloc: Global, pool: &mut Pool<D>) -> Result<(), DatabaseError> {
     schema::make(alloc, pool)?;
-    pool.set_cookie(1);
+    let cookie = pool.stored_cookie();
+    pool.set_cookie(cookie.wrapping_add(1));
     save(pool)
 }
 
 /// Makes a change durable: a crash leaves all of it or none. Then the log is copied into the file.
-pub fn save<D: Disk>(pool: &mut Pool<D>) -> Result<(), DatabaseError> {
+pub fn save<D: Disk>(pool: &mut Pool<D>) -> Result<(), DatabaseError>
+    ensures { IsTrue (state pool.new).is_open → IsTrue (state pool.new).is_clean → OnOk result
+        (SameButHeader (usable pool.old) (in_use (state pool.new).page_size (state pool.new).committed)) }
+{
     pool.commit()?;
     pool.checkpoint()?;
     Ok(())

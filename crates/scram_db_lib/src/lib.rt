@@ -7,6 +7,7 @@
 pub mod error;
 pub mod file;
 pub mod key;
+mod new_file;
 pub mod row;
 pub mod scan;
 pub mod schema;

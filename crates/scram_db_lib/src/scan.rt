@@ -50,3 +50,10 @@ pub fn fill_after<P: Pages>(
         batch,
     )
 }
+
+/// Returns whether the table has a row.
+pub fn has_rows<P: Pages>(alloc: Global, pages: &mut P, root: u32) -> Result<bool, Error> {
+    let mut batch = Batch::new(alloc);
+    fill_after(alloc, pages, root, &Row::new(alloc), &mut batch)?;
+    Ok(!batch.is_empty())
+}

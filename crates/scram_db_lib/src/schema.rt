@@ -1,5 +1,10 @@
 //! The schema of the database: the table of users, and nothing else.
 
+ghost use Rattle.std.specs.Prelude.{◌≡◌, ◌↔◌, ◌<◌, ◌^◌, ℕ, IsTrue, IfOk, IfSome, IsNone};
+ghost use Rattle.sqlite_value.specs.Order.{column};
+ghost use Rattle.sqlite_value.specs.declared.value.Value.TheVariants.{Text};
+ghost use Rattle.scram_db_lib.specs.Users.{table_text, table_row, count_in, IsUsers, IsRowOfUsers};
+
 use crate::error::DatabaseError;
 use crate::row::{encoded, row_of};
 use sqlite_btree::{Batch, Scratch, create, table};
@@ -32,6 +37,19 @@ pub fn root<P: Pages>(alloc: Global, pages: &mut P) -> Result<u32, DatabaseError
     root_in(&found).ok_or(DatabaseError::OtherSchema)
 }
 
+/// Returns whether the database has no table, index, view or trigger.
+pub fn is_empty<P: Pages>(alloc: Global, pages: &mut P) -> Result<bool, Error> {
+    let mut batch = Batch::new(alloc);
+    table::fill(
+        pages,
+        &mut Scratch::new(alloc),
+        SCHEMA,
+        i64::MIN,
+        &mut batch,
+    )?;
+    Ok(batch.is_empty())
+}
+
 /// Returns whether the schema has a row after the first.
 fn has_more<P: Pages>(alloc: Global, pages: &mut P) -> Result<bool, Error> {
     let mut batch = Batch::new(alloc);
@@ -40,16 +58,42 @@ fn has_more<P: Pages>(alloc: Global, pages: &mut P) -> Result<bool, Error> {
 }
 
 /// Returns the page of the table of users in its row of the schema, or `None` if it is the row of something else.
-fn root_in(row: &Row) -> Option<u32> {
-    let is_users = is_text(row, 0, "table") && is_text(row, 1, "users") && is_text(row, 4, TABLE);
+fn root_in(row: &Row) -> Option<u32>
+    ensures found { IfSome result (IsRowOfUsers row.now) }
+    ensures none { IsNone result → (root : ℕ) → root < 2 ^ 32 → ¬ IsRowOfUsers row.now root }
+{
+    if is_users(row) { page_in(row) } else { None }
+}
+
+/// Returns whether a row of the schema is that of the table of users, at any page.
+fn is_users(row: &Row) -> bool
+    ensures { IsTrue result ↔ IsUsers row.now }
+{
+    is_text(row, 0, "table") && is_text(row, 1, "users") && is_text(row, 4, text())
+}
+
+/// Returns the page in a row of the schema, or `None` if it is no page number.
+fn page_in(row: &Row) -> Option<u32>
+    ensures { result ≡ count_in (column row.now 3) }
+{
     match row.get(3) {
-        ValueRef::Int(page) if is_users => u32::try_from(page).ok(),
+        ValueRef::Int(page) => u32::try_from(page).ok(),
         _ => None,
     }
 }
 
+/// Returns the text of the table. A function of its own, so that no other proof takes the text apart.
+#[tactic(auto, unfolding(crate::specs::Users::table_text))]
+fn text() -> &'static str
+    ensures { result.now ≡ table_text }
+{
+    TABLE
+}
+
 /// Returns whether a column has this text.
-fn is_text(row: &Row, at: usize, text: &str) -> bool {
+fn is_text(row: &Row, at: usize, text: &str) -> bool
+    ensures { IsTrue result ↔ column row.now at ≡ Text text.now }
+{
     match row.get(at) {
         ValueRef::Text(bytes) => bytes == text.as_bytes(),
         _ => false,
@@ -65,12 +109,14 @@ pub fn make<P: Pages>(alloc: Global, pages: &mut P) -> Result<(), DatabaseError>
 }
 
 /// Returns the row of the schema for the table of users.
-fn row_for(alloc: Global, root: u32) -> Result<Row, AllocError> {
+fn row_for(alloc: Global, root: u32) -> Result<Row, AllocError>
+    ensures { IfOk result (λ row. row ≡ table_row root) }
+{
     let mut row = Row::new(alloc);
     row.push(ValueRef::Text(b"table"))?;
     row.push(ValueRef::Text(b"users"))?;
     row.push(ValueRef::Text(b"users"))?;
     row.push(ValueRef::Int(i64::from(root)))?;
-    row.push(ValueRef::Text(TABLE.as_bytes()))?;
+    row.push(ValueRef::Text(text().as_bytes()))?;
     Ok(row)
 }

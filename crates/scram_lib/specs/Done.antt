@@ -1,5 +1,5 @@
 -- What a command of the program `scram` has done if it ends with status 0.
-use Rattle.std.specs.Prelude.{ℕ, List, [], ◌∷◌, Bool, true, false, Option, Some, Result, Ok, ◌≡◌, ◌≤◌, box_value, map, option_map, string_bytes}
+use Rattle.std.specs.Prelude.{ℕ, List, [], ◌∷◌, ◌||◌, Bool, true, false, Option, Some, Result, Ok, ◌≡◌, ◌≤◌, box_value, is_some, map, option_map, string_bytes}
 use Rattle.std.specs.List.{Contains}
 use Rattle.fe2o3_scram.specs.declared.hmac.ScramVersion.{ScramVersion}
 use Rattle.fe2o3_scram.specs.declared.hmac.ScramVersion.TheVariants.{Sha1, Sha256, Sha512}
@@ -58,6 +58,7 @@ pub record AreRulesOf (service : Service) (rules : ServerRules) : Type 0 where
   pub channels : BindsOnly (option_map (λ word. word.now) service.channel) rules.channels
   pub accept_y : rules.accept_cbind_flag_y ≡ service.accept_y
   pub strict : rules.strict ≡ service.strict
+  pub misplaced : rules.reject_misplaced ≡ (service.reject_misplaced || is_some service.channel)
   pub accept_authzid : rules.accept_authzid ≡ service.accept_authzid
 
 -- a server that these arguments ask for, which has sent nothing: of the users of some lines, and with the rights of the

@@ -164,7 +164,7 @@ impl Login<'_> {
     }
 
     /// Stores the keys of the login if there is a key file.
-    pub(crate) fn keep<R: Files + Clock + AllocGlobal>(
+    pub(crate) fn keep<R: Files + Clock + RandomSource + AllocGlobal>(
         &self,
         rt: &R,
         keys: Option<&CachedKeys>,

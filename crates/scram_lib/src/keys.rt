@@ -8,6 +8,7 @@ use scram_base_lib::store;
 use scram_base_lib::store::{Change, Changed};
 use scram_base_lib::wire::bytes_of;
 use std::alloc::{AllocError, Global};
+use std::random::RandomSource;
 use std::rt::{Clock, Files};
 
 /// Reads the keys of a file, or returns `None` if there is no file.
@@ -60,16 +61,26 @@ impl Change for Kept {
         true
     }
 
-    fn apply(&self, _alloc: Global, _text: &str) -> Result<Changed, Stop> {
+    fn makes_record(&self, _text: &str, _version: ScramVersion) -> bool {
+        false
+    }
+
+    fn apply<R: RandomSource + AllocGlobal>(
+        &self,
+        rt: &R,
+        _text: &str,
+        _firsts: &str,
+    ) -> Result<Changed, Stop> {
         Ok(Changed {
             text: self.line.clone()?,
             done: "kept",
+            notes: String::new(rt.alloc()),
         })
     }
 }
 
 /// Stores the keys of a login.
-pub fn keep<R: Files + Clock + AllocGlobal>(
+pub fn keep<R: Files + Clock + RandomSource + AllocGlobal>(
     rt: &R,
     file: &str,
     keys: &CachedKeys,

@@ -9,6 +9,7 @@ ghost use Rattle.scram_lib.specs.Done.{IsDoneCommand};
 
 pub mod client;
 pub mod done;
+pub mod form;
 pub mod frames;
 pub mod keys;
 pub mod man;

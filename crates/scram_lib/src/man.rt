@@ -31,10 +31,14 @@ fn print_word<O: Write>(output: &mut O, word: &Word) -> Result<()> {
     let default = match word.kind {
         Kind::DefaultMechanism => "; default SCRAM-SHA-256",
         Kind::Iterations => "; default 4096",
+        Kind::SaltLen => "; default 16",
         _ => "",
     };
     match word.kind {
-        Kind::Place | Kind::MechanismPlace => write!(output, ".TP\n.I {name}\n{help}.\n"),
+        Kind::Place | Kind::OptionalPlace | Kind::MechanismPlace => write!(
+            output,
+            ".TP\n.I {name}\n{help}.\n"
+        ),
         Kind::Flag | Kind::FlagWithout(_) | Kind::FlagOf(_) => {
             print_option(output, ".B", name)?;
             write!(output, "\n{help}.\n")

@@ -10,6 +10,9 @@ pub enum Kind {
     /// A required positional argument.
     Place,
 
+    /// A positional argument that can be left out.
+    OptionalPlace,
+
     /// An option with a text.
     Text,
 
@@ -24,6 +27,12 @@ pub enum Kind {
 
     /// An option with an iteration count, by default 4096.
     Iterations,
+
+    /// An option with the length of a salt, by default 16.
+    SaltLen,
+
+    /// An option with the length of a salt.
+    SaltLenOf,
 
     /// An option with an iteration count.
     Count,
@@ -104,14 +113,16 @@ const DB: Word = Word {
     kind: Kind::Flag,
     name: "db",
     value: "",
-    help: "FILE is a SQLite database of users; a change waits up to 5 seconds for another program, or as --wait says",
+    help: "FILE is a SQLite database of users; a change waits up to 5 seconds for another program, or as --wait says; \
+        commands and logins fail while sqlite3 has it open",
 };
 
 const SERVER_DB: Word = Word {
     kind: Kind::Flag,
     name: "db",
     value: "",
-    help: "FILE is a SQLite database of users, of which only the client's record is read",
+    help: "FILE is a SQLite database of users, of which only the client's record and a first one are read; logins fail \
+        while sqlite3 has it open",
 };
 
 const NAME: Word = Word {
@@ -121,6 +132,13 @@ const NAME: Word = Word {
     help: "The user name",
 };
 
+const CHECKED_NAME: Word = Word {
+    kind: Kind::OptionalPlace,
+    name: "NAME",
+    value: "NAME",
+    help: "The user name; default the whole file, without a password",
+};
+
 const MECHANISM: Word = Word {
     kind: Kind::Mechanism,
     name: "mechanism",
@@ -128,18 +146,25 @@ const MECHANISM: Word = Word {
     help: "The mechanism of the record; default all",
 };
 
+const ADDED_MECHANISM: Word = Word {
+    kind: Kind::Mechanism,
+    name: "mechanism",
+    value: "M",
+    help: "The mechanism of the record; default a record for SCRAM-SHA-256 and one for SCRAM-SHA-512",
+};
+
 const CHANGED_MECHANISM: Word = Word {
     kind: Kind::Mechanism,
     name: "mechanism",
     value: "M",
-    help: "The mechanism of the record; default SCRAM-SHA-256",
+    help: "The mechanism of the record; default all, with those that add makes",
 };
 
 const ALL: Word = Word {
     kind: Kind::FlagWithout("mechanism"),
     name: "all",
     value: "",
-    help: "Changes every record of the user",
+    help: "Changes every record of the user, as without --mechanism",
 };
 
 const ECHO: Word = Word {
@@ -177,11 +202,41 @@ const ITERATIONS: Word = Word {
     help: "The iteration count",
 };
 
+const TAKEN_ITERATIONS: Word = Word {
+    kind: Kind::Count,
+    name: "iterations",
+    value: "N",
+    help: "The iteration count; default that of the file's first record for the mechanism, 4096 in a new \
+        file; warns of another",
+};
+
+const SALT_LENGTH: Word = Word {
+    kind: Kind::SaltLen,
+    name: "salt-length",
+    value: "N",
+    help: "The length of the salt in bytes",
+};
+
+const TAKEN_SALT_LENGTH: Word = Word {
+    kind: Kind::SaltLenOf,
+    name: "salt-length",
+    value: "N",
+    help: "The length of the salt in bytes; default that of the file's first record for the mechanism, 16 in \
+        a new file; warns of another",
+};
+
 const SALT: Word = Word {
     kind: Kind::Text,
     name: "salt",
     value: "HEX",
-    help: "The salt, for tests; default 32 random bytes",
+    help: "The salt, for tests; default random bytes",
+};
+
+const HASHES: Word = Word {
+    kind: Kind::Flag,
+    name: "hashes",
+    value: "",
+    help: "Prints the mechanisms for which each user has a record, which a server can offer, and nothing else",
 };
 
 const M: Word = Word {
@@ -277,6 +332,14 @@ const FRAMES: Word = Word {
     help: "Uses the bytes of an AMQP connection in place of lines",
 };
 
+const REJECT_MISPLACED: Word = Word {
+    kind: Kind::Flag,
+    name: "reject-misplaced",
+    value: "",
+    help: "Rejects text in the place of an extension that is none, as with --channel; use it beside a server that offers \
+        a mechanism with -PLUS",
+};
+
 const ACCEPT_AUTHZID: Word = Word {
     kind: Kind::Flag,
     name: "accept-authzid",
@@ -302,7 +365,7 @@ const TELL_UNKNOWN_USERS: Word = Word {
     kind: Kind::Flag,
     name: "tell-unknown-users",
     value: "",
-    help: "Answers an unknown user with an error; default with a mock record, made with the secret in FILE.secret",
+    help: "Answers an unknown user with an error; default with a mock record in the form of the first, made with FILE.secret",
 };
 
 const BODIES: Word = Word {
@@ -332,7 +395,7 @@ pub static COMMANDS: [Words; 5] = [
     Words {
         name: "record",
         about: "Prints the record of a password (RFC 5803)",
-        words: &[NEW_MECHANISM, ITERATIONS, SALT, ECHO],
+        words: &[NEW_MECHANISM, ITERATIONS, SALT_LENGTH, SALT, ECHO],
     },
     Words {
         name: "client",
@@ -363,6 +426,7 @@ pub static COMMANDS: [Words; 5] = [
             TELL_UNKNOWN_USERS,
             CHANNEL_ACCEPTED,
             ACCEPT_Y,
+            REJECT_MISPLACED,
             ACCEPT_AUTHZID,
             MAY_ACT,
             STRICT,
@@ -386,13 +450,33 @@ pub static COMMANDS: [Words; 5] = [
 pub static USERS_COMMANDS: [Words; 5] = [
     Words {
         name: "add",
-        about: "Adds a record of a user, or replaces the one for the same mechanism",
-        words: &[FILE, NAME, DB, NEW_MECHANISM, ITERATIONS, SALT, ECHO, WAIT],
+        about: "Adds the records of a user, or replaces those for the same mechanisms",
+        words: &[
+            FILE,
+            NAME,
+            DB,
+            ADDED_MECHANISM,
+            TAKEN_ITERATIONS,
+            TAKEN_SALT_LENGTH,
+            SALT,
+            ECHO,
+            WAIT,
+        ],
     },
     Words {
         name: "passwd",
-        about: "Changes the password in a user's record for one mechanism, or in all",
-        words: &[FILE, NAME, DB, CHANGED_MECHANISM, ALL, ECHO, WAIT],
+        about: "Changes the password in all records of a user, and adds those that add makes",
+        words: &[
+            FILE,
+            NAME,
+            DB,
+            CHANGED_MECHANISM,
+            ALL,
+            TAKEN_ITERATIONS,
+            TAKEN_SALT_LENGTH,
+            ECHO,
+            WAIT,
+        ],
     },
     Words {
         name: "remove",
@@ -402,12 +486,12 @@ pub static USERS_COMMANDS: [Words; 5] = [
     Words {
         name: "list",
         about: "Prints the mechanism, the iteration count and the name of each record, quoted for a shell",
-        words: &[FILE, DB],
+        words: &[FILE, DB, HASHES],
     },
     Words {
         name: "check",
-        about: "Checks a password against the records of a user",
-        words: &[FILE, NAME, DB, MECHANISM, ECHO],
+        about: "Checks a user's password; without a name, lists records with another form and users who lack a record",
+        words: &[FILE, CHECKED_NAME, DB, MECHANISM, ECHO],
     },
 ];
 
@@ -417,6 +501,7 @@ impl Word {
         let arg = self.plain(alloc);
         Ok(match self.kind {
             Kind::Place => arg.required(true),
+            Kind::OptionalPlace => arg,
             Kind::MechanismPlace => mechanism(arg.required(true)),
             Kind::Flag => self.flag(arg),
             Kind::FlagWithout(other) => return self.flag(arg).conflicts_with(other),
@@ -426,6 +511,8 @@ impl Word {
             Kind::Mechanism => mechanism(self.option(arg)),
             Kind::DefaultMechanism => mechanism(self.option(arg)).default_value("SCRAM-SHA-256"),
             Kind::Iterations => count(self.option(arg)).default_value("4096"),
+            Kind::SaltLen => salt_len(self.option(arg)).default_value("16"),
+            Kind::SaltLenOf => salt_len(self.option(arg)),
             Kind::Count => count(self.option(arg)),
             Kind::Seconds => seconds(self.option(arg)),
             Kind::CountOf(other) => return count(self.option(arg)).requires_arg(other),
@@ -458,6 +545,11 @@ fn mechanism<'a>(arg: Arg<'a>) -> Arg<'a> {
 /// Returns a word whose value is an iteration count.
 fn count<'a>(arg: Arg<'a>) -> Arg<'a> {
     arg.value_parser(ValueParser::unsigned(1, 4294967295))
+}
+
+/// Returns a word whose value is the length of a salt. A mock record can have no longer one.
+fn salt_len<'a>(arg: Arg<'a>) -> Arg<'a> {
+    arg.value_parser(ValueParser::unsigned(1, 64))
 }
 
 /// Returns a word whose value is a number of seconds, up to a day.
@@ -505,7 +597,7 @@ pub fn manual<'a>(alloc: Global) -> Result<Command<'a>, AllocError> {
     let mut commands = commands(alloc, &COMMANDS)?;
     commands.push(users(alloc)?)?;
     above(alloc, "scram", ABOUT)
-        .version("0.3.0")
+        .version("0.4.0-dev")
         .after_help(NOTES)
         .subcommands(commands)
 }

@@ -13,8 +13,9 @@ mod names;
 pub mod source;
 
 use crate::done::Done;
+use crate::form::Form;
 use crate::server::login_line::login_line;
-use crate::server::mock::Shape;
+use crate::server::mock::hide;
 use crate::server::source::Source;
 use crate::{frames, nonces};
 use fe2o3_sasl_negotiation::{AuthenticatedUser, claimed_user};
@@ -57,6 +58,9 @@ pub struct Service<'a, 'm> {
     /// Whether the GS2 header `y,,` is accepted too. It has no effect beside `channel`.
     pub accept_y: bool,
 
+    /// Whether the server rejects what is no extension in the place of one. A server with a channel does so in any case.
+    pub reject_misplaced: bool,
+
     /// Whether a client may name an identity to act for.
     pub accept_authzid: bool,
 
@@ -93,6 +97,9 @@ where
     let rules = service.rules(rt.alloc())?;
     let source = Source::open(rt, db, service)?;
     let secret = service.secret(rt)?;
+    if secret.is_some() {
+        source.tell_forms(service, errors);
+    }
     if service.frames {
         return frames::serve(rt, service, rules, secret, &source, input, output, errors);
     }
@@ -129,8 +136,14 @@ impl Service<'_, '_> {
             list_all (λ word. names_both word.now) words.now ≡ true)) }
     {
         self.test_rights()?;
-        let (accept_y, accept_authzid) = (self.accept_y, self.accept_authzid);
-        server_rules(alloc, self.channel, accept_y, self.strict, accept_authzid)
+        server_rules(
+            alloc,
+            self.channel,
+            self.accept_y,
+            self.strict,
+            self.reject_misplaced,
+            self.accept_authzid,
+        )
     }
 
     /// Returns the secret of mock records, or `None` if mock authentication is off.
@@ -161,17 +174,18 @@ pub(crate) fn server_for<R: AllocGlobal, D: Database<R>>(
         Source::Database(_) => own.as_str(),
     };
     let rights = service.rights(rt.alloc(), claimed)?;
-    server(rt.alloc(), service, rules, rights, secret, text, &own)
+    let form = source.form(rt, service)?;
+    server(rt.alloc(), service, rules, rights, secret, form, text, &own)
 }
 
-/// Returns the server of the users in these lines, with these rules and these rights. Mock records have the shape of those
-/// in the text.
+/// Returns the server of the users in these lines of a text, with these rules and these rights. Mock records have this form.
 fn server(
     alloc: Global,
     service: &Service<'_, '_>,
     rules: ServerRules,
     rights: ActingRights,
     secret: Option<Vec<u8>>,
+    form: Form,
     text: &str,
     lines: &str,
 ) -> Result<ScramAuthenticator<RecordStore>, Stop>
@@ -181,26 +195,23 @@ fn server(
         → IfOk result (λ server. IsServerAsked service.now server) }
 {
     let users = users_of(alloc, service, text, lines)?;
-    let server = with_mock(alloc, service, ScramAuthenticator::new(users), secret, text)?;
+    let server = with_mock(ScramAuthenticator::new(users), secret, form);
     let rights = Arc::new(alloc, rights)?;
     Ok(server.with_rules(rules).with_acting_rights(rights))
 }
 
-/// Returns this server, with mock authentication if there is a secret.
+/// Returns this server, with mock authentication if there is a secret. Mock records have this form.
 fn with_mock(
-    alloc: Global,
-    service: &Service<'_, '_>,
     server: ScramAuthenticator<RecordStore>,
     secret: Option<Vec<u8>>,
-    text: &str,
-) -> Result<ScramAuthenticator<RecordStore>, Stop>
-    ensures { IfOk result (λ hiding. (provider_in hiding ≡ provider_in server) × (state_in hiding ≡ state_in server)) }
+    form: Form,
+) -> ScramAuthenticator<RecordStore>
+    ensures { (provider_in result ≡ provider_in server) × (state_in result ≡ state_in server) }
 {
-    let Some(secret) = secret else {
-        return Ok(server);
-    };
-    let shape = Shape::of(alloc, text, service.version)?;
-    Ok(shape.hide(server, secret))
+    match secret {
+        Some(secret) => hide(server, secret, form),
+        None => server,
+    }
 }
 
 /// Parses the users in these lines of a text that have records for the mechanism. The error at a malformed line is that of

@@ -6,12 +6,13 @@ ghost use Rattle.scram_lib.specs.Done.{IsDone};
 
 use crate::client::{Login, log_in};
 use crate::done::Done;
-use crate::record::{ITERATIONS, NewRecord};
+use crate::record::NewRecord;
 use crate::server::{Service, serve};
+use crate::users::alike::{check_file, list_hashes};
 use crate::users::{Listed, Named, add, change_password, check, list, remove};
 use crate::{man, record};
 use clap::ArgMatches;
-use fe2o3_scram::ScramVersion;
+use fe2o3_scram::{DEFAULT_SCRAM_ITERATIONS, ScramVersion};
 use scram_base_lib::audited::Audited;
 use scram_base_lib::database::Database;
 use scram_base_lib::explain::explain;
@@ -48,13 +49,13 @@ pub enum Command<'a, 'm> {
 #[derive(Clone, Copy)]
 pub enum Task<'a, 'm> {
     /// Prints a record.
-    Record(NewRecord<'a>),
+    Record(ScramVersion, NewRecord<'a>),
 
-    /// Adds a user's record to a file.
+    /// Adds a user's records to a file.
     Add(Named<'a>, NewRecord<'a>),
 
     /// Changes a user's password in a file.
-    ChangePassword(Named<'a>),
+    ChangePassword(Named<'a>, NewRecord<'a>),
 
     /// Removes a user's records from a file.
     Remove(Named<'a>),
@@ -62,8 +63,14 @@ pub enum Task<'a, 'm> {
     /// Lists the records of a file.
     List(Listed<'a>),
 
+    /// Lists the mechanisms for which all users of a file have records.
+    ListHashes(Listed<'a>),
+
     /// Checks a password.
     Check(Named<'a>),
+
+    /// Checks whether the records of a file look alike.
+    CheckFile(Listed<'a>),
 
     /// Logs in.
     Client(Login<'a>),
@@ -118,18 +125,26 @@ impl<'a, 'm> Task<'a, 'm> {
             Some(("users", found)) => Task::of_users(found),
             Some(("client", found)) => Task::Client(login(found)),
             Some(("man", _)) => Task::Man,
-            Some((_, found)) => Task::Record(new_record(found)),
-            None => Task::Record(new_record(matches)),
+            Some((_, found)) => Task::of_record(found),
+            None => Task::of_record(matches),
         }
+    }
+
+    /// Returns the task of the parsed arguments of `record`.
+    fn of_record(matches: &ArgMatches<'a>) -> Task<'a, 'm> {
+        let version = version_of(matches, "mechanism").unwrap_or(ScramVersion::Sha256);
+        Task::Record(version, new_record(matches))
     }
 
     /// Returns the task of the parsed arguments of `users`.
     fn of_users(matches: &ArgMatches<'a>) -> Task<'a, 'm> {
         match matches.subcommand() {
             Some(("add", found)) => Task::Add(named(found), new_record(found)),
-            Some(("passwd", found)) => Task::ChangePassword(password_of(found)),
+            Some(("passwd", found)) => Task::ChangePassword(password_of(found), new_record(found)),
             Some(("remove", found)) => Task::Remove(named(found)),
-            Some(("check", found)) => Task::Check(named(found)),
+            Some(("check", found)) if found.contains_id("NAME") => Task::Check(named(found)),
+            Some(("check", found)) => Task::CheckFile(listed(found)),
+            Some((_, found)) if found.get_flag("hashes") => Task::ListHashes(listed(found)),
             Some((_, found)) => Task::List(listed(found)),
             None => Task::List(listed(matches)),
         }
@@ -139,13 +154,13 @@ impl<'a, 'm> Task<'a, 'm> {
     fn file(&self) -> &'a str {
         match self {
             Task::Add(named, _)
-            | Task::ChangePassword(named)
+            | Task::ChangePassword(named, _)
             | Task::Remove(named)
             | Task::Check(named) => named.file,
-            Task::List(listed) => listed.file,
+            Task::List(listed) | Task::ListHashes(listed) | Task::CheckFile(listed) => listed.file,
             Task::Client(login) => login.keys.unwrap_or(""),
             Task::Server(service) => service.file,
-            Task::Record(_) | Task::Explain(_) | Task::Man => "",
+            Task::Record(_, _) | Task::Explain(_) | Task::Man => "",
         }
     }
 
@@ -197,9 +212,9 @@ impl<'a, 'm> Task<'a, 'm> {
     {
         let (alloc, db) = (rt.alloc(), streams.db);
         match self {
-            Task::Record(record) => {
+            Task::Record(version, record) => {
                 let password = input::password(alloc, streams.input)?;
-                record::print(rt, record, password.as_str(), streams.output)
+                record::print(rt, *version, record, password.as_str(), streams.output)
             }
             Task::Add(named, record) => {
                 let password = input::password(alloc, streams.input)?;
@@ -213,12 +228,22 @@ impl<'a, 'm> Task<'a, 'm> {
                     errors,
                 )
             }
-            Task::ChangePassword(named) => {
+            Task::ChangePassword(named, record) => {
                 let password = input::password(alloc, streams.input)?;
-                change_password(rt, db, named, password, streams.output, errors)
+                change_password(
+                    rt,
+                    db,
+                    named,
+                    record,
+                    password.as_str(),
+                    streams.output,
+                    errors,
+                )
             }
             Task::Remove(named) => remove(rt, db, named, streams.output),
             Task::List(listed) => list(rt, db, listed, streams.output),
+            Task::ListHashes(listed) => list_hashes(rt, db, listed, streams.output),
+            Task::CheckFile(listed) => check_file(rt, db, listed, streams.output),
             Task::Explain(frames) => explain(alloc, *frames, streams.input, streams.output),
             Task::Man => man::print(streams.output).map_err(Stop::of_output),
             Task::Client(_) | Task::Server(_) | Task::Check(_) => Ok(()),
@@ -241,7 +266,9 @@ fn login<'a>(matches: &ArgMatches<'a>) -> Login<'a>
         version: version_of(matches, "M").unwrap_or(ScramVersion::Sha256),
         user: text(matches, "USER"),
         acts_for: matches.get_str("acts-for"),
-        min_iterations: matches.get_one::<u32>("min-iterations").unwrap_or(4096),
+        min_iterations: matches
+            .get_one::<u32>("min-iterations")
+            .unwrap_or(DEFAULT_SCRAM_ITERATIONS),
         max_iterations: max_iterations(matches),
         keys: matches.get_str("keys"),
         channel: matches.get_str("channel"),
@@ -269,6 +296,8 @@ fn service<'a, 'm>(matches: &'m ArgMatches<'a>) -> Service<'a, 'm>
         → result.accept_y ≡ false }
     ensures rights { option_map (λ words. map (λ word. word.now) words.now) result.may_act
         ≡ option_map raw_values (matched_of (found_of matches.now) (codes "may-act")) }
+    ensures misplaced { (one_text (found_of matches.now) (codes "reject-misplaced") ≡ Some (codes "true"))
+        → result.reject_misplaced ≡ true }
     ensures no_authzid { (one_text (found_of matches.now) (codes "accept-authzid") ≡ Some (codes "false"))
         → is_some (matched_of (found_of matches.now) (codes "may-act")) ≡ false → result.accept_authzid ≡ false }
     ensures authzid { is_some (matched_of (found_of matches.now) (codes "may-act")) ≡ true
@@ -284,6 +313,7 @@ fn service<'a, 'm>(matches: &'m ArgMatches<'a>) -> Service<'a, 'm>
         tells_unknown_users: matches.get_flag("tell-unknown-users"),
         channel: matches.get_str("channel"),
         accept_y: matches.get_flag("accept-y"),
+        reject_misplaced: matches.get_flag("reject-misplaced"),
         accept_authzid: matches.get_flag("accept-authzid") || matches.contains_id("may-act"),
         may_act: matches.get_strs("may-act"),
         strict: matches.get_flag("strict"),
@@ -295,8 +325,10 @@ fn service<'a, 'm>(matches: &'m ArgMatches<'a>) -> Service<'a, 'm>
 /// Returns the arguments of a new record.
 fn new_record<'a>(matches: &ArgMatches<'a>) -> NewRecord<'a> {
     NewRecord {
-        version: version_of(matches, "mechanism").unwrap_or(ScramVersion::Sha256),
-        iterations: matches.get_one::<u32>("iterations").unwrap_or(ITERATIONS),
+        salt_len: matches
+            .get_one::<u32>("salt-length")
+            .map(|len| len as usize),
+        iterations: matches.get_one::<u32>("iterations"),
         salt: matches.get_str("salt"),
     }
 }
@@ -310,7 +342,9 @@ fn listed<'a>(matches: &ArgMatches<'a>) -> Listed<'a> {
 }
 
 /// Returns the file, the user name and the mechanism, if any.
-fn named<'a>(matches: &ArgMatches<'a>) -> Named<'a> {
+fn named<'a>(matches: &ArgMatches<'a>) -> Named<'a>
+    ensures { first_value (found_of matches.now) (codes "mechanism") ≡ None → result.version ≡ None }
+{
     Named {
         file: text(matches, "FILE"),
         is_db: matches.get_flag("db"),
@@ -320,16 +354,15 @@ fn named<'a>(matches: &ArgMatches<'a>) -> Named<'a> {
     }
 }
 
-/// Returns the file, the user name and the mechanism of a new password, or no mechanism with `--all`.
+/// Returns the file, the user name and the mechanism of a new password, if any. With `--all` there is none.
 fn password_of<'a>(matches: &ArgMatches<'a>) -> Named<'a>
     ensures all { (one_text (found_of matches.now) (codes "all") ≡ Some (codes "true"))
         → result.version ≡ None }
+    ensures every { first_value (found_of matches.now) (codes "mechanism") ≡ None → result.version ≡ None }
 {
     let mut named = named(matches);
     if matches.get_flag("all") {
         named.version = None;
-    } else if named.version.is_none() {
-        named.version = Some(ScramVersion::Sha256);
     }
     named
 }
@@ -349,13 +382,16 @@ pub fn echo_of(matches: &ArgMatches<'_>) -> Option<bool> {
 /// Returns whether `--echo` is given to a command of `users`, or `None` if the command reads no password.
 fn echo_of_users(matches: &ArgMatches<'_>) -> Option<bool> {
     match matches.subcommand() {
+        Some(("check", found)) if !found.contains_id("NAME") => None,
         Some(("add" | "passwd" | "check", found)) => Some(found.get_flag("echo")),
         _ => None,
     }
 }
 
 /// Returns the version of a mechanism argument, if any.
-fn version_of(matches: &ArgMatches<'_>, id: &str) -> Option<ScramVersion> {
+fn version_of(matches: &ArgMatches<'_>, id: &str) -> Option<ScramVersion>
+    ensures { first_value (found_of matches.now) id.now ≡ None → result ≡ None }
+{
     ScramVersion::from_mechanism(matches.get_str(id)?)
 }
 

@@ -7,12 +7,13 @@ ghost use Rattle.fe2o3_scram.specs.declared.hmac.ScramVersion.TheVariants.{Sha1,
 ghost use Rattle.scram_lib.specs.Done.{HasChecked, HasItsPassword};
 ghost use Rattle.scram_lib.specs.private.Passwords.{IsAsked, Tells, TellsEach};
 
+pub mod alike;
 pub mod changes;
 pub mod source;
 
 use crate::done::Done;
 use crate::record::NewRecord;
-use crate::users::changes::{NewPassword, Put, Salts, Taken};
+use crate::users::changes::{Put, Taken};
 use fe2o3_scram::secrets::SecretText;
 use fe2o3_scram::{Meter, MultiRecordStore, Password, ScramCredentialProvider, ScramVersion};
 use scram_base_lib::database::Database;
@@ -37,7 +38,7 @@ pub struct Named<'a> {
     /// The user name, not escaped.
     pub name: &'a str,
 
-    /// The mechanism, or `None` for all.
+    /// The mechanism, or `None` for those of the command: of `add` the two that servers offer by default, otherwise all.
     pub version: Option<ScramVersion>,
 
     /// How long a change waits for another one, in seconds.
@@ -61,7 +62,7 @@ static VERSIONS: [ScramVersion; 3] = [
     ScramVersion::Sha512,
 ];
 
-/// Adds a user's record at the end of the file, or replaces the first one for the mechanism.
+/// Adds a user's records at the end of the file, or replaces those for the same mechanisms.
 pub fn add<R, O, E, D>(
     rt: &R,
     db: &D,
@@ -77,22 +78,23 @@ where
     E: Write,
     D: Database<R>,
 {
-    let line = lines::line_of(rt.alloc(), named.name, record.of(rt, password)?)?;
-    let put = Put {
-        line,
-        version: record.version,
-    };
-    let changed = source::make_change(rt, db, named, &put)?;
-    report(changed.done, output)?;
-    tell_others(rt.alloc(), &changed.text, named.name, password, errors)
+    put(
+        rt,
+        db,
+        named,
+        &Put::of(named, false, password, record),
+        output,
+        errors,
+    )
 }
 
-/// Changes the password in a user's records. They keep their iteration counts, and get new salts.
+/// Changes the password in a user's records, and adds those that `add` makes where they are missing.
 pub fn change_password<R, O, E, D>(
     rt: &R,
     db: &D,
     named: &Named<'_>,
-    password: SecretText,
+    record: &NewRecord<'_>,
+    password: &str,
     output: &mut O,
     errors: &mut E,
 ) -> Result<(), Stop>
@@ -102,27 +104,40 @@ where
     E: Write,
     D: Database<R>,
 {
-    let name = lines::escaped(rt.alloc(), named.name)?;
-    let salts = Salts::random(rt)?;
-    let new = NewPassword {
-        name,
-        version: named.version,
-        password,
-        salts,
-    };
-    let changed = source::make_change(rt, db, named, &new)?;
-    report(changed.done, output)?;
-    tell_others(
-        rt.alloc(),
-        &changed.text,
-        named.name,
-        new.password.as_str(),
+    put(
+        rt,
+        db,
+        named,
+        &Put::of(named, true, password, record),
+        output,
         errors,
     )
 }
 
+/// Makes new records of a user, and prints what the change did. The errors get what to look at.
+fn put<R, O, E, D>(
+    rt: &R,
+    db: &D,
+    named: &Named<'_>,
+    put: &Put<'_>,
+    output: &mut O,
+    errors: &mut E,
+) -> Result<(), Stop>
+where
+    R: Files + Clock + RandomSource + AllocGlobal,
+    O: Write,
+    E: Write,
+    D: Database<R>,
+{
+    let changed = source::make_change(rt, db, named, put)?;
+    report(changed.done, output)?;
+    // The file is changed, whether or not that can be written.
+    let _ = errors.write_all(changed.notes.as_bytes());
+    tell_others(rt.alloc(), &changed.text, named.name, put.password, errors)
+}
+
 /// Removes a user's records.
-pub fn remove<R: Files + Clock + AllocGlobal, O: Write, D: Database<R>>(
+pub fn remove<R: Files + Clock + RandomSource + AllocGlobal, O: Write, D: Database<R>>(
     rt: &R,
     db: &D,
     named: &Named<'_>,
@@ -158,7 +173,7 @@ fn tell_others<E: Write>(
             // The file is changed, whether or not that can be written.
             let _ = writeln!(
                 errors,
-                "scram: the record for {mechanism} keeps another password; passwd --all changes it"
+                "scram: the record for {mechanism} keeps another password; passwd changes it"
             );
         }
     }

@@ -39,6 +39,7 @@ pub fn rules_for(any_header: bool, bound: bool, named: bool) -> ServerRules
     ServerRules {
         accept_cbind_flag_y: any_header,
         strict: false,
+        reject_misplaced: false,
         channels: if any_header && bound {
             Some(every_kind)
         } else {

@@ -1,9 +1,11 @@
 //! Where the records of a server are, of which it holds only those of the user that a client claims.
 
+use crate::form::{Form, has_several};
 use crate::server::Service;
 use scram_base_lib::database::Database;
 use scram_base_lib::stop::Stop;
 use scram_base_lib::{lines, store};
+use std::io::Write;
 use std::rt::Files;
 
 /// Where the records of a server are.
@@ -49,6 +51,43 @@ impl<'a, D> Source<'a, D> {
         };
         let own = self.lines_of(rt, service, &name)?;
         lines::renamed(alloc, &own, &name, sent)
+    }
+
+    /// Returns the form of the first record for the mechanism, or, if there is none, that of a new file.
+    pub(crate) fn form<R: AllocGlobal>(
+        &self,
+        rt: &R,
+        service: &Service<'_, '_>,
+    ) -> Result<Form, Stop>
+    where
+        D: Database<R>,
+    {
+        let version = service.version;
+        match self {
+            Source::Text(text) => Form::in_text(rt.alloc(), text, version),
+            Source::Database(db) => {
+                let line = db.first_line(rt, service.file, version)?;
+                Form::in_text(rt.alloc(), &line, version)
+            }
+        }
+    }
+
+    /// Prints a line on the errors if a file of lines has records of several forms for the mechanism. A database is not read
+    /// for that.
+    pub(crate) fn tell_forms<E: Write>(&self, service: &Service<'_, '_>, errors: &mut E) {
+        let (version, file) = (service.version, service.file);
+        let Source::Text(text) = self else {
+            return;
+        };
+        if has_several(text, version) {
+            let mechanism = version.mechanism();
+            // The server goes on, whether or not that can be written.
+            let _ = writeln!(
+                errors,
+                "scram: {file}: the records for {mechanism} have several forms, so clients can tell which users exist; \
+                 scram users check shows them"
+            );
+        }
     }
 
     /// Returns the lines of a user. The name is not escaped.

@@ -5,12 +5,13 @@ use scram_base_lib::database::{Database, WAIT};
 use scram_base_lib::stop::Stop;
 use scram_base_lib::store;
 use scram_base_lib::store::{Change, Changed};
+use std::random::RandomSource;
 use std::rt::{Clock, Files};
 
 /// Makes a change of a user's records.
 pub fn make_change<R, D, C>(rt: &R, db: &D, named: &Named<'_>, change: &C) -> Result<Changed, Stop>
 where
-    R: Files + Clock + AllocGlobal,
+    R: Files + Clock + RandomSource + AllocGlobal,
     D: Database<R>,
     C: Change,
 {

@@ -1,0 +1,138 @@
+//! Whether the records of a file look alike: `users check` without a name, and `users list --hashes`.
+
+use crate::form::Form;
+use crate::users::{Listed, VERSIONS, source};
+use fe2o3_scram::{MultiRecordStore, ScramVersion};
+use scram_base_lib::database::Database;
+use scram_base_lib::lines;
+use scram_base_lib::lines::UserLine;
+use scram_base_lib::shown::shown;
+use scram_base_lib::stop::Stop;
+use std::alloc::Global;
+use std::collections::BTreeSet;
+use std::io::Write;
+use std::rt::Files;
+
+/// Prints each record that has another form than the first for its mechanism, and each user without a record for a
+/// mechanism that others have. Returns an error if there is one.
+pub fn check_file<R: Files + AllocGlobal, O: Write, D: Database<R>>(
+    rt: &R,
+    db: &D,
+    listed: &Listed<'_>,
+    output: &mut O,
+) -> Result<(), Stop> {
+    let alloc = rt.alloc();
+    let text = source::lines(rt, db, listed)?;
+    let users = MultiRecordStore::parse_lines(alloc, &text)?;
+    let mut names = BTreeSet::new(alloc);
+    let mut is_alike = true;
+    for line in text.lines() {
+        let line = UserLine::of(line);
+        is_alike &= check_form(alloc, &users, &line, output)?;
+        let is_new = names.insert(line.name).map_err(|_| Stop::OutOfMemory)?;
+        if is_new {
+            is_alike &= check_hashes(alloc, &users, line.name, output)?;
+        }
+    }
+    if is_alike {
+        Ok(())
+    } else {
+        Err(Stop::NotAlike)
+    }
+}
+
+/// Returns whether a line has the form of the first record for its mechanism, and prints it otherwise.
+fn check_form<O: Write>(
+    alloc: Global,
+    users: &MultiRecordStore,
+    line: &UserLine<'_>,
+    output: &mut O,
+) -> Result<bool, Stop> {
+    let Some(version) = ScramVersion::from_mechanism(line.mechanism) else {
+        return Ok(true);
+    };
+    let (form, first) = (
+        Form::of_line(line),
+        Form::of_first(users.for_version(version)),
+    );
+    if form == first {
+        return Ok(true);
+    }
+    let said = format!(in alloc;
+        "a salt of {} bytes and {} iterations, the first record has {} and {}",
+        form.salt_len, form.iterations, first.salt_len, first.iterations
+    )?;
+    print(alloc, version, line.name, &said, output)?;
+    Ok(false)
+}
+
+/// Returns whether a user has a record for each mechanism that others have, and prints it otherwise. The name is escaped.
+fn check_hashes<O: Write>(
+    alloc: Global,
+    users: &MultiRecordStore,
+    name: &str,
+    output: &mut O,
+) -> Result<bool, Stop> {
+    let plain = lines::unescaped(alloc, name)?;
+    let mut has_all = true;
+    for version in &VERSIONS {
+        let own = users.for_version(*version);
+        if own.first_stored_password().is_some() && own.record(&plain).is_none() {
+            print(alloc, *version, name, "no record", output)?;
+            has_all = false;
+        }
+    }
+    Ok(has_all)
+}
+
+/// Prints what is said of a user for a mechanism. The name is escaped.
+fn print<O: Write>(
+    alloc: Global,
+    version: ScramVersion,
+    name: &str,
+    said: &str,
+    output: &mut O,
+) -> Result<(), Stop> {
+    let name = lines::unescaped(alloc, name)?;
+    let mut line = format!(in alloc; "{} ", version.mechanism())?.into_bytes();
+    line.extend_from_slice(&shown(alloc, name.as_bytes())?)?;
+    line.extend_from_slice(b": ")?;
+    line.extend_from_slice(said.as_bytes())?;
+    line.push(b'\n')?;
+    output.write_all(&line).map_err(Stop::of_output)
+}
+
+/// Prints the mechanisms for which each user of a file has a record. Of a file without users, none is printed.
+pub fn list_hashes<R: Files + AllocGlobal, O: Write, D: Database<R>>(
+    rt: &R,
+    db: &D,
+    listed: &Listed<'_>,
+    output: &mut O,
+) -> Result<(), Stop> {
+    let alloc = rt.alloc();
+    let text = source::lines(rt, db, listed)?;
+    let users = MultiRecordStore::parse_lines(alloc, &text)?;
+    for version in &VERSIONS {
+        if all_have(alloc, &users, &text, *version)? {
+            writeln!(output, "{}", version.mechanism()).map_err(Stop::of_output)?;
+        }
+    }
+    Ok(())
+}
+
+/// Returns whether there is a user, and each user of these lines has a record for a version.
+fn all_have(
+    alloc: Global,
+    users: &MultiRecordStore,
+    text: &str,
+    version: ScramVersion,
+) -> Result<bool, Stop> {
+    let own = users.for_version(version);
+    for line in text.lines() {
+        let name = lines::unescaped(alloc, UserLine::of(line).name)?;
+        if own.record(&name).is_none() {
+            return Ok(false);
+        }
+    }
+    Ok(own.first_stored_password().is_some())
+}
