@@ -10,7 +10,8 @@
 #   make rust      tests the crate of bindings/rust, which needs cargo and no other crate, and checks its docs; with rustfmt
 #                  and clippy, where cargo has them, also its format and lints
 #   make python    tries the module of bindings/python over the shared library
-#   make install   PREFIX, LIBDIR, INCLUDEDIR, DOCDIR and DESTDIR as usual
+#   make install   PREFIX, LIBDIR, INCLUDEDIR, DOCDIR and DESTDIR as usual. DOCDIR also gets NOTICES, the notices of the
+#                  kit's code that the library contains, which need the kit
 #   make dist      what `install` installs, into build/fe2o3_sasl-VERSION-CPU.tar.gz, whose bytes depend only on the files
 PREFIX ?= /usr/local
 LIBDIR ?= $(PREFIX)/lib
@@ -21,7 +22,8 @@ KIT ?= $(abspath $(dir $(shell readlink -f "$$(command -v rt)"))/..)
 
 # The number of the shared object rises when a struct or the signature of an export changes.
 SONAME = libfe2o3_sasl.so.2
-VERSION = $(shell sed -n 's/^\#\# \([0-9][0-9.]*\).*/\1/p' CHANGELOG.md | head -n 1)
+# The version: that of a release, or 0.5.0-dev of the sources before it. tools/gate/versions.py compares the other places.
+VERSION = $(shell sed -n 's/^version = "\(.*\)"$$/\1/p' bindings/rust/Cargo.toml)
 PROVED_ARCHIVE ?= crates/sasl_c/out/libsasl_c.a
 LIBRARY = build/libfe2o3_sasl.a build/libfe2o3_sasl.so build/fe2o3_sasl.pc
 HEADER = bindings/c/fe2o3_sasl.h
@@ -36,20 +38,21 @@ $(if $(HEAP_$(HEAP)),,$(error HEAP is wiping or plain))
 
 WARNINGS = -Wall -Wextra -Wpedantic
 SANITIZERS = -g -O1 -fsanitize=address,undefined -fno-sanitize-recover=all
-PROGRAMS = fits scram steps connections threads random $(SALTED)
+PROGRAMS = fits scram steps connections channels threads random $(SALTED)
 # salted.c salts with OpenSSL, and is left out where there is none to compile with.
 SALTED := $(shell printf '\043include <openssl/evp.h>\n' | $(CC) -E -x c - > /dev/null 2>&1 && echo salted)
 KINDS = plain shared sanitized
 
 .PHONY: lib header header-check callers depths rust python install dist build/fe2o3_sasl.pc
 
-lib:
+lib: kit
 	cd crates/sasl_c && rt lib --cpu $(CPU)
 	@rm -f build/fe2o3_sasl.o
-	@$(MAKE) --no-print-directory $(LIBRARY)
+	@$(MAKE) --no-print-directory $(LIBRARY) build/notices/sasl_c
 
 # (if there is none yet; `lib` always builds it)
 $(PROVED_ARCHIVE):
+	@$(NEEDS_KIT)
 	cd crates/sasl_c && rt lib --cpu $(CPU)
 
 # The proved functions, named proved_fe2o3_.. in place of fe2o3_.., which are the names of their wrappers.
@@ -89,6 +92,11 @@ build/libfe2o3_sasl.a build/unwiped/libfe2o3_sasl.a: %/libfe2o3_sasl.a: %/fe2o3_
 build/libfe2o3_sasl.so: build/libfe2o3_sasl.a
 	$(CC) -shared -Wl,-soname,$(SONAME) -Wl,-z,defs -Wl,-z,now -o $@ build/fe2o3_sasl.o $(LDLIBS)
 	ln -sf $(@F) build/$(SONAME)
+
+# The notices of the kit's crates that a crate of crates.txt links.
+build/notices/%: tools/generate/notices.py crates.txt $(wildcard $(KIT)/KIT-ID)
+	@mkdir -p $(@D)
+	$< write $* $@
 
 # Written each time, since PREFIX may be another one.
 in_prefix = $(patsubst $(PREFIX)/%,$${prefix}/%,$(1))
@@ -146,6 +154,14 @@ build/callers/depths: bindings/c/depths.c bindings/c/every_call.h build/callers/
     build/unwiped/libfe2o3_sasl.a
 	$(SECRETS) build/unwiped/libfe2o3_sasl.a $(LDLIBS)
 
+# What a wrapper leaves on the stack, where the function that it calls has filled its frame.
+build/callers/frames build/callers/frames_unwiped: bindings/c/frames.c bindings/wiping/wipe.h
+	@mkdir -p $(@D)
+	$(CC) -std=c99 $(WARNINGS) -O2 -fno-lto -o $@ $(filter %.c %.o,$^)
+
+build/callers/frames: build/wiping/wipe.o
+build/callers/frames_unwiped: build/unwiped/wipe.o
+
 # (at fixed addresses, so that the places that valgrind reports are those of the symbols)
 build/callers/constant_time: bindings/c/constant_time.c $(HEADER) build/libfe2o3_sasl.a
 	@mkdir -p $(@D)
@@ -156,7 +172,8 @@ build/callers/constant_time: bindings/c/constant_time.c $(HEADER) build/libfe2o3
 callers: header-check $(foreach kind,$(KINDS),$(PROGRAMS:%=build/callers/%_$(kind)) build/callers/client_$(kind) \
     build/callers/server_$(kind)) \
     build/callers/memory_plain build/callers/memory_sanitized \
-    $(foreach kind,plain shared unwiped,build/callers/secrets_$(kind)) build/callers/depths build/callers/constant_time
+    $(foreach kind,plain shared unwiped,build/callers/secrets_$(kind)) build/callers/frames build/callers/frames_unwiped \
+    build/callers/depths build/callers/constant_time
 	$(CC) -std=c99 $(WARNINGS) -fsyntax-only -x c $(HEADER)
 	$(CXX) $(WARNINGS) -fsyntax-only -x c++ $(HEADER)
 	sed -n 's/^[a-z0-9_]* \(fe2o3_[a-z0-9_]*\)(.*/\1/p' $(HEADER) | LC_ALL=C sort > build/callers/declared
@@ -167,6 +184,8 @@ callers: header-check $(foreach kind,$(KINDS),$(PROGRAMS:%=build/callers/%_$(kin
 	done; done
 	@for kind in plain sanitized; do echo "memory $$kind"; build/callers/memory_$$kind || exit 1; done
 	LD_BIND_NOW=1 build/callers/depths
+	build/callers/frames
+	build/callers/frames_unwiped unwiped
 	build/callers/secrets_unwiped unwiped
 	build/callers/secrets_plain
 	LD_LIBRARY_PATH=build build/callers/secrets_shared
@@ -189,7 +208,7 @@ python: build/libfe2o3_sasl.so
 	    FE2O3_SASL_LIB=$(abspath build/libfe2o3_sasl.so) python3 -B $$tests || exit 1; \
 	done
 
-install: $(LIBRARY)
+install: $(LIBRARY) build/notices/sasl_c
 	install -d $(DESTDIR)$(LIBDIR)/pkgconfig $(DESTDIR)$(INCLUDEDIR) $(DESTDIR)$(DOCDIR)
 	install -m 644 $(HEADER) $(DESTDIR)$(INCLUDEDIR)/
 	install -m 644 build/libfe2o3_sasl.a $(DESTDIR)$(LIBDIR)/
@@ -197,6 +216,7 @@ install: $(LIBRARY)
 	ln -sf $(SONAME) $(DESTDIR)$(LIBDIR)/libfe2o3_sasl.so
 	install -m 644 build/fe2o3_sasl.pc $(DESTDIR)$(LIBDIR)/pkgconfig/
 	install -m 644 LICENSE-APACHE LICENSE-MIT $(DESTDIR)$(DOCDIR)/
+	install -m 644 build/notices/sasl_c $(DESTDIR)$(DOCDIR)/NOTICES
 
 # pkg-config finds the folder from the place of its file, so the tar can be unpacked anywhere.
 dist: $(LIBRARY)

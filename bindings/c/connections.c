@@ -1,5 +1,5 @@
-/* Frames with an extended header (AMQP 1.0, part 2, section 2.3.1), which each side of a connection accepts as an option.
- * Prints a line for each case, and ends with 1 where one of them is not as it should be. */
+/* Frames with an extended header (AMQP 1.0, part 2, section 2.3.1), which each side of a connection accepts as an option;
+ * the words of PLAIN; and nonces that no call uses. Prints a line for each case, and ends with 1 where one of them is not as it should be. */
 #include "fe2o3_sasl.h"
 
 #include <stdio.h>
@@ -209,11 +209,65 @@ static void plain_words(void)
     }
 }
 
+/* A call of the server, and if it does not want its nonce the same call with another nonce, which has to do the same. */
+static int serves_twice(const struct fe2o3_sasl_server_config *config, struct fe2o3_sasl_server *server,
+    const struct sent *came, struct sent *sent)
+{
+    static const uint8_t other[32] = {9};
+    struct fe2o3_sasl_server copy = *server;
+    struct sent again = {{0}, 0};
+    size_t taken = 0;
+    int wants = (int)fe2o3_sasl_wants_nonce(&server->connection);
+    int holds = serves(config, server, GIVEN(*came), sent) == FE2O3_OK;
+    holds &= fe2o3_sasl_server_receive(config, &copy, GIVEN(*came), other, &taken, ROOM(again)) == FE2O3_OK;
+    return holds && (wants || (taken == came->len && memcmp(&copy, server, sizeof copy) == 0 && spells(&again, GIVEN(*sent))));
+}
+
+/* The same of the client. */
+static int hears_twice(const struct fe2o3_sasl_login *login, struct fe2o3_sasl_client *client, const struct sent *came,
+    size_t from, size_t len, struct sent *sent)
+{
+    static const uint8_t other[32] = {9};
+    struct fe2o3_sasl_client copy = *client;
+    struct sent again = {{0}, 0};
+    size_t taken = 0;
+    int wants = (int)fe2o3_sasl_wants_nonce(&client->connection);
+    int holds = hears(login, client, came->bytes + from, len, sent) == FE2O3_OK;
+    holds &= fe2o3_sasl_client_receive(login, &copy, came->bytes + from, len, other, &taken, ROOM(again)) == FE2O3_OK;
+    return holds && (wants || (taken == len && memcmp(&copy, client, sizeof copy) == 0 && spells(&again, GIVEN(*sent))));
+}
+
+/* A login by SCRAM. The nonces of both sides are used once. */
+static void nonces(void)
+{
+    struct fe2o3_scram_record record = {0};
+    struct fe2o3_sasl_server_config config = {FE2O3_OFFER_SCRAM_SHA_256, 4096, TEXT("user"), &record, 1, FE2O3_NONE, {0}, 0,
+        FE2O3_NONE};
+    struct fe2o3_sasl_login login = {FE2O3_SCRAM, FE2O3_NONE,
+        {.version = FE2O3_SHA_256, .min_iterations = 4096, .max_iterations = 4096, .username = TEXT("user"),
+            .acts_for = FE2O3_NONE, .password = TEXT("pencil"), .keys = &no_keys}};
+    struct fe2o3_sasl_server server = {0};
+    struct fe2o3_sasl_client client = {0};
+    struct sent of_client, of_server;
+    int holds = fe2o3_sasl_client_open(ROOM(of_client)) == FE2O3_OK;
+    fe2o3_scram_record_make(FE2O3_SHA_256, FE2O3_TYPED, TEXT("pencil"), salt, sizeof salt, 4096, &record);
+    while (holds && client.connection.progress == FE2O3_IN_PROGRESS) {
+        int first = client.connection.expected == FE2O3_EXPECTED_HEADER;
+        holds &= serves_twice(&config, &server, &of_client, &of_server);
+        if (first)
+            holds &= hears_twice(&login, &client, &of_server, 0, 8, &of_client) && of_client.len == 0;
+        holds &= hears_twice(&login, &client, &of_server, first ? 8 : 0, of_server.len - (first ? 8 : 0), &of_client);
+    }
+    told("both sides", "a call that wants no nonce does the same with another",
+        holds && server.connection.progress == FE2O3_AUTHENTICATED && client.connection.progress == FE2O3_AUTHENTICATED);
+}
+
 int main(void)
 {
     servers();
     clients();
     end_of_input();
     plain_words();
+    nonces();
     return differences != 0;
 }

@@ -3,11 +3,12 @@
  * are those of the library that clears nothing.
  *
  * Prints a line for each export. Ends with 1 if the library clears less than the export uses and MARGIN, or more than
- * MOST, or if an export is not called.
+ * MOST, if an export is not called, or if nothing is left free between it and its wrapper (`BELOW_PAD`).
  *
  *     depths write    prints the lines of depths.h that fit */
 #define _POSIX_C_SOURCE 200112L
 #include "every_call.h"
+#include "../wiping/wipe.h"
 
 #include <pthread.h>
 #include <stdio.h>
@@ -21,17 +22,20 @@
 /* (the frames of the functions here, and what is left of the stack at its end) */
 #define OWN 256
 #define END 65536
+/* (what is left of a pad below OWN and the frame of a wrapper) */
+#define FREE (PAD / 4)
 
-#define DEPTH(name, bytes) {#name, bytes, 0},
-static struct depth {
+#define DEPTH(name, bytes) {#name, bytes, 0, PAD},
+static struct measured {
     const char *name;
-    size_t cleared, used;
+    size_t cleared, used, free;
 } depths[] = {
 #include "../wiping/depths.h"
 };
 #define EXPORTS (sizeof depths / sizeof *depths)
 
 static uint8_t stack[1 << 20] __attribute__((aligned(4096)));
+static const uint8_t *painted;
 
 /* Paints the stack below the frame of this function. */
 static __attribute__((noinline)) void before(const char *name)
@@ -39,24 +43,30 @@ static __attribute__((noinline)) void before(const char *name)
     volatile uint8_t here;
     uint8_t *end = (uint8_t *)((uintptr_t)&here - OWN);
     (void)name;
+    painted = end;
     memset(stack + END, PAINT, (size_t)(end - (stack + END)));
 }
 
 static __attribute__((noinline)) void after(const char *name)
 {
     volatile uint8_t here;
-    const uint8_t *top = (const uint8_t *)(uintptr_t)&here, *at = stack + END;
-    struct depth *one = depths;
+    const uint8_t *top = (const uint8_t *)(uintptr_t)&here, *at = stack + END, *pad = painted;
+    struct measured *one = depths;
     while (at < top && *at == PAINT)
         at++;
+    while (pad > at && pad[-1] == PAINT)
+        pad--;
     while (one < depths + EXPORTS && strcmp(one->name, name) != 0)
         one++;
     if (one == depths + EXPORTS) {
         printf("%s is not in depths.h\n", name);
         differences++;
-    } else if ((size_t)(top - at) > one->used) {
-        one->used = (size_t)(top - at);
+        return;
     }
+    if ((size_t)(top - at) > one->used)
+        one->used = (size_t)(top - at);
+    if ((size_t)(painted - pad) < one->free)
+        one->free = (size_t)(painted - pad);
 }
 
 static void *run(void *unused)
@@ -67,15 +77,15 @@ static void *run(void *unused)
     return unused;
 }
 
-static size_t due(const struct depth *one) { return (one->used + MARGIN + ROUND - 1) / ROUND * ROUND; }
+static size_t due(const struct measured *one) { return (one->used + MARGIN + ROUND - 1) / ROUND * ROUND; }
 
 /* Whether what is cleared fits. */
-static int fits(const struct depth *one)
+static int fits(const struct measured *one)
 {
     int holds = one->used > 0 && one->used + MARGIN <= one->cleared && one->cleared <= MOST;
-    printf("%s: %lu bytes, cleared %lu%s\n", one->name, (unsigned long)one->used, (unsigned long)one->cleared,
-        holds ? "" : ", DIFFERS: make depths");
-    return holds;
+    printf("%s: %lu bytes, cleared %lu%s%s\n", one->name, (unsigned long)one->used, (unsigned long)one->cleared,
+        holds ? "" : ", DIFFERS: make depths", one->free >= FREE ? "" : ", DIFFERS: there is no pad");
+    return holds && one->free >= FREE;
 }
 
 int main(int words, char **word)

@@ -38,6 +38,7 @@ static struct {
     struct fe2o3_sasl_server server_side;
     struct fe2o3_sasl_frame_view view;
     size_t taken, line_number;
+    uint32_t number;
 } all;
 
 static uint32_t last;
@@ -96,6 +97,7 @@ static void records(uint32_t version)
     expect(CALL(scram_record_parse, GIVEN(all.record_text), &all.read), FE2O3_OK);
     expect(CALL(scram_line, USER, &all.record, ROOM(all.line)), FE2O3_OK);
     expect(CALL(scram_lines_find, GIVEN(all.line), USER, version, &all.line_number, &all.read), FE2O3_OK);
+    expect(CALL(scram_lines_all_have, GIVEN(all.line), version, &all.line_number, &all.number), FE2O3_OK);
     expect(CALL(scram_record_mock, version, mock_secret, 32, TEXT("who"), sizeof salt, ITERATIONS, &all.mock),
         FE2O3_OK);
     expect(CALL(scram_keys_of_salted, version, GIVEN(all.salted), salt, sizeof salt, ITERATIONS, &all.keys), FE2O3_OK);
@@ -263,7 +265,7 @@ static void both(const struct fe2o3_sasl_login *login, struct fe2o3_sasl_server_
     uint32_t by_bytes)
 {
     static const uint32_t options[] = {0, FE2O3_SIGNATURE_BY_CHALLENGE, FE2O3_INITIAL_RESPONSE_BY_CHALLENGE,
-        FE2O3_PLAIN_SASLPREP, FE2O3_STRICT};
+        FE2O3_PLAIN_SASLPREP, FE2O3_STRICT, FE2O3_REJECT_MISPLACED};
     uint32_t offers = config->mechanisms;
     for (size_t which = 0; which < sizeof options / sizeof *options; which++) {
         config->mechanisms = offers | options[which];

@@ -25,7 +25,8 @@
  *
  * What the calls promise:
  *
- * - A call that fails changes nothing, except that with FE2O3_ROOM_TOO_SMALL `out_len` says how many bytes suffice.
+ * - A call that fails changes nothing, with two exceptions: with FE2O3_ROOM_TOO_SMALL `out_len` says how many bytes
+ *   suffice, and `fe2o3_scram_lines_find` and `fe2o3_scram_lines_all_have` write `line`.
  * - A call that succeeds writes its text to the beginning of `out`, and the text's length to `out_len`. The rest of `out`
  *   stays as it was. There is no zero at the end of the text.
  * - Each call returns, never aborts, and keeps no pointer. It allocates by malloc and frees all of it. If an allocation
@@ -84,7 +85,8 @@ enum fe2o3_secret {
     FE2O3_BY_PASSWORD = 0,
     /* The keys. */
     FE2O3_BY_KEYS = 1,
-    /* The keys if they are of the server's salt and iteration count, otherwise the password. */
+    /* The keys if they are of the server's salt and iteration count, otherwise the password. The login has to have both:
+     * without keys the calls return FE2O3_NO_KEYS. */
     FE2O3_BY_PASSWORD_AND_KEYS = 2
 };
 
@@ -100,8 +102,10 @@ enum fe2o3_password_form {
 enum fe2o3_channel_use {
     /* The client does not support channel binding, or has no channel: its GS2 header is `n,,`. */
     FE2O3_CHANNEL_ABSENT = 0,
-    /* The client has a channel, but was offered no mechanism with `-PLUS`: its GS2 header is `y,,`. A server that offered
-     * one rejects it, so that nobody on the way can remove the mechanism from the offer. */
+    /* The client has a channel, but was offered no mechanism with `-PLUS`: its GS2 header is `y,,`. The client rejects
+     * what is no extension in the place of one, and a server that offers `-PLUS` has to reject `y,,`, as the servers here
+     * do. Nobody on the way can then remove `-PLUS` from the offer unnoticed. A server that offers `-PLUS` and accepts
+     * `y,,` does not protect against that: log in to it by FE2O3_CHANNEL_BOUND only. */
     FE2O3_CHANNEL_NOT_OFFERED = 1,
     /* The client binds its channel, by a mechanism with `-PLUS`: its GS2 header is `p=` and the kind. */
     FE2O3_CHANNEL_BOUND = 2
@@ -168,7 +172,10 @@ enum fe2o3_offer {
     FE2O3_SIGNATURE_BY_CHALLENGE = 1024,
     /* No mechanism: SCRAM is strict. It reads messages by the grammar of RFC 5802, section 7: see the field `strict` of
      * struct fe2o3_scram_rules. */
-    FE2O3_STRICT = 2048
+    FE2O3_STRICT = 2048,
+    /* No mechanism: SCRAM rejects what is no extension in the place of one, and nothing more: see the field
+     * `reject_misplaced` of struct fe2o3_scram_rules. A server with `channels` does so in any case. */
+    FE2O3_REJECT_MISPLACED = 4096
 };
 
 /* How far a login on a connection is. */
@@ -233,11 +240,11 @@ enum fe2o3_scram_server_state {
     FE2O3_SCRAM_SERVER_INITIAL_RESPONSE_ASKED = 5,
     /* Like FE2O3_SCRAM_SERVER_INITIAL_RESPONSE_ASKED, but the init had a hostname: `bare`. */
     FE2O3_SCRAM_SERVER_INITIAL_RESPONSE_ASKED_WITH_HOSTNAME = 6,
-    /* A challenge is open, to a client that binds the channel by `tls-unique`. Only over messages. */
+    /* A challenge is open, to a client that binds the channel by `tls-unique`. */
     FE2O3_SCRAM_SERVER_CHALLENGE_OPEN_TLS_UNIQUE = 7,
-    /* A challenge is open, to a client that binds the channel by `tls-server-end-point`. Only over messages. */
+    /* A challenge is open, to a client that binds the channel by `tls-server-end-point`. */
     FE2O3_SCRAM_SERVER_CHALLENGE_OPEN_TLS_SERVER_END_POINT = 8,
-    /* A challenge is open, to a client that binds the channel by `tls-exporter`. Only over messages. */
+    /* A challenge is open, to a client that binds the channel by `tls-exporter`. */
     FE2O3_SCRAM_SERVER_CHALLENGE_OPEN_TLS_EXPORTER = 9
 };
 
@@ -265,7 +272,7 @@ enum fe2o3_server_error {
     FE2O3_SERVER_ERROR_INVALID_USERNAME_ENCODING = 9,
     /* `no-resources`. */
     FE2O3_SERVER_ERROR_NO_RESOURCES = 10,
-    /* `other-error`, and every value that RFC 5802 does not name. */
+    /* `other-error`, and every value that RFC 5802 does not name, also the empty one. */
     FE2O3_SERVER_ERROR_OTHER_ERROR = 11
 };
 
@@ -296,6 +303,12 @@ enum fe2o3_sasl_code {
     /* A temporary system error. */
     FE2O3_CODE_SYS_TEMP = 4
 };
+
+/* The length in bytes of the salt of a new record and of a mock record, unless you choose another one. */
+#define FE2O3_DEFAULT_SALT_LEN 16
+
+/* The iteration count of a new record and of a mock record, unless you choose another one. */
+#define FE2O3_DEFAULT_ITERATIONS 4096
 
 /* The structs, for fe2o3_size. */
 enum fe2o3_size_of {
@@ -385,11 +398,13 @@ enum fe2o3_status {
     /* The server-final message does not begin with `v=`, or has another signature. */
     FE2O3_CLIENT_SERVER_SIGNATURE_MISMATCH = 36,
     /* A part in the place of an extension is none (RFC 5802, section 7): after the iteration count, or after the
-     * signature. Only a client that is strict or binds a channel returns it. */
+     * signature. Only a client that is strict, has a channel (also one that says `y,,`) or acts for somebody else returns
+     * it. */
     FE2O3_CLIENT_MISPLACED_ATTRIBUTE = 37,
     /* The message is not UTF-8. */
     FE2O3_SERVER_UTF8_ERROR = 40,
-    /* The client-first message does not begin with `n,,`. */
+    /* The client-first message does not begin with a GS2 header that the server accepts: `n,,`, and by its rules `y,,`,
+     * `p=` with the kind of a channel, or `a=` with an identity. */
     FE2O3_SERVER_CANNOT_PARSE_GS2_HEADER = 41,
     /* The client-first message does not name a user: the first part after the header does not begin with `n=`, or goes
      * on with a text that escapes no user name. */
@@ -400,12 +415,13 @@ enum fe2o3_status {
     FE2O3_SERVER_HMAC_ERROR_INVALID_LENGTH = 44,
     /* The proof is not as long as a digest. */
     FE2O3_SERVER_XOR_LENGTH_MISMATCH = 45,
-    /* The password is not printable ASCII. */
+    /* Never returned by a server, which has records and no password. */
     FE2O3_SERVER_NORMALIZE_ERROR = 46,
     /* The client-final message does not begin with `c=`, or its second part is absent or does not
      * begin with `r=`. */
     FE2O3_SERVER_CANNOT_PARSE_CLIENT_FINAL_MESSAGE = 47,
-    /* The channel binding is not `n,,`. */
+    /* The channel binding has another GS2 header than the client-first message, or other data than the server's channel.
+     */
     FE2O3_SERVER_INVALID_CHANNEL_BINDING = 48,
     /* A channel binding or a proof is not base64. */
     FE2O3_SERVER_BASE64_DECODE_ERROR = 49,
@@ -418,8 +434,8 @@ enum fe2o3_status {
     /* No challenge is open. */
     FE2O3_SERVER_ILLEGAL_AUTHENTICATOR_STATE = 53,
     /* A part in the place of an extension is none (RFC 5802, section 7): after the nonce of the client-first message, or
-     * between the nonce and the proof of the client-final message. Only a server that is strict or binds channels returns
-     * it. */
+     * between the nonce and the proof of the client-final message. Only a server that tests extensions returns it
+     * (`ServerRules::is_strict`), and one that accepts the GS2 header `y,,`, to a client that sends it. */
     FE2O3_SERVER_MISPLACED_ATTRIBUTE = 54,
     /* The text does not have five fields: parts are missing or left over. */
     FE2O3_RECORD_PARTS_MISMATCH = 60,
@@ -585,11 +601,11 @@ uint32_t fe2o3_scram_record_from_fields(
     size_t server_key_len,
     struct fe2o3_scram_record *kept);
 
-/* Computes a mock record for a name that the server does not know, so that it answers unknown users like known ones.
- * The login then fails at its proof.
+/* Computes a mock record for a name that the server does not know, or that has no record of this hash. The server then
+ * answers unknown users like known ones. The login then fails at its proof.
  *
  * `secret` is 32 random bytes, one value for all names, kept as long as the records. `salt_len`, at most 64, and
- * `iterations` are those of the server's other records. */
+ * `iterations` are those of the server's other records. An iteration count of 0 is not rejected here. */
 uint32_t fe2o3_scram_record_mock(
     uint32_t version,
     const uint8_t *secret,
@@ -662,6 +678,19 @@ uint32_t fe2o3_scram_lines_find(
     uint32_t version,
     size_t *line,
     struct fe2o3_scram_record *kept);
+
+/* Writes 1 to `all` if each user of a text has a record of this version, and 0 if one has none. The text is one that
+ * `fe2o3_scram_lines_find` reads. Offer only hashes by which all users can log in: a client selects the strongest hash that
+ * is offered, whether its user has a record of it or not. A text without users has 1 for every version.
+ *
+ * If the text cannot be parsed, `line` is the number of the first line that cannot, counted from 1. It is 0 after the other
+ * errors, except FE2O3_OUT_OF_MEMORY, which leaves it unchanged. */
+uint32_t fe2o3_scram_lines_all_have(
+    const uint8_t *lines,
+    size_t lines_len,
+    uint32_t version,
+    size_t *line,
+    uint32_t *all);
 
 /* Writes the line of a user and a record, with its line feed, as `fe2o3_scram_lines_find` reads it. Returns
  * FE2O3_NOT_WRITABLE if the name contains a line feed or the iteration count is 0. */
@@ -741,7 +770,7 @@ struct fe2o3_login {
      * client acts for itself. The server decides whether the user may act for it.
      *
      * - SCRAM sends it in the GS2 header (RFC 5802, section 7). A client that names one tests the extensions like one
-     *   that binds a channel.
+     *   that has a channel.
      * - PLAIN sends it as the first part of its message (RFC 4616, section 2), by `fe2o3_sasl_client_receive` and
      *   `fe2o3_sasl_client_step`. A client that names one tests its words like a strict one.
      * - ANONYMOUS and EXTERNAL do not send it: with one these calls return FE2O3_NOT_IMPLEMENTED. FE2O3_EXTERNAL_AS sends
@@ -761,8 +790,8 @@ struct fe2o3_login {
     /* Whether the client is strict: it reads messages by the grammar of RFC 5802, section 7. 0 is no, any other value
      * yes. The server's part of the nonce has to be printable and not empty (FE2O3_CLIENT_CLIENT_NONCE_MISMATCH), the
      * iteration count without a sign or leading zeros (FE2O3_CLIENT_ITERATION_COUNT_PARSE_ERROR), and what follows the
-     * count or the signature an extension (FE2O3_CLIENT_MISPLACED_ATTRIBUTE). A client that binds a channel tests the
-     * extensions in any case.
+     * count or the signature an extension (FE2O3_CLIENT_MISPLACED_ATTRIBUTE). A client that has a channel or names an
+     * identity tests the extensions in any case.
      *
      * A strict client sends a user name and a password by PLAIN only if a message can have them (RFC 4616, section 2).
      * Otherwise the call returns FE2O3_NAMES_NO_USER or FE2O3_EMPTY_PASSWORD for an empty one, and
@@ -798,7 +827,8 @@ struct fe2o3_scram_client {
 
 /* Writes the client-first message. This starts a new exchange, whatever the state of the client is. `nonce` is 32
  * fresh random bytes. With FE2O3_CHANNEL_BOUND name the mechanism with `-PLUS` to the server, such as
- * SCRAM-SHA-256-PLUS (RFC 5802, section 6). */
+ * SCRAM-SHA-256-PLUS (RFC 5802, section 6). The whole login is tested, also the secret, which this message does not use.
+ */
 uint32_t fe2o3_scram_client_first(
     const struct fe2o3_login *login,
     struct fe2o3_scram_client *client,
@@ -809,7 +839,10 @@ uint32_t fe2o3_scram_client_first(
 
 /* Answers the server-first message with the client-final message. `out` needs 128 bytes more than the server-first
  * message has, or 256 more if the client binds a channel, and another 1024 if it names an identity to act for. This is
- * tested before anything is hashed. */
+ * tested before anything is hashed.
+ *
+ * The errors are, in this order: FE2O3_ROOM_TOO_SMALL, FE2O3_CLIENT_UTF8_ERROR, the faults of the login,
+ * FE2O3_CLIENT_ILLEGAL_CLIENT_STATE, and the other faults of the message. */
 uint32_t fe2o3_scram_client_final(
     const struct fe2o3_login *login,
     struct fe2o3_scram_client *client,
@@ -822,8 +855,11 @@ uint32_t fe2o3_scram_client_final(
 /* Verifies the server-final message. Only FE2O3_OK means that the login is complete and the server authenticated.
  *
  * The message may be an error of the server, such as `e=invalid-proof` for a wrong password. The call then returns
- * FE2O3_SERVER_ERROR, and fe2o3_scram_server_error says which error it is. After FE2O3_CLIENT_SERVER_SIGNATURE_MISMATCH
- * the server has not proved that it knows the user's keys. */
+ * FE2O3_SERVER_ERROR, and fe2o3_scram_server_error says which error it is. After every other status than FE2O3_OK the
+ * server has not proved that it knows the user's keys. FE2O3_CLIENT_MISPLACED_ATTRIBUTE comes before
+ * FE2O3_CLIENT_SERVER_SIGNATURE_MISMATCH, so a forged message can cause either.
+ *
+ * The faults of the login come first, then FE2O3_CLIENT_ILLEGAL_CLIENT_STATE, and then those of the message. */
 uint32_t fe2o3_scram_client_verify(
     const struct fe2o3_login *login,
     struct fe2o3_scram_client *client,
@@ -902,7 +938,8 @@ struct fe2o3_scram_rules {
     /* Whether the server is strict: it reads messages by the grammar of RFC 5802, section 7. 0 is no, any other value
      * yes. A user name has to be of one or more characters and without NUL (FE2O3_SERVER_CANNOT_PARSE_USERNAME), a nonce
      * printable and not empty (FE2O3_SERVER_CANNOT_PARSE_CLIENT_NONCE), and what follows the nonce an extension
-     * (FE2O3_SERVER_MISPLACED_ATTRIBUTE). A server that binds channels tests the extensions in any case. */
+     * (FE2O3_SERVER_MISPLACED_ATTRIBUTE). A server that binds channels or accepts identities tests the extensions in any
+     * case. */
     uint32_t strict;
     /* The server's channel, if it is of the mechanism with `-PLUS`. */
     struct fe2o3_server_channels channels;
@@ -910,16 +947,22 @@ struct fe2o3_scram_rules {
      * is of one or more characters and without NUL (FE2O3_SERVER_CANNOT_PARSE_GS2_HEADER), and such a server tests the
      * extensions like a strict one. By itself the option lets each user name only itself. */
     uint32_t accept_authzid;
+    /* Whether the server rejects what is no extension in the place of one (FE2O3_SERVER_MISPLACED_ATTRIBUTE), like a strict
+     * one, and nothing more: an empty user name is accepted. 0 is no, any other value yes. A server that binds channels
+     * rejects it in any case. If you offer a mechanism with `-PLUS` beside one without it, set the field for both, and
+     * accept `y,,` by neither. Then nobody on the way can make a client that has a channel log in without binding it,
+     * whatever library the client is of. */
+    uint32_t reject_misplaced;
     /* The identities that the claimed user may act for besides itself (RFC 4422, section 2), without escapes, with a zero
-     * byte after each. It is read with the client-final message: look up the identities of the user
-     * (`fe2o3_scram_server_claimed_user_with_rules`), or only whether it may act for the one that the client names
-     * (`fe2o3_scram_server_claimed_identity`). A user who may not act for the identity gets
+     * byte after each but the last, which may have one too. It is read with the client-final message: look up the
+     * identities of the user (`fe2o3_scram_server_claimed_user_with_rules`), or only whether it may act for the one that
+     * the client names (`fe2o3_scram_server_claimed_identity`). A user who may not act for the identity gets
      * FE2O3_SERVER_AUTHENTICATION_FAILED, like one with a wrong password. */
     const uint8_t *identities;
     size_t identities_len;
 };
 /* Its value without options. */
-#define FE2O3_SCRAM_RULES_INIT { 0, 0, { 0 }, 0, (const uint8_t *)"", 0 }
+#define FE2O3_SCRAM_RULES_INIT { 0, 0, { 0 }, 0, 0, (const uint8_t *)"", 0 }
 
 /* Writes the user name that a client-first message claims, without escapes. Nobody is authenticated yet: use it only
  * to look up the record. */
@@ -1096,7 +1139,8 @@ void fe2o3_scram_server_error_text(uint32_t error, struct fe2o3_text *text);
  * 5802, section 7). The status is one that a call of the server over messages returned, or FE2O3_NO_SUCH_USER.
  *
  * An unknown user, a mock record and a wrong proof have one message, `e=invalid-proof`. A status that no name of RFC 5802
- * describes has `e=other-error`. */
+ * describes has `e=other-error`. `unknown-user`, `extensions-not-supported`, and the errors of channel binding
+ * other than `channel-bindings-dont-match` are never written. */
 uint32_t fe2o3_scram_server_error_message(uint32_t status, uint8_t *out, size_t out_size, size_t *out_len);
 
 /* ---- PLAIN and EXTERNAL, over messages ---- */
@@ -1151,7 +1195,8 @@ uint32_t fe2o3_plain_claimed_identity(
  * enum fe2o3_plain_passwords.
  *
  * `accept_authzid` says whether a message may name an identity other than its user. 0 is no, any other value yes.
- * `identities` are those that the user may act for besides itself (RFC 4422, section 2), with a zero byte after each.
+ * `identities` are those that the user may act for besides itself (RFC 4422, section 2), with a zero byte after each but
+ * the last, which may have one too.
  *
  * Returns FE2O3_NO_SUCH_CHOICE if `passwords` is none of the enum, FE2O3_NOT_UTF8 if the identities are not UTF-8, and
  * FE2O3_SERVER_AUTHENTICATION_FAILED for every message that does not log in: a wrong password, an unknown user, an
@@ -1225,7 +1270,7 @@ struct fe2o3_sasl_client {
     /* The connection. */
     struct fe2o3_connection connection;
     /* The SCRAM client. After the login it holds the keys (`fe2o3_scram_client_get_keys`). For FE2O3_ANONYMOUS_AS and
-     * FE2O3_EXTERNAL_AS its `state` is FE2O3_CLIENT_FIRST_SENT after the init, until the response. */
+     * FE2O3_EXTERNAL_AS its `state` is FE2O3_SCRAM_CLIENT_FIRST_SENT after the init, until the response. */
     struct fe2o3_scram_client scram;
 };
 
@@ -1260,16 +1305,22 @@ struct fe2o3_sasl_server_config {
      * text. With FE2O3_SIGNATURE_BY_CHALLENGE SCRAM's outcome OK follows the client's empty response to a challenge.
      * With FE2O3_INITIAL_RESPONSE_BY_CHALLENGE an init for SCRAM or PLAIN without an initial response is answered by
      * an empty challenge, and the response is the initial response. With FE2O3_STRICT SCRAM is strict, as by the
-     * field `strict` of struct fe2o3_scram_rules. */
+     * field `strict` of struct fe2o3_scram_rules, and with FE2O3_REJECT_MISPLACED as by its field `reject_misplaced`.
+     */
     uint32_t mechanisms;
-    /* The iteration count with which PLAIN hashes the password of an unknown user. */
+    /* The iteration count with which PLAIN hashes a password if no record can be read. */
     uint32_t iterations;
     /* The name of the user whose records these are, without escapes. */
     const uint8_t *username;
     size_t username_len;
-    /* The records of the user, of any hashes. SCRAM with a hash uses the first record of that hash; if there is none,
-     * it does not know the user. PLAIN tests the password against the first record that can be read, so put mock
-     * records last; if there is none, it hashes the password with SHA-256 and rejects the login. */
+    /* The records of the user: one for each hash that is offered. For a hash of which the user has no record, pass a mock
+     * record (`fe2o3_scram_record_mock`), also for a known user who has records of other hashes only. SCRAM uses the
+     * first record of its hash. If there is none, it rejects the init at once, and a client can tell known users from
+     * unknown ones.
+     *
+     * PLAIN tests the password against the first record that can be read, so put mock records last. It then hashes the
+     * password of an unknown user with the hash, the salt length and the iteration count of the first mock record.
+     * If no record can be read, it hashes the password with SHA-256 and rejects the login. */
     const struct fe2o3_scram_record *records;
     size_t records_count;
     /* The name of the client that the transport has authenticated, for instance by a certificate. EXTERNAL accepts
@@ -1277,15 +1328,17 @@ struct fe2o3_sasl_server_config {
     const uint8_t *external_authcid;
     size_t external_authcid_len;
     /* The server's channel. If it binds channels, SCRAM is also offered with `-PLUS`, by the same hashes, and before
-     * the other mechanisms. SCRAM without `-PLUS` then accepts no client that has seen no such mechanism (`y,,`; RFC
-     * 5802, section 6), whatever FE2O3_ACCEPT_CBIND_FLAG_Y says. */
+     * the other mechanisms. SCRAM without `-PLUS` then rejects the GS2 header `y,,` (RFC 5802, section 6), whatever
+     * FE2O3_ACCEPT_CBIND_FLAG_Y says. Both reject what is no extension in the place of one, as with
+     * FE2O3_REJECT_MISPLACED. So a client of SCRAM that has a channel binds this one, or does not log in. */
     struct fe2o3_server_channels channels;
     /* Whether a client of SCRAM or PLAIN may name an identity to act for (RFC 5802, section 5.1; RFC 4616, section 2), as
      * by the field `accept_authzid` of struct fe2o3_scram_rules. 0 is no, any other value yes. Without it a message of
      * PLAIN may still name its own user. */
     uint32_t accept_authzid;
     /* The identities that the user may act for besides itself (RFC 4422, section 2), without escapes, with a zero byte
-     * after each. After the login `fe2o3_scram_server_acts_for` returns the one that the user acts for. */
+     * after each but the last, which may have one too. After the login `fe2o3_scram_server_acts_for` returns the one that
+     * the user acts for. */
     const uint8_t *identities;
     size_t identities_len;
 };
@@ -1338,8 +1391,8 @@ uint32_t fe2o3_sasl_server_receive(
 /* ---- Both sides of a connection, before a call, and at the end of the stream ---- */
 
 /* Returns 1 if the next call of `fe2o3_sasl_client_receive` or `fe2o3_sasl_server_receive` may use its nonce: a client
- * that expects the list of mechanisms, or a server that expects an init. Otherwise returns 0. Then every nonce gives
- * the same result, and you need no fresh random bytes. */
+ * that expects the list of mechanisms, or a server that expects an init. Otherwise returns 0. The call then gives the
+ * same result with every nonce, which is tested and not proved, and you need no fresh random bytes. */
 uint32_t fe2o3_sasl_wants_nonce(const struct fe2o3_connection *connection);
 
 /* Writes the body of the frame that `bytes` complete with the part that `connection` holds, without the four bytes of

@@ -63,6 +63,7 @@ static struct {
     struct fe2o3_sasl_server server_side;
     struct text out, client_first, server_first, client_final, server_final, user, line, password;
     size_t taken, line_number;
+    uint32_t number;
 } all;
 
 static struct fe2o3_scram_keys no_keys;
@@ -203,6 +204,10 @@ static uint32_t find(void)
     return fe2o3_scram_lines_find(
         GIVEN(all.line), TEXT("us,er"), FE2O3_SHA_256, &all.line_number, &all.read);
 }
+static uint32_t all_have(void)
+{
+    return fe2o3_scram_lines_all_have(GIVEN(all.line), FE2O3_SHA_256, &all.line_number, &all.number);
+}
 static uint32_t begin(void) { return fe2o3_sasl_client_open(ROOM(all.out)); }
 static uint32_t client_takes(void)
 {
@@ -308,6 +313,7 @@ int main(void)
     tried("external_verify", verify_external);
     tried("line", spell_line);
     tried("lines_find", find);
+    tried("lines_all_have", all_have);
     tried("saslprep", prepare);
     tried("record_make, prepared", make_prepared);
     tried("record_verify, prepared", verify_prepared);

@@ -10,7 +10,7 @@
 #include <stdio.h>
 #include <string.h>
 
-#define ROUNDS 20000
+#define ROUNDS 40000
 #define STATUSES 100
 #define TEXT(words) (const uint8_t *)(words), sizeof(words) - 1
 #define GIVEN(text) (text).bytes, (text).len
@@ -324,6 +324,7 @@ static void draw_rules(struct fe2o3_scram_rules *rules)
     rules->accept_authzid = below(2);
     rules->accept_cbind_flag_y = below(2);
     rules->strict = below(2);
+    rules->reject_misplaced = below(2);
     rules->channels.binds_channel = below(2);
     rules->channels.tls_unique_len = below(66);
     rules->channels.tls_server_end_point_len = below(66);
@@ -453,8 +454,8 @@ static void to_server(const struct fe2o3_sasl_server *side, struct text *came)
 
 static void with_a_side_of_a_server(void)
 {
-    const uint32_t option =
-        ONE_OF(0, FE2O3_INITIAL_RESPONSE_BY_CHALLENGE, FE2O3_SIGNATURE_BY_CHALLENGE, FE2O3_STRICT);
+    const uint32_t option = ONE_OF(0, FE2O3_INITIAL_RESPONSE_BY_CHALLENGE, FE2O3_SIGNATURE_BY_CHALLENGE, FE2O3_STRICT)
+        | (below(4) ? 0 : FE2O3_REJECT_MISPLACED);
     struct fe2o3_sasl_server_config config = {.mechanisms = below(129) | option, .iterations = below(9),
         .username = TEXT("user"), .records = &all.record, .records_count = below(2), .external_authcid = TEXT("peer")};
     struct fe2o3_scram_rules rules;

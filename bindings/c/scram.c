@@ -37,7 +37,8 @@ static const char prepared_512[] = "SCRAM-SHA-512$4096:W22ZaJ0SNY7soEsUEjb6gQ==$
  * the password "pencil", the nonces below and this salt: the proofs and the server's signatures are those of Python's
  * hashlib and hmac. */
 #define CLIENT_NONCE "AQAAAAAAAAAAAAAAAAAAAAAAAAAAAAAAAAAAAAAAAAA="
-#define BOTH_NONCES CLIENT_NONCE "AgAAAAAAAAAAAAAAAAAAAAAAAAAAAAAAAAAAAAAAAAA="
+#define SERVER_NONCE "AgAAAAAAAAAAAAAAAAAAAAAAAAAAAAAAAAAAAAAAAAA="
+#define BOTH_NONCES CLIENT_NONCE SERVER_NONCE
 #define CBIND_FLAG_Y_FIRST "y,,n=user,r=" CLIENT_NONCE
 #define CBIND_FLAG_Y_FINAL "c=eSws,r=" BOTH_NONCES ",p=SJ1/Pm0x+vAkhmfEkR72IPuVMVkUt0BF477aSDSc3vM="
 #define IDENTITY_FIRST "n,a=app=2C=3Dx,n=user,r=" CLIENT_NONCE
@@ -568,6 +569,76 @@ static void strict_sides(void)
     }
 }
 
+/* A server that rejects what is no extension in the place of one, and nothing more. */
+static void servers_that_reject_misplaced(void)
+{
+    const struct fe2o3_scram_rules rejects = {.reject_misplaced = 1, .identities = FE2O3_NONE}, lax = FE2O3_SCRAM_RULES_INIT;
+    struct fe2o3_scram_record record = {0};
+    struct exchange one = {0};
+    fe2o3_scram_record_make(FE2O3_SHA_256, FE2O3_TYPED, TEXT("pencil"), salt, sizeof salt, 4096, &record);
+    for (int set = 0; set < 2; set++) {
+        const struct fe2o3_scram_rules *rules = set ? &rejects : &lax;
+        told(FE2O3_SHA_256, set ? "a server that rejects misplaced attributes" : "a server without options",
+            fe2o3_scram_server_first_with_rules(rules, &record, &one.server, server_nonce, TEXT("n,,n=user,r=abc,i=4096"),
+                ROOM(one.server_first)) == (set ? FE2O3_SERVER_MISPLACED_ATTRIBUTE : FE2O3_OK)
+                && fe2o3_scram_server_first_with_rules(rules, &record, &one.server, server_nonce,
+                    TEXT("n,,n=user,r=abc,x=1"), ROOM(one.server_first)) == FE2O3_OK);
+        told(FE2O3_SHA_256, "one between the nonce and the proof",
+            fe2o3_scram_server_final_with_rules(rules, &record, &one.server,
+                TEXT("c=biws,r=abc" SERVER_NONCE ",c=eSws,p=AAAAAAAAAAAAAAAAAAAAAAAAAAAAAAAAAAAAAAAAAAA="),
+                ROOM(one.server_final))
+                == (set ? FE2O3_SERVER_MISPLACED_ATTRIBUTE : FE2O3_SERVER_AUTHENTICATION_FAILED));
+        told(FE2O3_SHA_256, "an empty name and an empty nonce",
+            fe2o3_scram_server_first_with_rules(rules, &record, &one.server, server_nonce, TEXT("n,,n=,r="),
+                ROOM(one.server_first)) == FE2O3_OK);
+    }
+}
+
+/* A client that says `y,,` tests extensions, and is not strict otherwise. */
+static void clients_with_a_channel(void)
+{
+    struct fe2o3_scram_keys no_keys = {0};
+    struct fe2o3_login login = {.version = FE2O3_SHA_256, .min_iterations = 4096, .max_iterations = 4096,
+        .username = TEXT("user"), .acts_for = FE2O3_NONE, .password = TEXT("pencil"), .keys = &no_keys};
+    for (login.channel_use = FE2O3_CHANNEL_ABSENT; login.channel_use <= FE2O3_CHANNEL_NOT_OFFERED; login.channel_use++) {
+        struct exchange one = {0};
+        fe2o3_scram_client_first(&login, &one.client, client_nonce, ROOM(one.client_first));
+        told(FE2O3_SHA_256, login.channel_use ? "a client that has a channel" : "a client that has none",
+            fe2o3_scram_client_final(&login, &one.client, TEXT("r=" BOTH_NONCES ",s=BAQ=,i=4096,c=biws"),
+                ROOM(one.client_final)) == (login.channel_use ? FE2O3_CLIENT_MISPLACED_ATTRIBUTE : FE2O3_OK));
+        fe2o3_scram_client_first(&login, &one.client, client_nonce, ROOM(one.client_first));
+        told(FE2O3_SHA_256, "a count with a zero before it, and an extension",
+            fe2o3_scram_client_final(&login, &one.client, TEXT("r=" BOTH_NONCES ",s=BAQ=,i=04096,x=1"),
+                ROOM(one.client_final)) == FE2O3_OK);
+        told(FE2O3_SHA_256, "an attribute after a signature",
+            fe2o3_scram_client_verify(&login, &one.client, TEXT("v=AAAA,c=biws"))
+                == (login.channel_use ? FE2O3_CLIENT_MISPLACED_ATTRIBUTE : FE2O3_CLIENT_SERVER_SIGNATURE_MISMATCH));
+    }
+}
+
+/* Whether each user of a text has a record of a version; 2 if the call returns an error, whose line is then this one. */
+static uint32_t all_have(const char *lines, uint32_t version, size_t *line)
+{
+    uint32_t all = 3;
+    uint32_t status = fe2o3_scram_lines_all_have((const uint8_t *)lines, strlen(lines), version, line, &all);
+    return status == FE2O3_OK ? all : all == 3 ? 2 : 3;
+}
+
+/* Which hashes a server can offer to all users of a text. */
+static void hashes_of_all_users(void)
+{
+    char lines[1024];
+    size_t line = 7;
+    snprintf(lines, sizeof lines, "a %s\na %s\nb %s\n", known_record, prepared_512, known_record);
+    told(FE2O3_SHA_256, "all users have a record", all_have(lines, FE2O3_SHA_256, &line) == 1 && line == 7);
+    told(FE2O3_SHA_512, "one user has no record", all_have(lines, FE2O3_SHA_512, &line) == 0);
+    told(FE2O3_SHA_1, "no user has a record", all_have(lines, FE2O3_SHA_1, &line) == 0);
+    told(FE2O3_SHA_1, "a text without users", all_have("", FE2O3_SHA_1, &line) == 1 && line == 7);
+    told(FE2O3_SHA_256, "no such version", all_have(lines, 255, &line) == 2 && line == 0);
+    snprintf(lines, sizeof lines, "a %s\nb\n", known_record);
+    told(FE2O3_SHA_256, "a line without a record", all_have(lines, FE2O3_SHA_256, &line) == 2 && line == 2);
+}
+
 int main(void)
 {
     struct fe2o3_scram_record record = {0};
@@ -579,6 +650,8 @@ int main(void)
     channels(FE2O3_SHA_256);
     channels(FE2O3_SHA_512);
     strict_sides();
+    servers_that_reject_misplaced();
+    clients_with_a_channel();
     identities();
     identities_of_each_form();
     cases(FE2O3_SHA_1);
@@ -592,5 +665,6 @@ int main(void)
     prepared(FE2O3_SHA_256, prepared_256);
     prepared(FE2O3_SHA_512, prepared_512);
     cbind_flag_y();
+    hashes_of_all_users();
     return differences != 0;
 }

@@ -1,4 +1,5 @@
-/* Serves logins of AMQP 1.0 over TCP on the loopback, by SCRAM-SHA-512, SCRAM-SHA-256 and, as if under TLS, by PLAIN:
+/* Serves logins of AMQP 1.0 over TCP on the loopback, by SCRAM with each hash for which all users have a record and, as if
+ * under TLS, by PLAIN:
  *
  *     server USERS LOGINS [MECHANISM [PEER [challenge | ask | for:IDENTITY]..]]
  *
@@ -23,7 +24,8 @@
 #include <unistd.h>
 
 static const uint32_t versions[3] = {FE2O3_SHA_512, FE2O3_SHA_256, FE2O3_SHA_1};
-static uint32_t mechanisms = FE2O3_OFFER_SCRAM_SHA_512 | FE2O3_OFFER_SCRAM_SHA_256 | FE2O3_OFFER_PLAIN;
+static const uint32_t hashes[3] = {FE2O3_OFFER_SCRAM_SHA_512, FE2O3_OFFER_SCRAM_SHA_256, FE2O3_OFFER_SCRAM_SHA_1};
+static uint32_t mechanisms;
 static const char *peer = "", *identity = "";
 static uint32_t accept_authzid;
 static uint8_t users[65536], secret[32];
@@ -86,8 +88,21 @@ static int sent(int channel, const uint8_t *bytes, size_t len)
     return 1;
 }
 
-/* The records of a name, one for each hash: those of its lines, and after them mock records, so that nobody learns which
- * names there are. PLAIN takes the first. */
+/* The mechanisms of a server that is not told which: SCRAM with each hash for which all users have a record, and PLAIN. A
+ * client selects the strongest hash that is offered, whether its user has a record for it or not. */
+static uint32_t usual_mechanisms(void)
+{
+    uint32_t offer = FE2O3_OFFER_PLAIN, all;
+    size_t i, line;
+    for (i = 0; i < 3; i++)
+        if (fe2o3_scram_lines_all_have(users, users_len, versions[i], &line, &all) == FE2O3_OK && all)
+            offer |= hashes[i];
+    return offer;
+}
+
+/* The records of a name, one for each hash: those of its lines, and after them a mock record for each hash that has no
+ * line, also for a known name. Otherwise the server would reject a known name at once where it answers an unknown one by a
+ * challenge, and so tell which names there are. PLAIN takes the first. */
 static void fetch(const uint8_t *name, size_t len, struct fe2o3_scram_record *records)
 {
     int has[3];
@@ -98,7 +113,8 @@ static void fetch(const uint8_t *name, size_t len, struct fe2o3_scram_record *re
     }
     for (i = 0; i < 3; i++)
         if (!has[i])
-            fe2o3_scram_record_mock(versions[i], secret, sizeof secret, name, len, 16, 4096, &records[count++]);
+            fe2o3_scram_record_mock(versions[i], secret, sizeof secret, name, len, FE2O3_DEFAULT_SALT_LEN,
+                FE2O3_DEFAULT_ITERATIONS, &records[count++]);
 }
 
 /* What a connection keeps that is secret: the messages of its client, of which that of PLAIN has the password, and the
@@ -116,7 +132,7 @@ static int64_t serve(int channel, struct fe2o3_sasl_server *server, struct secre
     size_t len = 0, at = 0, taken = 0, out_len = 0, name_len = 0;
     while (server->connection.progress == FE2O3_IN_PROGRESS) {
         struct fe2o3_sasl_server_config config = {
-            mechanisms, 4096, name, 0, keep->records, 3, (const uint8_t *)peer, strlen(peer), {0}, accept_authzid,
+            mechanisms, FE2O3_DEFAULT_ITERATIONS, name, 0, keep->records, 3, (const uint8_t *)peer, strlen(peer), {0}, accept_authzid,
             (const uint8_t *)identity, strlen(identity) + 1};
         uint32_t status;
         memset(keep->records, 0, sizeof keep->records);
@@ -202,6 +218,8 @@ int main(int count, char **words)
     setvbuf(file, NULL, _IONBF, 0);
     users_len = fread(users, 1, sizeof users, file);
     fclose(file);
+    if (count == 3)
+        mechanisms = usual_mechanisms();
     memset(&address, 0, sizeof address);
     address.sin_family = AF_INET;
     address.sin_addr.s_addr = htonl(INADDR_LOOPBACK);

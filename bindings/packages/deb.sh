@@ -29,7 +29,26 @@ packed() {
 
 doc=$tree/usr/share/doc/$name man=$tree/usr/share/man/man3
 mkdir -p "$doc" "$man" "$work/control"
-{ cat "$here/copyright"; sed -e '1,2d' -e 's/^$/./' -e 's/^/ /' LICENSE-MIT; } > "$doc/copyright"
+# Texts of licences, as fields of the file `copyright` have them.
+as_field() {
+    sed -e 's/^$/./' -e 's/^/ /' "$@"
+}
+
+# Who the notices name, each on a line of its own.
+holders() {
+    sed -nE 's/^ *Copyright( \(c\)| ©)? *([0-9I].*)$/           \2/Ip' "$1" | LC_ALL=C sort -u
+}
+
+{
+    cat "$here/copyright"
+    sed -e '1,2d' LICENSE-MIT | as_field
+    printf '\nFiles: usr/lib/*\nCopyright: 2026 the authors of fe2o3_sasl\n'
+    holders "$doc/NOTICES"
+    printf 'License: kit-notices\nComment: The libraries contain code of crates of the Rattle kit.\n'
+    printf '\nLicense: kit-notices\n'
+    as_field "$doc/NOTICES"
+} > "$doc/copyright"
+rm "$doc/NOTICES"
 gzip -9nc CHANGELOG.md > "$doc/changelog.gz"
 filled fe2o3_sasl.3 > "$man/fe2o3_sasl.3"
 gzip -9n "$man/fe2o3_sasl.3"

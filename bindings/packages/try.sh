@@ -29,7 +29,7 @@ path_without_kit() {
 tools() {
     local tool missing=()
     PATH=$(path_without_kit)
-    for tool in cc ar ld nm objcopy objdump pkg-config python3 cargo dpkg tar gzip md5sum cmp; do
+    for tool in cc ar ld nm objcopy objdump pkg-config python3 cargo dpkg tar gzip md5sum sha256sum cmp; do
         command -v "$tool" > /dev/null || missing+=("$tool")
     done
     ! command -v python3 > /dev/null || python3 -c 'import ensurepip, venv' 2> /dev/null ||
@@ -113,6 +113,7 @@ outside() {
     unset LD_LIBRARY_PATH PYTHONPATH FE2O3_SASL_LIB
     DEB=$(echo "$PWD"/packages/*.deb) WHEEL=$(echo "$PWD"/packages/*.whl)
     CRATE=fe2o3-sasl-proved-$version
+    notices
     timed 'C, shared library of the Debian package' c_shared
     timed 'C, static library of the Debian package' c_static
     [ "$install" = no ] || timed 'C, Debian package installed by dpkg -i' c_installed
@@ -120,6 +121,18 @@ outside() {
     timed 'Rust, crate with its archive' in_rust packed
     timed 'Rust, crate with the archive that pkg-config finds' in_rust pkg-config
     rust_without_archive
+}
+
+# Each package has the notices of the kit's code that it contains; this name is in those of a crate that each links.
+notices() {
+    local name='Copyright (c) 2018 Carl Lerche'
+    dpkg --fsys-tarfile "$DEB" | tar -xO ./usr/share/doc/libfe2o3-sasl/copyright > deb_notices
+    python3 -m zipfile -e "$WHEEL" unzipped
+    tar -xOf "packages/$CRATE.tar.gz" "$CRATE/NOTICES" > crate_notices
+    grep -qF "$name" deb_notices || fail "$DEB has no notices"
+    grep -qF "$name" unzipped/*.dist-info/NOTICES || fail "$WHEEL has no notices"
+    grep -qF "$name" crate_notices || fail "the crate has no notices"
+    echo "the packages have the notices of the kit's code"
 }
 
 # The Debian package, unpacked into a prefix.

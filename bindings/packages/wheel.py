@@ -1,11 +1,12 @@
 #!/usr/bin/env python3
 """Makes a Python wheel of the module and the shared library.
 
-    wheel.py LIBRARY SONAME CPU FOLDER          writes FOLDER/fe2o3_sasl-VERSION-TAG.whl, and prints its path
+    wheel.py LIBRARY SONAME CPU NOTICES FOLDER  writes FOLDER/fe2o3_sasl-VERSION-TAG.whl, and prints its path
 
 The wheel has the package `fe2o3_sasl`: the text of bindings/python/fe2o3_sasl.py, which loads the library beside it in
-place of the system's, and LIBRARY under the name SONAME. Beside it is the module `fe2o3_sasl_asyncio`. The tag names the newest version of glibc that a symbol of the
-library needs. Times and the order of the files are fixed.
+place of the system's, and LIBRARY under the name SONAME. Beside it is the module `fe2o3_sasl_asyncio`. The file NOTICES
+goes beside the licences. The tag names the newest version of glibc that a symbol of the library needs. Times and the order
+of the files are fixed.
 """
 import base64
 import hashlib
@@ -26,6 +27,7 @@ Summary: SASL authentication with SCRAM for client and server, by a proved libra
 License: MIT OR Apache-2.0
 License-File: LICENSE-APACHE
 License-File: LICENSE-MIT
+License-File: NOTICES
 Classifier: Operating System :: POSIX :: Linux
 Classifier: Programming Language :: Python :: 3
 Classifier: Typing :: Typed
@@ -69,8 +71,9 @@ def glibc_of(library):
 
 
 def version():
-    """The newest version of the change log."""
-    return re.search(r"^## (\d[\d.]*)", (ROOT / "CHANGELOG.md").read_text(encoding="utf-8"), re.MULTILINE)[1]
+    """The version, as Python writes that of the sources before a release: 0.5.0.dev0 (PEP 440)."""
+    text = (ROOT / "bindings" / "rust" / "Cargo.toml").read_text(encoding="utf-8")
+    return re.search(r'^version = "(.*)"$', text, re.MULTILINE)[1].replace("-dev", ".dev0")
 
 
 def written(archive, name, data):
@@ -83,9 +86,9 @@ def written(archive, name, data):
 
 
 def main():
-    if len(sys.argv) != 5:
+    if len(sys.argv) != 6:
         sys.exit(__doc__)
-    library, soname, cpu, folder = sys.argv[1:]
+    library, soname, cpu, notices, folder = sys.argv[1:]
     major, minor = glibc_of(library)[:2]
     number, tag = version(), f"py3-none-manylinux_{major}_{minor}_x86_64"
     module = module_of(soname)
@@ -98,6 +101,7 @@ def main():
         "fe2o3_sasl_asyncio.py": MODULE.with_name("fe2o3_sasl_asyncio.py").read_bytes(),
         f"{info}/LICENSE-APACHE": (ROOT / "LICENSE-APACHE").read_bytes(),
         f"{info}/LICENSE-MIT": (ROOT / "LICENSE-MIT").read_bytes(),
+        f"{info}/NOTICES": Path(notices).read_bytes(),
         f"{info}/METADATA": METADATA.format(version=number, cpu=cpu, doc=doc).encode(),
         f"{info}/WHEEL": WHEEL.format(tag=tag).encode(),
     }

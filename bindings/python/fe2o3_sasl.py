@@ -13,13 +13,16 @@ A client:
 
 A server:
 
+    store = RecordStore(Path("users.txt").read_bytes())                 # the file that `scram users add` makes
     server = Server()
     message = receive()
-    send(server.first(record_of(Server.claimed_user(message)), message))
+    record = store.record(Server.claimed_user(message), SHA_256, secret)
+    send(server.first(record, message))
     send(server.final(receive()))
     name = server.authenticated_user()
 
-`record_of` returns `Record.mock(..)` for a name that it does not know.
+`secret` is 32 random bytes, which you make once and keep beside the records. With it a name without a record gets a mock
+record, so that the answers do not show which names exist.
 
 Both sides bind their TLS channel (RFC 5802, section 6), so that a man in the middle cannot pass the login on:
 
@@ -28,7 +31,11 @@ Both sides bind their TLS channel (RFC 5802, section 6), so that a man in the mi
     select(client.mechanism())          # SCRAM-SHA-256-PLUS if it is offered, otherwise SCRAM-SHA-256
 
     server = Server(channels=[Channel.tls_server_end_point(own_certificate)])            # the server, of -PLUS
-    send(server.first(record_of(server.claimed_user(message)), message))
+    record = store.record(server.claimed_user(message), SHA_256, secret)
+    send(server.first(record, message))
+
+If you also offer the mechanism without `-PLUS`, its server is `Server(reject_misplaced=True)`. Then nobody on the way can
+make a client that has a channel log in without binding it.
 
 PLAIN and EXTERNAL over messages, for protocols other than AMQP. `ANONYMOUS` needs no call: its message is trace
 information, and a server accepts any (RFC 4505, section 2).
@@ -36,7 +43,7 @@ information, and a server accepts any (RFC 4505, section 2).
     send(plain_message("user", "pencil"))                               # the client, over TLS only
     message = receive()                                                 # the server
     name = plain_claimed_user(message)                                  # nobody is authenticated yet
-    if plain_verify(record_of(name), message):
+    if plain_verify(store.record(name, SHA_256, secret), message):
         log_in(name)
     if external_verify(name_from_the_certificate, message):
         log_in(name_from_the_certificate)
@@ -60,6 +67,11 @@ The client's side of a connection of AMQP 1.0, before its first frame of AMQP:
         answer, rest = side.receive(data)
         socket.sendall(answer)
     # complete if side.progress is Progress.AUTHENTICATED; then `rest` belongs to AMQP. Otherwise side.why says why not.
+
+The server's side, for the users of the file:
+
+    side = ServerConnection(store.records, mechanisms=store.hashes(), mock=store.mock_settings(secret))
+    # the same loop; then the user is side.authenticated_user()
 
 A client that selects the first of its allowed mechanisms that the server offers, here SCRAM with SHA-512 or SHA-256:
 
@@ -97,9 +109,9 @@ Wipe the objects that hold secrets once you no longer need them:
         ...
     # the client's copies of the password and the keys are overwritten by zeros, and its calls raise `Wiped`
 
-`Client`, `Server`, `Keys`, `Record`, and the sides of connections have `wipe` and work in a `with` statement. Each has
-its own copies, so that you can wipe one and go on with another. The copies that last for one call are wiped in any
-case, also by the library.
+`Client`, `Server`, `Keys`, `Record`, `RecordStore`, and the sides of connections have `wipe` and work in a `with`
+statement. Each has its own copies, so that you can wipe one and go on with another; but a `RecordStore` returns its own
+records. The copies that last for one call are wiped in any case, also by the library.
 
 Not wiped are the values of Python: the `str` and `bytes` that you pass, the messages that a call takes and returns, of
 which those of PLAIN have the password, and what properties such as `Keys.client_key` return. Pass a password as a
@@ -111,7 +123,6 @@ from __future__ import annotations
 import contextlib
 import ctypes
 import enum
-import functools
 import hashlib
 import operator
 import os
@@ -124,6 +135,8 @@ if TYPE_CHECKING:
     import ssl
 
 __all__ = [
+    "DEFAULT_ITERATIONS",
+    "DEFAULT_SALT_LENGTH",
     "SHA_1",
     "SHA_256",
     "SHA_512",
@@ -145,6 +158,7 @@ __all__ = [
     "LoginAttempt",
     "LoginRejected",
     "MechanismUnavailable",
+    "MockSettings",
     "Offer",
     "OutOfMemory",
     "PlainPasswords",
@@ -153,6 +167,7 @@ __all__ = [
     "ProtocolError",
     "Record",
     "RecordError",
+    "RecordStore",
     "Refused",
     "Server",
     "ServerConnection",
@@ -184,6 +199,12 @@ __all__ = [
 SHA_1 = 1
 SHA_256 = 256
 SHA_512 = 512
+
+#: The length in bytes of the salt of a new record and of a mock record, unless you choose another one.
+DEFAULT_SALT_LENGTH = 16
+
+#: The iteration count of a new record and of a mock record, unless you choose another one.
+DEFAULT_ITERATIONS = 4096
 
 
 class Status(enum.IntEnum):
@@ -287,7 +308,9 @@ class Offer(enum.IntFlag):
     SIGNATURE_BY_CHALLENGE: SCRAM sends the server's signature in a challenge, and the outcome follows the client's empty
     response. INITIAL_RESPONSE_BY_CHALLENGE: SCRAM and PLAIN answer an init without an initial response by an
     empty challenge, and the client's response is then the initial response. STRICT: SCRAM reads messages by
-    the grammar of RFC 5802, section 7, like a `Server` with `strict`."""
+    the grammar of RFC 5802, section 7, like a `Server` with `strict`. REJECT_MISPLACED: SCRAM rejects what is no
+    extension in the place of one, and nothing more, like a `Server` with `reject_misplaced`. A server with channels
+    does so in any case."""
 
     SCRAM_SHA_512 = 1
     SCRAM_SHA_256 = 2
@@ -301,6 +324,7 @@ class Offer(enum.IntFlag):
     INITIAL_RESPONSE_BY_CHALLENGE = 512
     SIGNATURE_BY_CHALLENGE = 1024
     STRICT = 2048
+    REJECT_MISPLACED = 4096
 
 
 class PlainPasswords(enum.IntEnum):
@@ -476,6 +500,7 @@ class _ScramRulesStruct(ctypes.Structure):
         ("strict", ctypes.c_uint32),
         ("channels", _ServerChannelsStruct),
         ("accept_authzid", ctypes.c_uint32),
+        ("reject_misplaced", ctypes.c_uint32),
         ("identities", ctypes.c_char_p),
         ("identities_len", ctypes.c_size_t),
     ]
@@ -678,6 +703,16 @@ _EXPORTS: dict[str, tuple[Any, list[Any]]] = {
             ctypes.c_uint32,
             ctypes.POINTER(ctypes.c_size_t),
             ctypes.POINTER(_ScramRecordStruct),
+        ],
+    ),
+    "fe2o3_scram_lines_all_have": (
+        ctypes.c_uint32,
+        [
+            ctypes.c_char_p,
+            ctypes.c_size_t,
+            ctypes.c_uint32,
+            ctypes.POINTER(ctypes.c_size_t),
+            ctypes.POINTER(ctypes.c_uint32),
         ],
     ),
     "fe2o3_scram_line": (
@@ -1051,6 +1086,9 @@ _DIGEST_LENGTHS = {SHA_1: 20, SHA_256: 32, SHA_512: 64}
 Text = Union[str, bytes, bytearray, memoryview]
 #: Bytes, such as a message or a salt.
 Bytes = Union[bytes, bytearray, memoryview]
+#: The settings of mock records: their secret, of 32 or more random bytes; or that secret, the salt length, at most 64, and
+#: the iteration count. The secret by itself is for records with DEFAULT_SALT_LENGTH and DEFAULT_ITERATIONS.
+MockSettings = Union[bytes, bytearray, memoryview, tuple[Bytes, int, int]]
 
 
 class Refused(Exception):
@@ -1708,12 +1746,13 @@ class Record(_Stored):
         *,
         prepared: bool = False,
         salt: Optional[Bytes] = None,
-        salt_length: int = 16,
-        iterations: int = 4096,
+        salt_length: int = DEFAULT_SALT_LENGTH,
+        iterations: int = DEFAULT_ITERATIONS,
     ) -> Record:
         """Computes the record of a password. The password is a typed one, of printable ASCII; `prepared` takes any text,
         without change (`saslprep`), and a client logs in with exactly that text. The salt defaults to `salt_length`
-        random bytes, at most 128. For SCRAM-SHA-256 some clients of MongoDB require a salt of 28 bytes."""
+        random bytes, at most 128. For SCRAM-SHA-256 some clients of MongoDB require a salt of 28 bytes. All records of a
+        server need one salt length and one iteration count, which are also those of its mock records."""
         struct, salt = _ScramRecordStruct(), _salt(salt, salt_length)
         _make(_library.fe2o3_scram_record_make, struct, version, password, prepared, salt, iterations)
         return cls._of(struct)
@@ -1750,18 +1789,23 @@ class Record(_Stored):
 
     @classmethod
     def mock(
-        cls, version: int, secret: Bytes, username: Text, *, salt_length: int = 16, iterations: int = 4096
+        cls,
+        version: int,
+        secret: Bytes,
+        username: Text,
+        *,
+        salt_length: int = DEFAULT_SALT_LENGTH,
+        iterations: int = DEFAULT_ITERATIONS,
     ) -> Record:
-        """Computes a mock record for a name that the server does not know, so that it answers unknown users like known
-        ones. The login then fails at its proof. The secret is 32 or more random bytes, one value for all names, kept as
-        long as the records. The salt length, at most 64, and the iteration count are those of the other records."""
-        struct, name, call = _ScramRecordStruct(), _text(username), _library.fe2o3_scram_record_mock
-        form = _number(salt_length), _number(iterations)
-        with _passing(_hidden_bytes(secret)) as given:
-            if given[1] < 32:
-                raise ValueError("the secret has fewer than 32 bytes")
-            _done(call(_number(version), *given, name, len(name), *form, ctypes.byref(struct)))
-        return cls._of(struct)
+        """Computes a mock record for a name without a record of this hash, so that the server answers it like one with a
+        record. The login then fails at its proof. The secret is 32 or more random bytes, one value for all names, kept
+        as long as the records. The salt length, at most 64, and the iteration count are those of the other records.
+        `ServerConnection` and `ServerSteps` make mock records themselves (`mock`), as does `RecordStore.record`."""
+        settings = _Mock((secret, salt_length, iterations))
+        try:
+            return cls._of(settings.record(_number(version), _text(username)))
+        finally:
+            settings.wipe()
 
     @classmethod
     def find(cls, lines: Text, username: Text, version: int) -> Record:
@@ -1822,6 +1866,126 @@ class Record(_Stored):
     def server_key(self) -> bytes:
         """The ServerKey. Anyone who has it can impersonate the server."""
         return self._digest("server_key")
+
+
+class _Mock:
+    """The settings of mock records, with a copy of their secret, which `wipe` reaches."""
+
+    __slots__ = ("_salt_length", "_secret", "iterations")
+
+    def __init__(self, settings: MockSettings) -> None:
+        form = settings if isinstance(settings, tuple) else (settings, DEFAULT_SALT_LENGTH, DEFAULT_ITERATIONS)
+        secret, salt_length, iterations = form
+        self._salt_length, self.iterations = _number(salt_length), _number(iterations)
+        if memoryview(secret).nbytes < 32:
+            raise ValueError("the secret has fewer than 32 bytes")
+        if self._salt_length > 64:
+            _done(Status.TOO_LONG)
+        if self.iterations == 0:
+            _done(Status.ZERO_ITERATIONS)
+        self._secret = _hidden_bytes(secret)
+
+    def record(self, version: int, name: bytes) -> _ScramRecordStruct:
+        """Returns the mock record of a name, which the caller wipes."""
+        struct, call = _ScramRecordStruct(), _library.fe2o3_scram_record_mock
+        secret, form = (self._secret, len(self._secret) - 1), (self._salt_length, self.iterations)
+        _done(call(version, *secret, name, len(name), *form, ctypes.byref(struct)))
+        return struct
+
+    def wipe(self) -> None:
+        _wipe(self._secret)
+
+
+#: What a server offers for each hash, in the order in which `scram users add` makes the records of a user.
+_OFFERED = {SHA_256: Offer.SCRAM_SHA_256, SHA_512: Offer.SCRAM_SHA_512, SHA_1: Offer.SCRAM_SHA_1}
+
+
+class RecordStore(_Wipeable):
+    """The records of the users in a text of lines, as `Record.line` and the program `scram users` write them:
+
+        store = RecordStore(Path("users.txt").read_bytes())
+        side = ServerConnection(store.records, mechanisms=store.hashes(), mock=store.mock_settings(secret))
+
+    Immutable until `wipe`, or the end of a `with` statement. Make a new one if the file has changed."""
+
+    __slots__ = ("_forms", "_hashes", "_users")
+
+    def __init__(self, lines: Text) -> None:
+        """Parses the lines. Raises `RecordError`, whose text has the number of the line, if any line cannot be parsed."""
+        text = _text(lines)
+        with contextlib.suppress(UnknownUser), Record.find(text, b"", SHA_1):
+            pass  # (`find` tests each line)
+        users: dict[str, list[Record]] = {}
+        forms: dict[tuple[int, int], None] = {}
+        for line in text.split(b"\n")[:-1]:
+            name, _, spelled = line.rpartition(b" ")
+            record = Record.parse(spelled)
+            users.setdefault(name.replace(b"=2C", b",").replace(b"=3D", b"=").decode("utf-8"), []).append(record)
+            forms[int(record._struct.salt_len), int(record._struct.iterations)] = None
+        shared, ranks = set(_OFFERED) if users else set(), {hash: rank for rank, hash in enumerate(_OFFERED)}
+        for records in users.values():
+            records.sort(key=lambda record: ranks[record._struct.version])
+            shared &= {int(record._struct.version) for record in records}
+        self._users: Optional[dict[str, list[Record]]] = users
+        self._forms = list(forms)
+        self._hashes = Offer(0)
+        for hash in shared:
+            self._hashes |= _OFFERED[hash]
+
+    def records(self, name: str) -> list[Record]:
+        """Returns the records of a user, those of SHA-256 first, of which PLAIN takes the first; none for an unknown name.
+        Pass this method to `ServerConnection` or `ServerSteps`."""
+        return list(self._known().get(name, ()))
+
+    def hashes(self) -> Offer:
+        """Returns the hashes for which every user has a record, as a server offers them; none if there is no user. Offer
+        only these: a user cannot log in by a hash for which it has no record, and many clients select the strongest."""
+        self._alive()
+        return self._hashes
+
+    def forms(self) -> list[tuple[int, int]]:
+        """Returns each salt length with an iteration count that records have, in the order of their first lines. If there
+        are several, the answers show which names exist, since mock records have one."""
+        self._alive()
+        return list(self._forms)
+
+    def mock_settings(self, secret: Bytes) -> tuple[Bytes, int, int]:
+        """Returns the settings of mock records that look like the records of the store: this secret, of 32 or more random
+        bytes, with the salt length and the iteration count of the first line. Without lines these are
+        DEFAULT_SALT_LENGTH and DEFAULT_ITERATIONS."""
+        salt_length, iterations = (self.forms() or [(DEFAULT_SALT_LENGTH, DEFAULT_ITERATIONS)])[0]
+        return secret, salt_length, iterations
+
+    def record(self, name: str, version: int, mock_secret: Optional[Bytes] = None) -> Record:
+        """Returns the first record of a user and a hash, for `Server` and `plain_verify`. If there is none, returns a mock
+        record by this secret and `mock_settings`, so that the answers do not show which names exist. Without a secret it
+        raises `UnknownUser`."""
+        for record in self._known().get(name, ()):
+            if record.version == version:
+                return record
+        if mock_secret is None:
+            raise _refusal(Status.NO_SUCH_USER)
+        secret, salt_length, iterations = self.mock_settings(mock_secret)
+        return Record.mock(version, secret, name, salt_length=salt_length, iterations=iterations)
+
+    def _known(self) -> dict[str, list[Record]]:
+        users = self._users
+        self._alive()
+        return users or {}
+
+    def _is_wiped(self) -> bool:
+        return self._users is None
+
+    def wipe(self) -> None:
+        """Wipes the records (`Record.wipe`), also those that calls have returned. After that each method raises `Wiped`.
+        Calling `wipe` again does nothing. The end of a `with` statement calls it."""
+        users, self._users = self._users, None
+        for records in (users or {}).values():
+            for record in records:
+                record.wipe()
+
+    def _shown(self) -> str:
+        return f"users={len(self._known())}"
 
 
 #: The versions of TLS of which the first Finished message identifies a connection (RFC 5929, section 3; RFC 9266).
@@ -1955,13 +2119,15 @@ class Client(_Guarded):
         challenge, before an outcome without data (RFC 4422, section 5).
 
         The client binds `channel`, by the mechanism with `-PLUS` (`mechanism`). If the server did not offer that one,
-        set `plus_offered` to False: the client then binds nothing, and its GS2 header is `y,,`. A server that offered
-        it rejects this header, so that nobody on the way can remove the mechanism from the offer (RFC 5802, section 6).
-        Without a channel the GS2 header is `n,,`.
+        set `plus_offered` to False: the client then binds nothing, and its GS2 header is `y,,`. A server that offers
+        `-PLUS` has to reject this header, as the servers here do (RFC 5802, section 6). The client also tests extensions:
+        nobody on the way can move text between the messages. Removing the mechanism from the offer then ends the login. A
+        server that offers `-PLUS` and accepts `y,,` does not protect against that, so log in to it only with
+        `plus_offered`. Without a channel the GS2 header is `n,,`.
 
         With `strict`, the client reads messages by the grammar of RFC 5802, section 7. The server's part of the nonce has
         to be printable and not empty, the iteration count without a sign or leading zeros, and what follows the count
-        or the signature an extension. A client that binds a channel tests the extensions in any case.
+        or the signature an extension. A client with a `channel` tests the extensions in any case.
 
         The client acts for the identity `acts_for` (RFC 4422, section 2), without escapes, or for itself if that is None
         or empty. The server has to let the user act for it. The GS2 header is then `n,a=` with the identity, and the
@@ -2199,7 +2365,7 @@ class _Connection(_Login):
             return bytes(connection.held[:8])
 
     def wants_nonce(self) -> bool:
-        """Returns whether the next step of the login may use a nonce. Only then `receive` reads random bytes."""
+        """Returns whether the next step of the login may use a nonce. `receive` passes fresh random bytes in any case."""
         with self._lock:
             return bool(_library.fe2o3_sasl_wants_nonce(ctypes.byref(self._struct.connection)))
 
@@ -2216,10 +2382,6 @@ class _Connection(_Login):
         """Returns the body of the frame that received bytes complete, which is empty if they complete none."""
         connection = ctypes.byref(self._struct.connection)
         return _written(508, lambda *room: _library.fe2o3_sasl_peek_frame(connection, data, len(data), *room))
-
-    def _nonce(self) -> bytes:
-        """Returns random bytes if the next call may use its nonce, and otherwise zeros."""
-        return secrets.token_bytes(32) if self.wants_nonce() else bytes(32)
 
 
 class _Steps(_Login):
@@ -2471,7 +2633,7 @@ class ClientConnection(_Connection, _ClientSide):
         rest, answers, taken = _bytes(data), [], ctypes.c_size_t()
         with self._lock:
             while rest and self.progress == Progress.IN_PROGRESS:
-                nonce, body = self._nonce(), self._peeked(rest)
+                nonce, body = secrets.token_bytes(32), self._peeked(rest)
                 if body:
                     self._select(body)
                 answers.append(
@@ -2528,7 +2690,8 @@ class _ServerSide(_Login):
     """A server's login: what it offers, and its records."""
 
     __slots__ = (
-        "_attempt", "_channels", "_identities_of", "_iterations", "_mechanisms", "_external_authcid", "_records_of", "_struct"
+        "_attempt", "_channels", "_external_authcid", "_identities_of", "_iterations", "_mechanisms", "_mock", "_records_of",
+        "_struct",
     )
 
     def __init__(
@@ -2536,35 +2699,54 @@ class _ServerSide(_Login):
         records_of: Callable[[str], Iterable[Record]],
         *,
         mechanisms: int = Offer.SCRAM_SHA_512 | Offer.SCRAM_SHA_256,
-        iterations: int = 4096,
+        mock: Optional[MockSettings] = None,
+        iterations: Optional[int] = None,
         external_authcid: Optional[Text] = None,
         channels: Optional[Iterable[Channel]] = None,
         identities_of: Optional[Callable[[str], Iterable[str]]] = None,
     ) -> None:
         """A login by one of the mechanisms, a sum of `Offer`:
 
-            ServerConnection(records_of, mechanisms=Offer.SCRAM_SHA_512 | Offer.SCRAM_SHA_256 | (Offer.PLAIN if tls else 0))
+            mechanisms = store.hashes() | (Offer.PLAIN if tls else 0)
+            ServerConnection(store.records, mechanisms=mechanisms, mock=store.mock_settings(secret))
 
-        `records_of` returns the records of a name, of any hashes. SCRAM with a hash uses the first record of that hash.
-        PLAIN uses the first record. For a name without records it returns `Record.mock(..)` for each hash, so that the
-        client does not learn which names exist, or none. With the iteration count PLAIN hashes the password of an
-        unknown user. EXTERNAL accepts `external_authcid`, the name that the transport has authenticated. If it is None
-        or empty, EXTERNAL is not offered, and an init for it fails.
+        `records_of` returns the records of a user, of any hashes, and none for an unknown name (`RecordStore.records`).
+        SCRAM with a hash uses the first record of that hash, and PLAIN the first record. A user cannot log in by a hash for
+        which it has no record, and many clients select the strongest. So offer only hashes for which every user has one
+        (`RecordStore.hashes`).
+
+        With `mock` the answers do not show which names exist: a name gets a mock record for each offered hash for which
+        `records_of` returns none, also the name of a known user. `mock` is a secret of 32 or more random bytes, one for
+        all names, kept as long as the records. All records need DEFAULT_SALT_LENGTH and DEFAULT_ITERATIONS then; for
+        others pass `(secret, salt_length, iterations)`. PLAIN hashes the password of an unknown user by the first mock
+        record: that of SHA-256, or otherwise that of SHA-512. Let the records of each user begin with that hash too, as
+        `RecordStore.records` returns them.
+
+        Without `mock` a name without a record is rejected at once, which shows that there is none. PLAIN hashes the
+        password of an unknown user with SHA-256 and `iterations`, by default DEFAULT_ITERATIONS. With `mock` the count
+        is that of the mock records, and `iterations` raises ValueError.
+
+        EXTERNAL accepts `external_authcid`, the name that the transport has authenticated. If it is None or empty, EXTERNAL
+        is not offered, and an init for it fails.
 
         With `channels` SCRAM is also offered with `-PLUS`: pass the channel of the connection once for each kind that the
         server accepts (`Channel`; RFC 5802, section 6). A client that supports no channel binding still logs in without
-        `-PLUS`. `Offer.ACCEPT_CBIND_FLAG_Y` then has no effect.
+        `-PLUS`. `Offer.ACCEPT_CBIND_FLAG_Y` then has no effect, and SCRAM tests extensions also without `-PLUS`
+        (`Offer.REJECT_MISPLACED`).
 
         With `identities_of` a client of SCRAM or PLAIN may name an identity to act for (RFC 4422, section 2). It returns the
         identities that a user may act for besides itself, perhaps none. A user without the right is rejected like one
         with a wrong password. After the login `acts_for` returns the identity. Such a server tests extensions like a
         strict one."""
+        if mock is not None and iterations is not None:
+            raise ValueError("the iteration count is that of the mock records")
         self._identities_of = identities_of
         self._records_of, self._mechanisms = records_of, _number(mechanisms)
-        self._iterations, self._struct = _number(iterations), self._fresh()
+        self._iterations, self._struct = _number(DEFAULT_ITERATIONS if iterations is None else iterations), self._fresh()
         self._external_authcid = _text("" if external_authcid is None else external_authcid)
         self._channels = _channels_of(channels)
         self._attempt: Optional[LoginAttempt] = None
+        self._mock = None if mock is None else _Mock(mock)
         self._lock = _Guard(self)
 
     def _fresh(self) -> Any:
@@ -2574,15 +2756,25 @@ class _ServerSide(_Login):
         raise NotImplementedError
 
     def _secrets(self) -> Iterable[Any]:
-        return [self._struct]
+        return [self._struct] if self._mock is None else [self._struct, self._mock._secret]
+
+    def _lacked(self, known: Iterable[_ScramRecordStruct]) -> list[int]:
+        """Returns the offered hashes of which these records have none."""
+        has = {record.version for record in known}
+        return [hash for hash, offer in _OFFERED.items() if self._mechanisms & offer and hash not in has]
 
     @contextlib.contextmanager
     def _config(self, name: Optional[str]) -> Iterator[_SaslServerConfigStruct]:
-        """Lends the configuration to the library, with copies of the records of this name, if there are any."""
+        """Lends the configuration to the library, with copies of the records of this name, if there are any, and mock
+        records."""
         known = b"" if name is None else _text(name)
         with contextlib.ExitStack() as stack:
             found = () if name is None else self._records_of(name)
             copies = [stack.enter_context(record._lending()) for record in found]
+            if self._mock is not None and name is not None:
+                for hash in self._lacked(copies):
+                    copies.append(self._mock.record(hash, known))
+                    stack.callback(_wipe, copies[-1])
             records = (_ScramRecordStruct * len(copies))(*copies)
             stack.callback(_wipe, records)
             accepts = self._identities_of is not None
@@ -2590,7 +2782,7 @@ class _ServerSide(_Login):
             self._alive()  # (`records_of` can wipe this side)
             yield _SaslServerConfigStruct(
                 mechanisms=self._mechanisms,
-                iterations=self._iterations,
+                iterations=self._iterations if self._mock is None else self._mock.iterations,
                 username=known,
                 username_len=len(known),
                 records=records,
@@ -2678,7 +2870,7 @@ class ServerConnection(_Connection, _ServerSide):
 
     def _step(self, data: bytes) -> tuple[bytes, int]:
         name = self._named(lambda *room: _library.fe2o3_sasl_server_claimed_user(self._struct, data, len(data), *room))
-        nonce, taken, body = self._nonce(), ctypes.c_size_t(), self._peeked(data)
+        nonce, taken, body = secrets.token_bytes(32), ctypes.c_size_t(), self._peeked(data)
         with self._config(name) as config:
             answer = _written(
                 520,
@@ -2744,7 +2936,11 @@ def _channels_of(channels: Optional[Iterable[Channel]]) -> _ServerChannelsStruct
 
 
 def _rules_of(
-    accept_cbind_flag_y: bool, strict: bool, channels: Optional[Iterable[Channel]], accept_authzid: bool
+    accept_cbind_flag_y: bool = False,
+    strict: bool = False,
+    channels: Optional[Iterable[Channel]] = None,
+    accept_authzid: bool = False,
+    reject_misplaced: bool = False,
 ) -> _ScramRulesStruct:
     """Returns the rules of a server. None for channels is a server that binds no channel."""
     return _ScramRulesStruct(
@@ -2752,6 +2948,7 @@ def _rules_of(
         strict=bool(strict),
         channels=_channels_of(channels),
         accept_authzid=bool(accept_authzid),
+        reject_misplaced=bool(reject_misplaced),
     )
 
 
@@ -2773,7 +2970,7 @@ class _ClaimedUser:
     """`Server.claimed_user`, which is called on the class or on a server."""
 
     def __get__(self, server: Optional[Server], owner: Any = None) -> Callable[[Bytes], str]:
-        rules = functools.partial(_rules_of, False, False, None, False) if server is None else server._rules_copied
+        rules = _rules_of if server is None else server._rules_copied
         return types.MethodType(self.claimed_user, rules)
 
     @staticmethod
@@ -2801,6 +2998,7 @@ class Server(_Guarded):
         strict: bool = False,
         channels: Optional[Iterable[Channel]] = None,
         accept_authzid: bool = False,
+        reject_misplaced: bool = False,
     ) -> None:
         """A server without an open challenge. The GS2 header of a client has to be `n,,`. With `accept_cbind_flag_y`
         it may also be `y,,`: the client supports channel binding, and was offered no mechanism with `-PLUS` (RFC 5802,
@@ -2814,8 +3012,12 @@ class Server(_Guarded):
         with `channels` tests the extensions in any case.
 
         With `accept_authzid` a client may name an identity to act for (RFC 5802, section 5.1): its own user, or one that
-        you pass to `final`. Such a server tests the extensions like a strict one."""
-        self._rules = _rules_of(accept_cbind_flag_y, strict, channels, accept_authzid)
+        you pass to `final`. Such a server tests the extensions like a strict one.
+
+        With `reject_misplaced`, it tests the extensions like a strict one, and nothing more: a user name may be empty. If
+        you offer a mechanism with `-PLUS` beside one without it, set it for both. Then nobody on the way can make a client
+        that has a channel log in without binding it, whatever library the client is of."""
+        self._rules = _rules_of(accept_cbind_flag_y, strict, channels, accept_authzid, reject_misplaced)
         # The record of a challenge, its struct, and its rules: set together, so that a challenge is never answered with
         # those of another.
         self._exchange = _ScramRecordStruct(), _ScramServerStruct(), self._rules
@@ -2832,7 +3034,7 @@ class Server(_Guarded):
 
     def first(self, record: Record, client_first: Bytes, *, accept_cbind_flag_y: bool = False) -> bytes:
         """Answers the client-first message with the server-first message, with a fresh nonce. The record is that of
-        the claimed user (`claimed_user`), or a `Record.mock` for an unknown one. With `accept_cbind_flag_y` the server
+        the claimed user (`claimed_user`), or a mock record (`RecordStore.record`). With `accept_cbind_flag_y` the server
         accepts the GS2 header `y,,` for this exchange, if it has no `channels`."""
         message, nonce, opened = _bytes(client_first), secrets.token_bytes(32), _ScramServerStruct()
         call, rules, known = _library.fe2o3_scram_server_first_with_rules, self._rules_copied(), record._copied()
@@ -2916,16 +3118,16 @@ def plain_verify(
     message: Bytes,
     *,
     passwords: int = PlainPasswords.TYPED,
-    iterations: int = 4096,
+    iterations: int = DEFAULT_ITERATIONS,
     identities: Optional[Iterable[str]] = None,
 ) -> bool:
     """Returns whether a message of PLAIN has the password of the user that it claims (`plain_claimed_user`), and so
     authenticates that user.
 
-    The record is that of the claimed user. For an unknown user pass a `Record.mock`, or None: the password is then
-    hashed with SHA-256 and this iteration count, and rejected. That takes as many HMAC values as the login of a known
-    user whose record has this count. `passwords`, one of `PlainPasswords`, says which password is tested for the
-    received one: by default the typed one, of printable ASCII.
+    The record is that of the claimed user. For an unknown user pass a mock record (`RecordStore.record`), or None: the
+    password is then hashed with SHA-256 and this iteration count, and rejected. That takes as many HMAC values as the
+    login of a known user whose record has this count. `passwords`, one of `PlainPasswords`, says which password is tested
+    for the received one: by default the typed one, of printable ASCII.
 
     `identities` are those that the user may act for besides itself (RFC 4422, section 2). For a message that asks for
     another one (`plain_claimed_identity`) the answer is False, as for a wrong password. None accepts the user's own name

@@ -7,9 +7,9 @@ A client:
         rest = await log_in(reader, writer, side)       # raises unless both sides are authenticated
     # `rest`, and then what `reader` returns, belong to AMQP
 
-A server, in the callback of `asyncio.start_server`:
+A server, in the callback of `asyncio.start_server`, for the users in a file (`RecordStore`):
 
-    with ServerConnection(records_of) as side:
+    with ServerConnection(store.records, mechanisms=store.hashes(), mock=store.mock_settings(secret)) as side:
         try:
             rest = await serve(reader, writer, side)
         except (Refused, OSError, asyncio.TimeoutError) as why:

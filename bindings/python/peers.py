@@ -279,7 +279,7 @@ class Login(Side):
         if challenge[:2] == b"v=":
             self.signed = challenge == self.server_final
             return b""
-        _, salt, count = challenge.split(b",")
+        _, salt, count, *_ = challenge.split(b",")
         secret = Secret(self.version, self.password, base64.b64decode(salt[2:]), int(count[2:]))
         client_final, self.server_final = secret.finals(self.bare, challenge, self.header + self.channel_data)
         return client_final

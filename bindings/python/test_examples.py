@@ -13,19 +13,21 @@ import tempfile
 import threading
 import time
 import unittest
-from concurrent.futures import ThreadPoolExecutor
+from concurrent.futures import Future, ThreadPoolExecutor
 from pathlib import Path
-from typing import Callable, Optional
+from typing import Any, Callable, Optional
 from unittest import mock
 
 from examples import broker, channel, client
 from examples.login import finish, hang_up
 from fe2o3_sasl import Client as ScramClient
-from fe2o3_sasl import Record, Refused, ServerConnection, ServerError, Status
+from fe2o3_sasl import ProtocolError, RecordStore, Refused, Server, ServerConnection, ServerError, Status
 from peers import INIT, MECHANISMS, OUTCOME, SASL_HEADER, SHA_256, SHA_512, Login, Plain, Secret, Side
-from peers import frame_of, mechanisms_frame, short
+from peers import bare_of, base64_of, frame_of, mechanisms_frame, short
 
 SALT = b"a salt of bytes!"
+#: The secret of mock records.
+SECRET = bytes(range(32))
 ENDED = "Connection: The other side ended the stream before the negotiation was complete"
 #: More than a server reads at once, and less than it discards.
 MORE = bytes(10_000)
@@ -55,13 +57,26 @@ def outcome(port: int, by: Side, messages: int) -> Optional[int]:
         return by.code
 
 
+def challenged(port: int, version: int, name: str) -> dict[bytes, bytes]:
+    """The attributes of the challenge that the broker sends to a client, which then closes."""
+    by = Login(version, name, "pencil")
+    by.begin()
+    with socket.create_connection(("127.0.0.1", port), timeout=20) as channel:
+        answer, seen = by.open(), []
+        by.answer = lambda challenge: seen.append(challenge) or b""  # type: ignore[method-assign, func-returns-value]
+        while not seen and answer:
+            channel.sendall(answer)
+            answer = by.receive(channel.recv(4096))
+    return {part[:1]: part[2:] for part in seen[0].split(b",")}
+
+
 class HangUp(unittest.TestCase):
     """A server that closes with `hang_up`, over TCP."""
 
     def serve(self, listener: socket.socket, count: int) -> None:
         for _ in range(count):
             channel, _ = listener.accept()
-            side = ServerConnection(lambda name: [Record.find(line(SHA_256, "user", "pencil"), "user", SHA_256)])
+            side = ServerConnection(RecordStore(line(SHA_256, "user", "pencil")).records)
             with contextlib.suppress(Refused):
                 finish(side, channel)
             hang_up(channel)
@@ -249,24 +264,79 @@ class Broker(unittest.IsolatedAsyncioTestCase):
         self.assertEqual(self.told(), [f"not logged in: {ENDED} ('SCRAM-SHA-256', user 'user', host 'host')"])
 
     async def test_the_secret_is_kept(self) -> None:
-        first, again = (broker.Broker(self.users, is_tls=False).records_of("nobody") for _ in range(2))
-        self.assertEqual([record.salt for record in first], [record.salt for record in again])
-        self.assertEqual([len(record.salt) for record in first], [len(SALT)] * 3)
+        settings = [broker.Broker(self.users, is_tls=False).mock for _ in range(2)]
         secret = Path(f"{self.users}.secret")
         self.assertEqual((secret.stat().st_mode & 0o777, secret.stat().st_size), (0o600, 32))
+        self.assertEqual(settings, [(secret.read_bytes(), len(SALT), 4096)] * 2)
         secret.write_bytes(b"short")
         self.assertRaises(ValueError, broker.Broker, self.users, False)
+
+    async def test_unknown_and_locked_names(self) -> None:
+        """An unknown user, a locked one and a known one get challenges of one length, by each hash, and one salt each."""
+        async with self.running(LOCK_SECONDS=60) as port:
+            for _ in range(5):
+                await self.log_in(port, "user", "pencils")
+            for version in MECHANISMS:
+                challenges = [await asyncio.to_thread(challenged, port, version, name)
+                              for name in ("user", "a,b=c", "nobody", "nobody")]
+                salts = [fields[b"s"] for fields in challenges]
+                self.assertEqual([len(salt) for salt in salts], [24] * 4)
+                self.assertEqual({fields[b"i"] for fields in challenges}, {b"4096"})
+                self.assertEqual(salts[2], salts[3])
+                self.assertNotIn(base64_of(SALT), (salts[0], salts[2]))
+                self.assertEqual(salts[1], base64_of(SALT))
 
     async def test_files_that_are_rejected(self) -> None:
         one = line(SHA_256, "user", "pencil")
         salt = f"other {Secret(SHA_256, 'pencil', SALT * 2, 4096).record_text()}\n"
         count = f"other {Secret(SHA_256, 'pencil', SALT, 4097).record_text()}\n"
-        for more in (salt, count, line(SHA_512, "other", "pencil"), one):
+        for more in (salt, count, line(SHA_512, "other", "pencil")):
             self.users.write_text(one + line(SHA_256, "third", "pencil") + more)
-            self.assertRaises(ValueError, broker.Broker, self.users, False)
-        for text in ("", one + "user SCRAM-SHA-256$4096\n"):
+            with self.assertRaisesRegex(ValueError, "have to be the same|there is no hash"):
+                broker.Broker(self.users, False)
+        self.users.write_text("")
+        with self.assertRaisesRegex(ValueError, "there is no hash"):
+            broker.Broker(self.users, False)
+        for text in (one + "user SCRAM-SHA-256$4096\n", one[:-1]):
             self.users.write_text(text)
             self.assertRaises(Refused, broker.Broker, self.users, False)
+
+
+#: What a man in the middle sends in the place of a message, of which this is the number.
+Alter = Callable[[int, bytes], bytes]
+
+
+def ended_by(call: "Future[Any]") -> Any:
+    """What a call in a thread returns or raises."""
+    return call.exception(20) or call.result()
+
+
+class Mover:
+    """A man in the middle who removes -PLUS from the offer, and moves text between the messages: what he adds to the
+    server-first message, he also puts before the client-final message."""
+
+    moved = b""
+
+    def alter(self, number: int, message: bytes) -> bytes:
+        if number == 0:
+            return b"SCRAM-SHA-256"
+        if number == 2:
+            return b"n" + message[1:]
+        if number == 3:
+            self.moved = b"c=biws," + message.split(b",")[0]
+            return message + b"," + self.moved
+        return self.moved + b"," + message if number == 4 else message
+
+
+def lax_log_in(sock: ssl.SSLSocket, username: str, password: str) -> bool:
+    """Logs in like `channel.log_in` without -PLUS, but tests no extensions. Returns whether the server is authenticated."""
+    channel.receive(sock)
+    channel.send(sock, b"SCRAM-SHA-256")
+    bare = bare_of(username, bytes(32))
+    channel.send(sock, b"y,," + bare)
+    last, expected = Secret(SHA_256, password, SALT, 4096).finals(bare, channel.receive(sock), b"y,,")
+    channel.send(sock, last)
+    return channel.receive(sock) == expected
 
 
 @unittest.skipUnless(shutil.which("openssl"), "it makes the certificates")
@@ -277,7 +347,7 @@ class Bound(unittest.TestCase):
         folder = tempfile.TemporaryDirectory()
         self.addCleanup(folder.cleanup)
         self.folder = folder.name
-        self.record = Record.make(SHA_256, "pencil", salt=SALT)
+        self.store = RecordStore(line(SHA_256, "user", "pencil"))
 
     def certify(self, name: str, hash: str = "sha256") -> None:
         words = ["openssl", "req", "-x509", "-nodes", "-days", "2", "-subj", "/CN=localhost", "-newkey", "rsa:2048"]
@@ -301,8 +371,7 @@ class Bound(unittest.TestCase):
 
     def serve(self, far: ssl.SSLSocket, hash: str = "sha256") -> tuple[str, str]:
         certificate = ssl.PEM_cert_to_DER_cert(Path(f"{self.folder}/server.pem").read_text())
-        mock = Record.mock(SHA_256, bytes(32), "nobody", salt_length=len(SALT))
-        return channel.serve(far, lambda name: self.record if name == "user" else mock, certificate, hash)
+        return channel.serve(far, self.store, SECRET, certificate, hash)
 
     def test_logins(self) -> None:
         for hash in ("sha256", "sha384"):
@@ -348,28 +417,27 @@ class Bound(unittest.TestCase):
                     near.sendall(bytes(5000))
                 self.assertRaises(ConnectionError, served.result, 20)
 
-    def passed_on(self, alter: Callable[[int, bytes], bytes]) -> tuple[Exception, int]:
-        """A login through a man in the middle, who has a certificate that the client trusts, and may alter messages: the
-        exception of the client, and the status of the server."""
+    def passed_on(self, alter: Alter, log_in: Callable[..., Any] = channel.log_in) -> tuple[Any, Any]:
+        """A login through a man in the middle, who has a certificate that the client trusts, and may alter messages: what
+        the client and the server return or raise."""
         near, middle = self.connect("other", ssl.TLSVersion.TLSv1_2)
         beyond, far = self.connect("server", ssl.TLSVersion.TLSv1_2)
 
         def relay() -> None:
             to_client, to_server = (beyond, middle), (middle, beyond)
             ways = (to_client, to_server, to_server, to_client, to_server, to_client)
-            for number, (source, target) in enumerate(ways):
-                channel.send(target, alter(number, channel.receive(source)))
+            try:
+                for number, (source, target) in enumerate(ways):
+                    channel.send(target, alter(number, channel.receive(source)))
+            finally:
+                beyond.close()
 
         with ThreadPoolExecutor() as threads:
             served, relayed = threads.submit(self.serve, far), threads.submit(relay)
-            with self.assertRaises((ConnectionError, ServerError)) as caught:
-                channel.log_in(near, "user", "pencil")
-            with self.assertRaises(Refused) as refused:
-                served.result(20)
+            ended = ended_by(threads.submit(log_in, near, "user", "pencil"))
             near.close()
-            beyond.close()
             relayed.exception(20)
-        return caught.exception, refused.exception.status
+            return ended, ended_by(served)
 
     def test_a_man_in_the_middle(self) -> None:
         self.certify("server")
@@ -384,15 +452,36 @@ class Bound(unittest.TestCase):
         def without_header(number: int, message: bytes) -> bytes:
             return b"n" + message[1:] if number == 2 else without_plus(number, message)
 
-        why, status = self.passed_on(unaltered)
-        assert isinstance(why, ServerError)
-        self.assertEqual((why.error, status), ("channel-bindings-dont-match", Status.SERVER_INVALID_CHANNEL_BINDING))
-        why, status = self.passed_on(without_plus)
+        for alter in (unaltered, without_header):
+            why, refused = self.passed_on(alter)
+            self.assertIsInstance(why, ServerError)
+            self.assertEqual(why.error, "channel-bindings-dont-match")
+            self.assertEqual(refused.status, Status.SERVER_INVALID_CHANNEL_BINDING)
+        why, refused = self.passed_on(without_plus)
         self.assertIsInstance(why, ConnectionError)
-        self.assertEqual(status, Status.SERVER_CANNOT_PARSE_GS2_HEADER)
-        why, status = self.passed_on(without_header)
-        assert isinstance(why, ServerError)
-        self.assertEqual((why.error, status), ("channel-bindings-dont-match", Status.SERVER_INVALID_CHANNEL_BINDING))
+        self.assertEqual(refused.status, Status.SERVER_CANNOT_PARSE_GS2_HEADER)
+
+    def test_moved_text(self) -> None:
+        """The man in the middle removes -PLUS from the offer, and moves text between the messages, so that both sides would
+        have the same AuthMessage. Each side refuses by itself, whatever the other one tests."""
+        self.certify("server")
+        self.certify("other")
+
+        def lax(channels: Any, reject_misplaced: bool) -> Server:
+            return Server(channels=channels)
+
+        why, refused = self.passed_on(Mover().alter)
+        self.assertIsInstance(why, ProtocolError)
+        self.assertEqual(why.status, Status.CLIENT_MISPLACED_ATTRIBUTE)
+        self.assertIsInstance(refused, ConnectionError)
+        why, refused = self.passed_on(Mover().alter, lax_log_in)
+        self.assertEqual((why, refused.status), (False, Status.SERVER_MISPLACED_ATTRIBUTE))
+        with mock.patch.object(channel, "Server", lax):
+            why, refused = self.passed_on(Mover().alter)
+            self.assertEqual(why.status, Status.CLIENT_MISPLACED_ATTRIBUTE)
+            self.assertIsInstance(refused, ConnectionError)
+            # (two sides that test nothing log in: the texts above are those of the attack)
+            self.assertEqual(self.passed_on(Mover().alter, lax_log_in), (True, ("SCRAM-SHA-256", "user")))
 
 
 class Client(unittest.IsolatedAsyncioTestCase):

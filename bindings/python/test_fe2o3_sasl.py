@@ -28,7 +28,7 @@ import fe2o3_sasl
 from examples.login import log_in, serve
 from fe2o3_sasl import SHA_1, SHA_256, SHA_512, Client, ClientConnection, Keys, Record, Refused, Server, Progress, Status
 from fe2o3_sasl import ClientSteps, Offer, ServerConnection, ServerError, ServerSteps, server_error, server_error_message
-from fe2o3_sasl import AuthenticationFailed, Channel, ChannelKind, offers
+from fe2o3_sasl import AuthenticationFailed, Channel, ChannelKind, RecordStore, offers
 from peers import (
     CHALLENGE,
     INIT,
@@ -45,6 +45,7 @@ from peers import (
     Secret,
     bare_of,
     base64_of,
+    binary,
     exclusive_or,
     fields_of,
     fields_of_last,
@@ -58,6 +59,8 @@ from peers import (
 HEADER = Path(__file__).resolve().parent.parent / "c" / "fe2o3_sasl.h"
 LIBRARY: Any = fe2o3_sasl._library
 
+#: The secret of mock records.
+SECRET = bytes(32)
 SALT = bytes(range(16))
 OTHER_SALT = bytes(range(100, 124))
 NAMES = ["user", "", "a=b,c", "=2C", "J\u00fcrgen \U0001f600", "x" * 240]
@@ -411,16 +414,22 @@ class Strict(Case):
     def test_attributes_in_the_place_of_extensions(self) -> None:
         for version, mechanism in MECHANISMS.items():
             known = of({"user": Record.make(version, "pencil", salt=SALT)})
-            for option, extension, progress in (
-                (0, b"i=4096", Progress.IN_PROGRESS),
-                (Offer.STRICT, b"i=4096", Progress.FAILED),
-                (Offer.STRICT, b"x=1", Progress.IN_PROGRESS),
+            channel = Channel(ChannelKind.TLS_EXPORTER, bytes(32))
+            for option, channels, extension, progress in (
+                (0, None, b"i=4096", Progress.IN_PROGRESS),
+                (Offer.STRICT, None, b"i=4096", Progress.FAILED),
+                (Offer.STRICT, None, b"x=1", Progress.IN_PROGRESS),
+                (Offer.REJECT_MISPLACED, None, b"i=4096", Progress.FAILED),
+                (Offer.REJECT_MISPLACED, None, b"x=1", Progress.IN_PROGRESS),
+                # A server with channels tests the extensions of SCRAM without -PLUS too.
+                (0, [channel], b"i=4096", Progress.FAILED),
+                (0, [channel], b"x=1", Progress.IN_PROGRESS),
             ):
                 message = b"n,,n=user,r=nonce," + extension
                 init = frame_of(INIT, short(0xA3, mechanism.encode()), short(0xA0, message))
-                connection = ServerConnection(known, mechanisms=OFFERS[version] | option)
+                connection = ServerConnection(known, mechanisms=OFFERS[version] | option, channels=channels)
                 connection.receive(SASL_HEADER + init)
-                steps = ServerSteps(known, mechanisms=OFFERS[version] | option)
+                steps = ServerSteps(known, mechanisms=OFFERS[version] | option, channels=channels)
                 steps.on_frame(init[4:])
                 for side in (connection, steps):
                     self.assertEqual(side.progress, progress, (extension, option))
@@ -446,14 +455,36 @@ class Strict(Case):
                     else:
                         call(message)
 
+    def test_an_empty_name(self) -> None:
+        """A server that rejects misplaced attributes tests nothing else."""
+        record = Record.make(SHA_256, "pencil", salt=SALT)
+        server = Server(reject_misplaced=True)
+        login(Client(SHA_256, "", "pencil"), server, record)
+        self.assertEqual(server.authenticated_user(), "")
+        self.refused(Status.SERVER_CANNOT_PARSE_USERNAME, Server(strict=True).first, record, b"n,,n=,r=nonce")
+
+    def test_misplaced_and_nothing_more(self) -> None:
+        record = Record.make(SHA_256, "pencil", salt=SALT)
+        server = Server(reject_misplaced=True)
+        for message in (b"n,,n=,r=nonce", b"n,,n=user,r=", b"n,,n=user,r=nonce,x=1"):
+            server.first(record, message)
+        for call in (server.claimed_user, lambda said: server.first(record, said)):
+            self.refused(Status.SERVER_MISPLACED_ATTRIBUTE, call, b"n,,n=user,r=nonce,i=4096")
+
     def test_messages(self) -> None:
+        channel = channel_of(ChannelKind.TLS_EXPORTER)
+        # A strict client and server, and ones that only test the extensions.
+        kinds: list[tuple[bool, dict[str, Any], dict[str, Any], bytes]] = [
+            (False, {}, {}, b"n,,"), (True, {"strict": True}, {"strict": True}, b"n,,"),
+            (True, {"channel": channel, "plus_offered": False}, {"reject_misplaced": True, "accept_cbind_flag_y": True}, b"y,,"),
+        ]
         for version in VERSIONS:
             known, record = Secret(version, "pencil", SALT, 4096), Record.make(version, "pencil", salt=SALT)
-            for strict in (False, True):
+            for tests, of_client, of_server, header in kinds:
                 for extension, is_attribute in EXTENSIONS.items():
-                    rejected = strict and is_attribute
-                    with self.subTest(version=version, strict=strict, extension=extension):
-                        client, server = Client(version, "user", "pencil", strict=strict), Server(strict=strict)
+                    rejected = tests and is_attribute
+                    with self.subTest(version=version, header=header, tests=tests, extension=extension):
+                        client, server = Client(version, "user", "pencil", **of_client), Server(**of_server)
                         client_first = client.first()
                         if rejected:
                             for call in (server.claimed_user, lambda said: server.first(record, said)):
@@ -468,7 +499,7 @@ class Strict(Case):
                         else:
                             client.final(server_first + extension)
                             client.first()
-                        client_final, server_final = known.finals(client_first[3:], server_first, extension=extension)
+                        client_final, server_final = known.finals(client_first[3:], server_first, header, extension)
                         if rejected:
                             self.refused(Status.SERVER_MISPLACED_ATTRIBUTE, server.final, client_final)
                         else:
@@ -618,6 +649,43 @@ class Channels(Case):
                 without = Client(version, "user", "pencil", plus_offered=offered)
                 self.assertEqual((without.mechanism(), without.first()[:3]), (mechanism, b"n,,"))
                 login(without, Server(), record)
+
+    def test_moved_text(self) -> None:
+        """A man in the middle of two channels removes -PLUS from the offer, and moves text between the messages, so that both
+        sides would have the same AuthMessage. Each side refuses by itself."""
+        own, other = channel_of(ChannelKind.TLS_EXPORTER), Channel(ChannelKind.TLS_EXPORTER, bytes(32))
+        for version, mechanism in MECHANISMS.items():
+            known, name = of({"user": Record.make(version, "pencil", salt=SALT)}), mechanism.encode()
+            for client_tests, server_tests in ((True, True), (True, False), (False, True), (False, False)):
+                client = Client(version, "user", "pencil", channel=own, plus_offered=False)
+                near: Any = ClientConnection(client) if client_tests else Login(version, "user", "pencil", b"y,,")
+                if not client_tests:
+                    near.begin()
+                far = ServerConnection(known, mechanisms=OFFERS[version], channels=[other] if server_tests else None)
+
+                def passed(data: bytes) -> bytes:
+                    answer = near.receive(data)
+                    return answer[0] if client_tests else answer
+
+                offered, _ = far.receive(near.open())
+                self.assertEqual(name + b"-PLUS" in offered, server_tests)
+                _, (_, first, *_) = fields_of(passed(SASL_HEADER + mechanisms_frame(mechanism)))
+                assert first is not None and first.startswith(b"y,,")
+                sent, _ = far.receive(frame_of(INIT, short(0xA3, name), short(0xA0, b"n" + first[1:])))
+                server_first = fields_of(sent)[1][0] or b""
+                moved = b"c=biws," + server_first.split(b",")[0]
+                response = passed(frame_of(CHALLENGE, binary(server_first + b"," + moved)))
+                if client_tests:
+                    self.assertEqual(response, b"")
+                    self.assertEqual(near.why.status, Status.CLIENT_MISPLACED_ATTRIBUTE)
+                    self.assertEqual(far.progress, Progress.IN_PROGRESS)
+                    continue
+                client_final = fields_of(response)[1][0] or b""
+                sent, _ = far.receive(frame_of(RESPONSE, binary(moved + b"," + client_final)))
+                near.receive(sent)
+                # (two sides that test nothing log in: the texts above are those of the attack)
+                self.assertEqual(far.progress, Progress.FAILED if server_tests else Progress.AUTHENTICATED)
+                self.assertEqual(near.logged_in, not server_tests)
 
     def test_both_sides_are_strict(self) -> None:
         for kind, data in DATA.items():
@@ -1354,7 +1422,7 @@ class Connections(Case):
         self.refused(Status.NO_SUCH_MECHANISM, server(64).receive, b"A")
         self.refused(Status.NO_SUCH_MECHANISM, server(128).receive, b"A")
         both_forms = Offer.PLAIN | Offer.PLAIN_PREPARED | Offer.PLAIN_SASLPREP
-        for mechanisms in (512, 1024, both_forms, Offer.PLAIN | 4096):
+        for mechanisms in (512, 1024, 4096, both_forms, Offer.PLAIN | 8192):
             self.refused(Status.NO_SUCH_MECHANISM, server(mechanisms).receive, b"A")
         self.refused(Status.NOT_UTF8, ServerConnection(nobody, external_authcid=b"\xff").receive, b"A")
 
@@ -1562,7 +1630,7 @@ class Peeks(Case):
         side.receive(SASL_HEADER + b"\0\0\2\1")
         self.assertEqual((side.progress, side.foreign_header()), (Progress.FAILED, None))
 
-    def test_nonces_are_drawn_only_for_what_uses_them(self) -> None:
+    def test_what_wants_a_nonce(self) -> None:
         known, drawn = of({"user": Record.make(SHA_256, "pencil", salt=SALT, iterations=1)}), []
 
         def draw(size: int) -> bytes:
@@ -1581,7 +1649,8 @@ class Peeks(Case):
             self.assertEqual((client.progress, server.progress), (Progress.AUTHENTICATED, Progress.AUTHENTICATED))
         # (the client has its header and the list at once, of which only the list uses the nonce)
         self.assertEqual(wanted, [False, False, True, False, False, False])
-        self.assertEqual(drawn, [32, 32])
+        # Each call of the library has its own nonce: three of the server, four of the client.
+        self.assertEqual(drawn, [32] * 7)
 
     def test_the_nonce_of_an_asked_initial_response(self) -> None:
         known, challenges = of({"user": Record.make(SHA_256, "pencil", salt=SALT, iterations=1)}), set()
@@ -2090,7 +2159,8 @@ class Steps(Case):
             (server(64), Status.NO_SUCH_MECHANISM),
             (server(128), Status.NO_SUCH_MECHANISM),
             (server(512), Status.NO_SUCH_MECHANISM),
-            (server(Offer.PLAIN | 4096), Status.NO_SUCH_MECHANISM),
+            (server(4096), Status.NO_SUCH_MECHANISM),
+            (server(Offer.PLAIN | 8192), Status.NO_SUCH_MECHANISM),
             (ServerSteps(nobody, external_authcid=b"\xff"), Status.NOT_UTF8),
         ):
             self.refused(status, side.offer)
@@ -2887,7 +2957,8 @@ class RandomStructs(Case):
         rules = self.filled(fe2o3_sasl._ScramRulesStruct)
         rules.accept_authzid, rules.identities, rules.identities_len = 0, None, 0
         channels = rules.channels
-        for struct, field in ((rules, "accept_cbind_flag_y"), (rules, "strict"), (channels, "binds_channel")):
+        flags = (rules, "accept_cbind_flag_y"), (rules, "strict"), (rules, "reject_misplaced"), (channels, "binds_channel")
+        for struct, field in flags:
             if self.chance():
                 setattr(struct, field, self.random.randrange(2))
         headers, fits = {b"n,,": (1, b""), b"y,,": (3, b"")}, True
@@ -2899,6 +2970,10 @@ class RandomStructs(Case):
             headers[b"p=" + text + b",,"] = 6 + kind, bytes(getattr(channels, name))[:size]
             fits = fits and size <= 64
         return rules, headers, fits or not channels.binds_channel
+
+    @staticmethod
+    def rejects_attributes(rules: Any) -> bool:
+        return bool(rules.strict or rules.reject_misplaced or rules.channels.binds_channel)
 
     def known_record(self) -> tuple[Any, bytes, bytes]:
         """A record with a salt of a length that fits, and the ClientKey and the StoredKey of it."""
@@ -2922,7 +2997,7 @@ class RandomStructs(Case):
             else:
                 is_named = state < 7
                 is_accepted = state == 1 or (state == 3 and rules.accept_cbind_flag_y != 0)
-            if extension == b",i=4096" and (rules.strict or rules.channels.binds_channel):
+            if extension == b",i=4096" and self.rejects_attributes(rules):
                 is_named = is_accepted = False
             message = header + b"n=user,r=nonce" + extension
             name = self.ask(claimed, (rules,), rules, message, len(message), room=256)
@@ -2955,7 +3030,10 @@ class RandomStructs(Case):
             message = said + b",p=" + base64_of(proof)
             data_of_state = dict(headers.values()).get(state, b"")
             is_accepted = fits and state in concluded and (state > 6) == bool(rules.channels.binds_channel)
-            if (state > 6 and not data_of_state) or (extension == b",i=4096" and (rules.strict or rules.channels.binds_channel)):
+            # (the GS2 header `y,,` too says that the client has a channel)
+            if extension == b",i=4096" and (state == 3 or self.rejects_attributes(rules)):
+                is_accepted = False
+            if state > 6 and not data_of_state:
                 is_accepted = False
             other, marred = fe2o3_sasl._ScramServerStruct.from_buffer_copy(server), self.marred(message)
             self.ask(final, (other, rules, record), rules, record, other, marred, len(marred), room=90)
@@ -2982,21 +3060,21 @@ class Examples(Case):
     def test_a_login(self) -> None:
         record = Record.make(SHA_256, "pencil")
         with ThreadPoolExecutor() as pool:
-            served = pool.submit(serve, self.server, of({"user": record}), False)
+            served = pool.submit(serve, self.server, RecordStore(record.line("user")), SECRET, False)
             self.assertEqual(log_in(self.client), b"")
-            self.assertEqual(served.result(), ("user", b""))
+            self.assertEqual(served.result(), (b"", "user"))
 
     def test_a_wrong_password(self) -> None:
         record = Record.make(SHA_256, "crayon")
         with ThreadPoolExecutor() as pool:
-            served = pool.submit(serve, self.server, of({"user": record}), False)
+            served = pool.submit(serve, self.server, RecordStore(record.line("user")), SECRET, False)
             self.refused(Status.REFUSED_AUTH, log_in, self.client)
             self.refused(Status.REFUSED_AUTH, served.result)
 
     def test_few_iterations(self) -> None:
         record = Record.make(SHA_256, "pencil", iterations=4095)
         with ThreadPoolExecutor() as pool:
-            served = pool.submit(serve, self.server, of({"user": record}), False)
+            served = pool.submit(serve, self.server, RecordStore(record.line("user")), SECRET, False)
             self.refused(Status.CLIENT_ITERATION_COUNT_TOO_SMALL, log_in, self.client)
             self.client.close()
             self.refused(Status.END_OF_INPUT, served.result)
@@ -3007,7 +3085,8 @@ class Examples(Case):
 
     def test_a_client_that_closes(self) -> None:
         self.client.shutdown(socket.SHUT_WR)
-        self.refused(Status.END_OF_INPUT, serve, self.server, of({}), False)
+        store = RecordStore(Record.make(SHA_256, "pencil").line("user"))
+        self.refused(Status.END_OF_INPUT, serve, self.server, store, SECRET, False)
 
 
 class Declarations(Case):

@@ -49,7 +49,7 @@ Handler = Callable[[asyncio.StreamReader, asyncio.StreamWriter], Awaitable[Any]]
 
 
 def records_of(name: str) -> list[Record]:
-    return RECORDS if name == "user" else [Record.mock(SHA_256, bytes(32), name)]
+    return RECORDS if name == "user" else []
 
 
 def client(password: str = "pencil", **options: Any) -> ClientConnection:
@@ -142,7 +142,7 @@ class Logins(Case):
                 self.assertEqual((near.mechanism(), far.authenticated_user()), (mechanism, "user"))
 
     async def test_without_a_timeout(self) -> None:
-        near, far = client(), ServerConnection(records_of)
+        near, far = client(), ServerConnection(records_of, mock=bytes(32))
         self.assertEqual(await self.joined(by(log_in, near, timeout=None), by(serve, far, timeout=None)), [b"", b""])
 
     async def test_bytes_of_amqp(self) -> None:
@@ -160,7 +160,7 @@ class Logins(Case):
         self.assertEqual((rest, far.authenticated_user()), (AMQP, "user"))
 
     async def test_many_at_once(self) -> None:
-        pairs = [(client(), ServerConnection(records_of)) for _ in range(30)]
+        pairs = [(client(), ServerConnection(records_of, mock=bytes(32))) for _ in range(30)]
         found = await asyncio.gather(*(self.joined(by(log_in, near), by(serve, far)) for near, far in pairs))
         self.assertEqual(found, [[b"", b""]] * 30)
 

@@ -28,6 +28,7 @@ from fe2o3_sasl import (
     PlainPasswords,
     Progress,
     Record,
+    RecordStore,
     Refused,
     Server,
     ServerConnection,
@@ -37,13 +38,15 @@ from fe2o3_sasl import (
     plain_verify,
     saslprep,
 )
-from peers import MECHANISMS, Secret, mechanisms_frame
+from peers import MECHANISMS, Secret, mac, mechanisms_frame
 
 SALT = b"a salt of bytes!"
 PASSWORD = "a rare p\u00e4ssword, \U0001f600"
 UTF8 = PASSWORD.encode()
 RECORD = Record.make(SHA_256, PASSWORD, prepared=True, salt=SALT)
 SECRET = Secret(SHA_256, PASSWORD, SALT, 4096)
+#: The secret of mock records.
+MOCK = b"the secret of all mock records !"
 MAKES: list[Callable[[], Any]] = [
     lambda: Client(SHA_256, "user", PASSWORD, prepared=True),
     lambda: Client(SHA_256, "user", keys=keys_of()),
@@ -56,6 +59,8 @@ MAKES: list[Callable[[], Any]] = [
     lambda: ClientSteps.select("user", PASSWORD, [*MECHANISMS.values(), "PLAIN"], prepared=True),
     lambda: ServerConnection(records_of),
     lambda: ServerSteps(records_of),
+    lambda: ServerConnection(records_of, mock=MOCK),
+    lambda: RecordStore(RECORD.line("user") + RECORD.line("other")),
 ]
 
 
@@ -69,6 +74,8 @@ def records_of(name: str) -> list[Record]:
 
 def parts(owner: Any) -> list[Any]:
     """The structs and buffers with secrets."""
+    if isinstance(owner, RecordStore):
+        return [record._struct for records in (owner._users or {}).values() for record in records]
     return [owner._struct] if isinstance(owner, (Keys, Record)) else list(owner._secrets())
 
 
@@ -127,6 +134,9 @@ class Objects(unittest.TestCase):
             **{name: [b"AMQP\3\1\0\0"] for name in ("final", "verify", "receive", "on_frame", "peek_frame")},
             "verify_salted": [bytes(32)],
             "line": ["user"],
+            "records": ["user"],
+            "record": ["user", SHA_256],
+            "mock_settings": [MOCK],
         }
         kept = {"wipe", "open"}
         kept |= {name for name in public(owner) if isinstance(vars_of(owner).get(name), classmethod)}
@@ -172,8 +182,11 @@ class Objects(unittest.TestCase):
             owner = make()
             memory = Memory(*parts(owner)).bytes()
             expected = {Keys: SECRET.client_key, Record: SECRET.stored_key, Client: UTF8, ClientConnection: UTF8}
+            expected[RecordStore] = SECRET.stored_key
             if isinstance(owner, Client) and owner._login.secret == 1:
                 expected[Client] = SECRET.client_key
+            if isinstance(owner, ServerConnection) and owner._mock is not None:
+                expected[ServerConnection] = MOCK
             if type(owner) in expected:
                 self.assertIn(expected[type(owner)], memory)
 
@@ -337,6 +350,15 @@ class Calls(unittest.TestCase):
         # Those that `_lending` copies, and those of the configuration.
         self.assertTrue(seen.has(SECRET.stored_key))
         self.assertEqual(seen.count(SECRET.stored_key), 2)
+
+    def test_mock_records_of_a_connection(self) -> None:
+        with Seen() as seen:
+            side = ServerSteps(lambda name: [], mechanisms=Offer.SCRAM_SHA_256, mock=MOCK)
+            side.on_frame(ClientSteps(Client(SHA_256, "user", "pencil")).on_frame(side.offer()))
+        stored_key = mac(SHA_256, MOCK, b"StoredKey:user")
+        self.assertTrue(seen.has(stored_key))
+        self.assertEqual(seen.count(stored_key), 2)
+        self.assertEqual(seen.count(MOCK), 0)
 
     def test_what_a_call_writes(self) -> None:
         with Seen() as seen:

@@ -1,5 +1,5 @@
-/* The exports of the library. Each calls the proved function, and then clears the stack that it used. Written by
- * tools/generate/header.py.
+/* The exports of the library. Each calls the proved function below a pad, and then clears the stack that it used. Written
+ * by tools/generate/header.py.
  *
  * The linker gives each proved function its name with `proved_` (bindings/callers.mk). */
 #include "../c/fe2o3_sasl.h"
@@ -8,7 +8,8 @@
 uint32_t proved_fe2o3_version(void);
 uint32_t fe2o3_version(void)
 {
-    uint32_t answer = proved_fe2o3_version();
+    uint32_t answer;
+    BELOW_PAD(answer = proved_fe2o3_version());
     clear_stack(depth_version);
     return answer;
 }
@@ -16,7 +17,8 @@ uint32_t fe2o3_version(void)
 size_t proved_fe2o3_size(uint32_t which);
 size_t fe2o3_size(uint32_t which)
 {
-    size_t answer = proved_fe2o3_size(which);
+    size_t answer;
+    BELOW_PAD(answer = proved_fe2o3_size(which));
     clear_stack(depth_size);
     return answer;
 }
@@ -24,7 +26,7 @@ size_t fe2o3_size(uint32_t which)
 void proved_fe2o3_status_text(uint32_t status, struct fe2o3_text *text);
 void fe2o3_status_text(uint32_t status, struct fe2o3_text *text)
 {
-    proved_fe2o3_status_text(status, text);
+    BELOW_PAD(proved_fe2o3_status_text(status, text));
     clear_stack(depth_status_text);
 }
 
@@ -33,7 +35,8 @@ uint32_t proved_fe2o3_saslprep(const uint8_t *text, size_t text_len, uint32_t un
 uint32_t fe2o3_saslprep(const uint8_t *text, size_t text_len, uint32_t unassigned, uint8_t *out, size_t out_size,
     size_t *out_len)
 {
-    uint32_t answer = proved_fe2o3_saslprep(text, text_len, unassigned, out, out_size, out_len);
+    uint32_t answer;
+    BELOW_PAD(answer = proved_fe2o3_saslprep(text, text_len, unassigned, out, out_size, out_len));
     clear_stack(depth_saslprep);
     return answer;
 }
@@ -43,8 +46,9 @@ uint32_t proved_fe2o3_scram_record_make(uint32_t version, uint32_t form, const u
 uint32_t fe2o3_scram_record_make(uint32_t version, uint32_t form, const uint8_t *password, size_t password_len,
     const uint8_t *salt, size_t salt_len, uint32_t iterations, struct fe2o3_scram_record *kept)
 {
-    uint32_t answer = proved_fe2o3_scram_record_make(version, form, password, password_len, salt, salt_len, iterations,
-        kept);
+    uint32_t answer;
+    BELOW_PAD(answer = proved_fe2o3_scram_record_make(version, form, password, password_len, salt, salt_len, iterations,
+        kept));
     clear_stack(depth_scram_record_make);
     return answer;
 }
@@ -56,8 +60,9 @@ uint32_t fe2o3_scram_record_from_fields(uint32_t version, const uint8_t *salt, s
     const uint8_t *stored_key, size_t stored_key_len, const uint8_t *server_key, size_t server_key_len,
     struct fe2o3_scram_record *kept)
 {
-    uint32_t answer = proved_fe2o3_scram_record_from_fields(version, salt, salt_len, iterations, stored_key,
-        stored_key_len, server_key, server_key_len, kept);
+    uint32_t answer;
+    BELOW_PAD(answer = proved_fe2o3_scram_record_from_fields(version, salt, salt_len, iterations, stored_key,
+        stored_key_len, server_key, server_key_len, kept));
     clear_stack(depth_scram_record_from_fields);
     return answer;
 }
@@ -68,8 +73,9 @@ uint32_t proved_fe2o3_scram_record_mock(uint32_t version, const uint8_t *secret,
 uint32_t fe2o3_scram_record_mock(uint32_t version, const uint8_t *secret, size_t secret_len, const uint8_t *username,
     size_t username_len, size_t salt_len, uint32_t iterations, struct fe2o3_scram_record *kept)
 {
-    uint32_t answer = proved_fe2o3_scram_record_mock(version, secret, secret_len, username, username_len, salt_len,
-        iterations, kept);
+    uint32_t answer;
+    BELOW_PAD(answer = proved_fe2o3_scram_record_mock(version, secret, secret_len, username, username_len, salt_len,
+        iterations, kept));
     clear_stack(depth_scram_record_mock);
     return answer;
 }
@@ -77,7 +83,8 @@ uint32_t fe2o3_scram_record_mock(uint32_t version, const uint8_t *secret, size_t
 uint32_t proved_fe2o3_scram_record_parse(const uint8_t *text, size_t text_len, struct fe2o3_scram_record *kept);
 uint32_t fe2o3_scram_record_parse(const uint8_t *text, size_t text_len, struct fe2o3_scram_record *kept)
 {
-    uint32_t answer = proved_fe2o3_scram_record_parse(text, text_len, kept);
+    uint32_t answer;
+    BELOW_PAD(answer = proved_fe2o3_scram_record_parse(text, text_len, kept));
     clear_stack(depth_scram_record_parse);
     return answer;
 }
@@ -86,7 +93,8 @@ uint32_t proved_fe2o3_scram_record_text(const struct fe2o3_scram_record *kept, u
     size_t *out_len);
 uint32_t fe2o3_scram_record_text(const struct fe2o3_scram_record *kept, uint8_t *out, size_t out_size, size_t *out_len)
 {
-    uint32_t answer = proved_fe2o3_scram_record_text(kept, out, out_size, out_len);
+    uint32_t answer;
+    BELOW_PAD(answer = proved_fe2o3_scram_record_text(kept, out, out_size, out_len));
     clear_stack(depth_scram_record_text);
     return answer;
 }
@@ -96,7 +104,8 @@ uint32_t proved_fe2o3_scram_record_verify(const struct fe2o3_scram_record *kept,
 uint32_t fe2o3_scram_record_verify(const struct fe2o3_scram_record *kept, uint32_t form, const uint8_t *password,
     size_t password_len)
 {
-    uint32_t answer = proved_fe2o3_scram_record_verify(kept, form, password, password_len);
+    uint32_t answer;
+    BELOW_PAD(answer = proved_fe2o3_scram_record_verify(kept, form, password, password_len));
     clear_stack(depth_scram_record_verify);
     return answer;
 }
@@ -106,8 +115,9 @@ uint32_t proved_fe2o3_scram_record_of_salted(uint32_t version, const uint8_t *sa
 uint32_t fe2o3_scram_record_of_salted(uint32_t version, const uint8_t *salted, size_t salted_len, const uint8_t *salt,
     size_t salt_len, uint32_t iterations, struct fe2o3_scram_record *kept)
 {
-    uint32_t answer = proved_fe2o3_scram_record_of_salted(version, salted, salted_len, salt, salt_len, iterations,
-        kept);
+    uint32_t answer;
+    BELOW_PAD(answer = proved_fe2o3_scram_record_of_salted(version, salted, salted_len, salt, salt_len, iterations,
+        kept));
     clear_stack(depth_scram_record_of_salted);
     return answer;
 }
@@ -117,7 +127,8 @@ uint32_t proved_fe2o3_scram_record_verify_salted(const struct fe2o3_scram_record
 uint32_t fe2o3_scram_record_verify_salted(const struct fe2o3_scram_record *kept, const uint8_t *salted,
     size_t salted_len)
 {
-    uint32_t answer = proved_fe2o3_scram_record_verify_salted(kept, salted, salted_len);
+    uint32_t answer;
+    BELOW_PAD(answer = proved_fe2o3_scram_record_verify_salted(kept, salted, salted_len));
     clear_stack(depth_scram_record_verify_salted);
     return answer;
 }
@@ -127,8 +138,20 @@ uint32_t proved_fe2o3_scram_lines_find(const uint8_t *lines, size_t lines_len, c
 uint32_t fe2o3_scram_lines_find(const uint8_t *lines, size_t lines_len, const uint8_t *username, size_t username_len,
     uint32_t version, size_t *line, struct fe2o3_scram_record *kept)
 {
-    uint32_t answer = proved_fe2o3_scram_lines_find(lines, lines_len, username, username_len, version, line, kept);
+    uint32_t answer;
+    BELOW_PAD(answer = proved_fe2o3_scram_lines_find(lines, lines_len, username, username_len, version, line, kept));
     clear_stack(depth_scram_lines_find);
+    return answer;
+}
+
+uint32_t proved_fe2o3_scram_lines_all_have(const uint8_t *lines, size_t lines_len, uint32_t version, size_t *line,
+    uint32_t *all);
+uint32_t fe2o3_scram_lines_all_have(const uint8_t *lines, size_t lines_len, uint32_t version, size_t *line,
+    uint32_t *all)
+{
+    uint32_t answer;
+    BELOW_PAD(answer = proved_fe2o3_scram_lines_all_have(lines, lines_len, version, line, all));
+    clear_stack(depth_scram_lines_all_have);
     return answer;
 }
 
@@ -137,7 +160,8 @@ uint32_t proved_fe2o3_scram_line(const uint8_t *username, size_t username_len, c
 uint32_t fe2o3_scram_line(const uint8_t *username, size_t username_len, const struct fe2o3_scram_record *kept,
     uint8_t *out, size_t out_size, size_t *out_len)
 {
-    uint32_t answer = proved_fe2o3_scram_line(username, username_len, kept, out, out_size, out_len);
+    uint32_t answer;
+    BELOW_PAD(answer = proved_fe2o3_scram_line(username, username_len, kept, out, out_size, out_len));
     clear_stack(depth_scram_line);
     return answer;
 }
@@ -147,8 +171,9 @@ uint32_t proved_fe2o3_scram_keys_make(uint32_t version, uint32_t form, const uin
 uint32_t fe2o3_scram_keys_make(uint32_t version, uint32_t form, const uint8_t *password, size_t password_len,
     const uint8_t *salt, size_t salt_len, uint32_t iterations, struct fe2o3_scram_keys *keys)
 {
-    uint32_t answer = proved_fe2o3_scram_keys_make(version, form, password, password_len, salt, salt_len, iterations,
-        keys);
+    uint32_t answer;
+    BELOW_PAD(answer = proved_fe2o3_scram_keys_make(version, form, password, password_len, salt, salt_len, iterations,
+        keys));
     clear_stack(depth_scram_keys_make);
     return answer;
 }
@@ -158,7 +183,9 @@ uint32_t proved_fe2o3_scram_keys_of_salted(uint32_t version, const uint8_t *salt
 uint32_t fe2o3_scram_keys_of_salted(uint32_t version, const uint8_t *salted, size_t salted_len, const uint8_t *salt,
     size_t salt_len, uint32_t iterations, struct fe2o3_scram_keys *keys)
 {
-    uint32_t answer = proved_fe2o3_scram_keys_of_salted(version, salted, salted_len, salt, salt_len, iterations, keys);
+    uint32_t answer;
+    BELOW_PAD(answer = proved_fe2o3_scram_keys_of_salted(version, salted, salted_len, salt, salt_len, iterations,
+        keys));
     clear_stack(depth_scram_keys_of_salted);
     return answer;
 }
@@ -168,7 +195,8 @@ uint32_t proved_fe2o3_scram_client_first(const struct fe2o3_login *login, struct
 uint32_t fe2o3_scram_client_first(const struct fe2o3_login *login, struct fe2o3_scram_client *client,
     const uint8_t nonce[32], uint8_t *out, size_t out_size, size_t *out_len)
 {
-    uint32_t answer = proved_fe2o3_scram_client_first(login, client, nonce, out, out_size, out_len);
+    uint32_t answer;
+    BELOW_PAD(answer = proved_fe2o3_scram_client_first(login, client, nonce, out, out_size, out_len));
     clear_stack(depth_scram_client_first);
     return answer;
 }
@@ -178,8 +206,9 @@ uint32_t proved_fe2o3_scram_client_final(const struct fe2o3_login *login, struct
 uint32_t fe2o3_scram_client_final(const struct fe2o3_login *login, struct fe2o3_scram_client *client,
     const uint8_t *server_first, size_t server_first_len, uint8_t *out, size_t out_size, size_t *out_len)
 {
-    uint32_t answer = proved_fe2o3_scram_client_final(login, client, server_first, server_first_len, out, out_size,
-        out_len);
+    uint32_t answer;
+    BELOW_PAD(answer = proved_fe2o3_scram_client_final(login, client, server_first, server_first_len, out, out_size,
+        out_len));
     clear_stack(depth_scram_client_final);
     return answer;
 }
@@ -189,7 +218,8 @@ uint32_t proved_fe2o3_scram_client_verify(const struct fe2o3_login *login, struc
 uint32_t fe2o3_scram_client_verify(const struct fe2o3_login *login, struct fe2o3_scram_client *client,
     const uint8_t *server_final, size_t server_final_len)
 {
-    uint32_t answer = proved_fe2o3_scram_client_verify(login, client, server_final, server_final_len);
+    uint32_t answer;
+    BELOW_PAD(answer = proved_fe2o3_scram_client_verify(login, client, server_final, server_final_len));
     clear_stack(depth_scram_client_verify);
     return answer;
 }
@@ -197,7 +227,8 @@ uint32_t fe2o3_scram_client_verify(const struct fe2o3_login *login, struct fe2o3
 uint32_t proved_fe2o3_scram_client_get_keys(const struct fe2o3_scram_client *client, struct fe2o3_scram_keys *keys);
 uint32_t fe2o3_scram_client_get_keys(const struct fe2o3_scram_client *client, struct fe2o3_scram_keys *keys)
 {
-    uint32_t answer = proved_fe2o3_scram_client_get_keys(client, keys);
+    uint32_t answer;
+    BELOW_PAD(answer = proved_fe2o3_scram_client_get_keys(client, keys));
     clear_stack(depth_scram_client_get_keys);
     return answer;
 }
@@ -207,7 +238,8 @@ uint32_t proved_fe2o3_scram_server_claimed_user(const uint8_t *client_first, siz
 uint32_t fe2o3_scram_server_claimed_user(const uint8_t *client_first, size_t client_first_len, uint8_t *out,
     size_t out_size, size_t *out_len)
 {
-    uint32_t answer = proved_fe2o3_scram_server_claimed_user(client_first, client_first_len, out, out_size, out_len);
+    uint32_t answer;
+    BELOW_PAD(answer = proved_fe2o3_scram_server_claimed_user(client_first, client_first_len, out, out_size, out_len));
     clear_stack(depth_scram_server_claimed_user);
     return answer;
 }
@@ -219,8 +251,9 @@ uint32_t fe2o3_scram_server_first(const struct fe2o3_scram_record *kept, struct 
     const uint8_t nonce[32], const uint8_t *client_first, size_t client_first_len, uint8_t *out, size_t out_size,
     size_t *out_len)
 {
-    uint32_t answer = proved_fe2o3_scram_server_first(kept, server, nonce, client_first, client_first_len, out,
-        out_size, out_len);
+    uint32_t answer;
+    BELOW_PAD(answer = proved_fe2o3_scram_server_first(kept, server, nonce, client_first, client_first_len, out,
+        out_size, out_len));
     clear_stack(depth_scram_server_first);
     return answer;
 }
@@ -232,8 +265,9 @@ uint32_t fe2o3_scram_server_first_with_cbind_flag_y(const struct fe2o3_scram_rec
     struct fe2o3_scram_server *server, const uint8_t nonce[32], const uint8_t *client_first, size_t client_first_len,
     uint8_t *out, size_t out_size, size_t *out_len)
 {
-    uint32_t answer = proved_fe2o3_scram_server_first_with_cbind_flag_y(kept, server, nonce, client_first,
-        client_first_len, out, out_size, out_len);
+    uint32_t answer;
+    BELOW_PAD(answer = proved_fe2o3_scram_server_first_with_cbind_flag_y(kept, server, nonce, client_first,
+        client_first_len, out, out_size, out_len));
     clear_stack(depth_scram_server_first_with_cbind_flag_y);
     return answer;
 }
@@ -243,8 +277,9 @@ uint32_t proved_fe2o3_scram_server_final(const struct fe2o3_scram_record *kept, 
 uint32_t fe2o3_scram_server_final(const struct fe2o3_scram_record *kept, struct fe2o3_scram_server *server,
     const uint8_t *client_final, size_t client_final_len, uint8_t *out, size_t out_size, size_t *out_len)
 {
-    uint32_t answer = proved_fe2o3_scram_server_final(kept, server, client_final, client_final_len, out, out_size,
-        out_len);
+    uint32_t answer;
+    BELOW_PAD(answer = proved_fe2o3_scram_server_final(kept, server, client_final, client_final_len, out, out_size,
+        out_len));
     clear_stack(depth_scram_server_final);
     return answer;
 }
@@ -254,8 +289,9 @@ uint32_t proved_fe2o3_scram_server_claimed_user_with_rules(const struct fe2o3_sc
 uint32_t fe2o3_scram_server_claimed_user_with_rules(const struct fe2o3_scram_rules *rules, const uint8_t *client_first,
     size_t client_first_len, uint8_t *out, size_t out_size, size_t *out_len)
 {
-    uint32_t answer = proved_fe2o3_scram_server_claimed_user_with_rules(rules, client_first, client_first_len, out,
-        out_size, out_len);
+    uint32_t answer;
+    BELOW_PAD(answer = proved_fe2o3_scram_server_claimed_user_with_rules(rules, client_first, client_first_len, out,
+        out_size, out_len));
     clear_stack(depth_scram_server_claimed_user_with_rules);
     return answer;
 }
@@ -267,8 +303,9 @@ uint32_t fe2o3_scram_server_first_with_rules(const struct fe2o3_scram_rules *rul
     const struct fe2o3_scram_record *kept, struct fe2o3_scram_server *server, const uint8_t nonce[32],
     const uint8_t *client_first, size_t client_first_len, uint8_t *out, size_t out_size, size_t *out_len)
 {
-    uint32_t answer = proved_fe2o3_scram_server_first_with_rules(rules, kept, server, nonce, client_first,
-        client_first_len, out, out_size, out_len);
+    uint32_t answer;
+    BELOW_PAD(answer = proved_fe2o3_scram_server_first_with_rules(rules, kept, server, nonce, client_first,
+        client_first_len, out, out_size, out_len));
     clear_stack(depth_scram_server_first_with_rules);
     return answer;
 }
@@ -280,8 +317,9 @@ uint32_t fe2o3_scram_server_final_with_rules(const struct fe2o3_scram_rules *rul
     const struct fe2o3_scram_record *kept, struct fe2o3_scram_server *server, const uint8_t *client_final,
     size_t client_final_len, uint8_t *out, size_t out_size, size_t *out_len)
 {
-    uint32_t answer = proved_fe2o3_scram_server_final_with_rules(rules, kept, server, client_final, client_final_len,
-        out, out_size, out_len);
+    uint32_t answer;
+    BELOW_PAD(answer = proved_fe2o3_scram_server_final_with_rules(rules, kept, server, client_final, client_final_len,
+        out, out_size, out_len));
     clear_stack(depth_scram_server_final_with_rules);
     return answer;
 }
@@ -291,7 +329,8 @@ uint32_t proved_fe2o3_scram_server_authenticated_user(const struct fe2o3_scram_s
 uint32_t fe2o3_scram_server_authenticated_user(const struct fe2o3_scram_server *server, uint8_t *out, size_t out_size,
     size_t *out_len)
 {
-    uint32_t answer = proved_fe2o3_scram_server_authenticated_user(server, out, out_size, out_len);
+    uint32_t answer;
+    BELOW_PAD(answer = proved_fe2o3_scram_server_authenticated_user(server, out, out_size, out_len));
     clear_stack(depth_scram_server_authenticated_user);
     return answer;
 }
@@ -301,8 +340,9 @@ uint32_t proved_fe2o3_scram_server_claimed_identity(const struct fe2o3_scram_rul
 uint32_t fe2o3_scram_server_claimed_identity(const struct fe2o3_scram_rules *rules, const uint8_t *client_first,
     size_t client_first_len, uint8_t *out, size_t out_size, size_t *out_len)
 {
-    uint32_t answer = proved_fe2o3_scram_server_claimed_identity(rules, client_first, client_first_len, out, out_size,
-        out_len);
+    uint32_t answer;
+    BELOW_PAD(answer = proved_fe2o3_scram_server_claimed_identity(rules, client_first, client_first_len, out, out_size,
+        out_len));
     clear_stack(depth_scram_server_claimed_identity);
     return answer;
 }
@@ -312,7 +352,8 @@ uint32_t proved_fe2o3_scram_server_acts_for(const struct fe2o3_scram_server *ser
 uint32_t fe2o3_scram_server_acts_for(const struct fe2o3_scram_server *server, uint8_t *out, size_t out_size,
     size_t *out_len)
 {
-    uint32_t answer = proved_fe2o3_scram_server_acts_for(server, out, out_size, out_len);
+    uint32_t answer;
+    BELOW_PAD(answer = proved_fe2o3_scram_server_acts_for(server, out, out_size, out_len));
     clear_stack(depth_scram_server_acts_for);
     return answer;
 }
@@ -320,7 +361,8 @@ uint32_t fe2o3_scram_server_acts_for(const struct fe2o3_scram_server *server, ui
 uint32_t proved_fe2o3_scram_server_error(const uint8_t *message, size_t message_len);
 uint32_t fe2o3_scram_server_error(const uint8_t *message, size_t message_len)
 {
-    uint32_t answer = proved_fe2o3_scram_server_error(message, message_len);
+    uint32_t answer;
+    BELOW_PAD(answer = proved_fe2o3_scram_server_error(message, message_len));
     clear_stack(depth_scram_server_error);
     return answer;
 }
@@ -328,14 +370,15 @@ uint32_t fe2o3_scram_server_error(const uint8_t *message, size_t message_len)
 void proved_fe2o3_scram_server_error_text(uint32_t error, struct fe2o3_text *text);
 void fe2o3_scram_server_error_text(uint32_t error, struct fe2o3_text *text)
 {
-    proved_fe2o3_scram_server_error_text(error, text);
+    BELOW_PAD(proved_fe2o3_scram_server_error_text(error, text));
     clear_stack(depth_scram_server_error_text);
 }
 
 uint32_t proved_fe2o3_scram_server_error_message(uint32_t status, uint8_t *out, size_t out_size, size_t *out_len);
 uint32_t fe2o3_scram_server_error_message(uint32_t status, uint8_t *out, size_t out_size, size_t *out_len)
 {
-    uint32_t answer = proved_fe2o3_scram_server_error_message(status, out, out_size, out_len);
+    uint32_t answer;
+    BELOW_PAD(answer = proved_fe2o3_scram_server_error_message(status, out, out_size, out_len));
     clear_stack(depth_scram_server_error_message);
     return answer;
 }
@@ -345,8 +388,9 @@ uint32_t proved_fe2o3_plain_message(const uint8_t *acts_for, size_t acts_for_len
 uint32_t fe2o3_plain_message(const uint8_t *acts_for, size_t acts_for_len, const uint8_t *username, size_t username_len,
     const uint8_t *password, size_t password_len, uint8_t *out, size_t out_size, size_t *out_len)
 {
-    uint32_t answer = proved_fe2o3_plain_message(acts_for, acts_for_len, username, username_len, password, password_len,
-        out, out_size, out_len);
+    uint32_t answer;
+    BELOW_PAD(answer = proved_fe2o3_plain_message(acts_for, acts_for_len, username, username_len, password,
+        password_len, out, out_size, out_len));
     clear_stack(depth_plain_message);
     return answer;
 }
@@ -356,7 +400,8 @@ uint32_t proved_fe2o3_plain_claimed_user(const uint8_t *message, size_t message_
 uint32_t fe2o3_plain_claimed_user(const uint8_t *message, size_t message_len, uint8_t *out, size_t out_size,
     size_t *out_len)
 {
-    uint32_t answer = proved_fe2o3_plain_claimed_user(message, message_len, out, out_size, out_len);
+    uint32_t answer;
+    BELOW_PAD(answer = proved_fe2o3_plain_claimed_user(message, message_len, out, out_size, out_len));
     clear_stack(depth_plain_claimed_user);
     return answer;
 }
@@ -366,7 +411,8 @@ uint32_t proved_fe2o3_plain_claimed_identity(const uint8_t *message, size_t mess
 uint32_t fe2o3_plain_claimed_identity(const uint8_t *message, size_t message_len, uint8_t *out, size_t out_size,
     size_t *out_len)
 {
-    uint32_t answer = proved_fe2o3_plain_claimed_identity(message, message_len, out, out_size, out_len);
+    uint32_t answer;
+    BELOW_PAD(answer = proved_fe2o3_plain_claimed_identity(message, message_len, out, out_size, out_len));
     clear_stack(depth_plain_claimed_identity);
     return answer;
 }
@@ -378,8 +424,9 @@ uint32_t fe2o3_plain_verify(const struct fe2o3_scram_record *records, size_t rec
     uint32_t iterations, uint32_t accept_authzid, const uint8_t *identities, size_t identities_len,
     const uint8_t *message, size_t message_len)
 {
-    uint32_t answer = proved_fe2o3_plain_verify(records, records_count, passwords, iterations, accept_authzid,
-        identities, identities_len, message, message_len);
+    uint32_t answer;
+    BELOW_PAD(answer = proved_fe2o3_plain_verify(records, records_count, passwords, iterations, accept_authzid,
+        identities, identities_len, message, message_len));
     clear_stack(depth_plain_verify);
     return answer;
 }
@@ -388,7 +435,8 @@ uint32_t proved_fe2o3_external_verify(const uint8_t *authcid, size_t authcid_len
     size_t message_len);
 uint32_t fe2o3_external_verify(const uint8_t *authcid, size_t authcid_len, const uint8_t *message, size_t message_len)
 {
-    uint32_t answer = proved_fe2o3_external_verify(authcid, authcid_len, message, message_len);
+    uint32_t answer;
+    BELOW_PAD(answer = proved_fe2o3_external_verify(authcid, authcid_len, message, message_len));
     clear_stack(depth_external_verify);
     return answer;
 }
@@ -396,7 +444,8 @@ uint32_t fe2o3_external_verify(const uint8_t *authcid, size_t authcid_len, const
 uint32_t proved_fe2o3_sasl_client_open(uint8_t *out, size_t out_size, size_t *out_len);
 uint32_t fe2o3_sasl_client_open(uint8_t *out, size_t out_size, size_t *out_len)
 {
-    uint32_t answer = proved_fe2o3_sasl_client_open(out, out_size, out_len);
+    uint32_t answer;
+    BELOW_PAD(answer = proved_fe2o3_sasl_client_open(out, out_size, out_len));
     clear_stack(depth_sasl_client_open);
     return answer;
 }
@@ -408,8 +457,9 @@ uint32_t fe2o3_sasl_client_receive(const struct fe2o3_sasl_login *login, struct 
     const uint8_t *bytes, size_t bytes_len, const uint8_t nonce[32], size_t *taken, uint8_t *out, size_t out_size,
     size_t *out_len)
 {
-    uint32_t answer = proved_fe2o3_sasl_client_receive(login, client, bytes, bytes_len, nonce, taken, out, out_size,
-        out_len);
+    uint32_t answer;
+    BELOW_PAD(answer = proved_fe2o3_sasl_client_receive(login, client, bytes, bytes_len, nonce, taken, out, out_size,
+        out_len));
     clear_stack(depth_sasl_client_receive);
     return answer;
 }
@@ -419,7 +469,8 @@ uint32_t proved_fe2o3_sasl_server_claimed_user(const struct fe2o3_sasl_server *s
 uint32_t fe2o3_sasl_server_claimed_user(const struct fe2o3_sasl_server *server, const uint8_t *bytes, size_t bytes_len,
     uint8_t *out, size_t out_size, size_t *out_len)
 {
-    uint32_t answer = proved_fe2o3_sasl_server_claimed_user(server, bytes, bytes_len, out, out_size, out_len);
+    uint32_t answer;
+    BELOW_PAD(answer = proved_fe2o3_sasl_server_claimed_user(server, bytes, bytes_len, out, out_size, out_len));
     clear_stack(depth_sasl_server_claimed_user);
     return answer;
 }
@@ -431,8 +482,9 @@ uint32_t fe2o3_sasl_server_receive(const struct fe2o3_sasl_server_config *config
     const uint8_t *bytes, size_t bytes_len, const uint8_t nonce[32], size_t *taken, uint8_t *out, size_t out_size,
     size_t *out_len)
 {
-    uint32_t answer = proved_fe2o3_sasl_server_receive(config, server, bytes, bytes_len, nonce, taken, out, out_size,
-        out_len);
+    uint32_t answer;
+    BELOW_PAD(answer = proved_fe2o3_sasl_server_receive(config, server, bytes, bytes_len, nonce, taken, out, out_size,
+        out_len));
     clear_stack(depth_sasl_server_receive);
     return answer;
 }
@@ -440,7 +492,8 @@ uint32_t fe2o3_sasl_server_receive(const struct fe2o3_sasl_server_config *config
 uint32_t proved_fe2o3_sasl_wants_nonce(const struct fe2o3_connection *connection);
 uint32_t fe2o3_sasl_wants_nonce(const struct fe2o3_connection *connection)
 {
-    uint32_t answer = proved_fe2o3_sasl_wants_nonce(connection);
+    uint32_t answer;
+    BELOW_PAD(answer = proved_fe2o3_sasl_wants_nonce(connection));
     clear_stack(depth_sasl_wants_nonce);
     return answer;
 }
@@ -450,7 +503,8 @@ uint32_t proved_fe2o3_sasl_peek_frame(const struct fe2o3_connection *connection,
 uint32_t fe2o3_sasl_peek_frame(const struct fe2o3_connection *connection, const uint8_t *bytes, size_t bytes_len,
     uint8_t *out, size_t out_size, size_t *out_len)
 {
-    uint32_t answer = proved_fe2o3_sasl_peek_frame(connection, bytes, bytes_len, out, out_size, out_len);
+    uint32_t answer;
+    BELOW_PAD(answer = proved_fe2o3_sasl_peek_frame(connection, bytes, bytes_len, out, out_size, out_len));
     clear_stack(depth_sasl_peek_frame);
     return answer;
 }
@@ -458,7 +512,7 @@ uint32_t fe2o3_sasl_peek_frame(const struct fe2o3_connection *connection, const 
 void proved_fe2o3_sasl_end_of_input(struct fe2o3_connection *connection);
 void fe2o3_sasl_end_of_input(struct fe2o3_connection *connection)
 {
-    proved_fe2o3_sasl_end_of_input(connection);
+    BELOW_PAD(proved_fe2o3_sasl_end_of_input(connection));
     clear_stack(depth_sasl_end_of_input);
 }
 
@@ -469,8 +523,9 @@ uint32_t fe2o3_sasl_client_step(const struct fe2o3_sasl_login *login, struct fe2
     const uint8_t *body, size_t body_len, const uint8_t nonce[32], uint32_t *progress, uint8_t *out, size_t out_size,
     size_t *out_len)
 {
-    uint32_t answer = proved_fe2o3_sasl_client_step(login, client, body, body_len, nonce, progress, out, out_size,
-        out_len);
+    uint32_t answer;
+    BELOW_PAD(answer = proved_fe2o3_sasl_client_step(login, client, body, body_len, nonce, progress, out, out_size,
+        out_len));
     clear_stack(depth_sasl_client_step);
     return answer;
 }
@@ -480,7 +535,8 @@ uint32_t proved_fe2o3_sasl_server_offer(const struct fe2o3_sasl_server_config *c
 uint32_t fe2o3_sasl_server_offer(const struct fe2o3_sasl_server_config *config, uint8_t *out, size_t out_size,
     size_t *out_len)
 {
-    uint32_t answer = proved_fe2o3_sasl_server_offer(config, out, out_size, out_len);
+    uint32_t answer;
+    BELOW_PAD(answer = proved_fe2o3_sasl_server_offer(config, out, out_size, out_len));
     clear_stack(depth_sasl_server_offer);
     return answer;
 }
@@ -490,7 +546,8 @@ uint32_t proved_fe2o3_sasl_server_step_claimed_user(const struct fe2o3_scram_ser
 uint32_t fe2o3_sasl_server_step_claimed_user(const struct fe2o3_scram_server *server, const uint8_t *body,
     size_t body_len, uint8_t *out, size_t out_size, size_t *out_len)
 {
-    uint32_t answer = proved_fe2o3_sasl_server_step_claimed_user(server, body, body_len, out, out_size, out_len);
+    uint32_t answer;
+    BELOW_PAD(answer = proved_fe2o3_sasl_server_step_claimed_user(server, body, body_len, out, out_size, out_len));
     clear_stack(depth_sasl_server_step_claimed_user);
     return answer;
 }
@@ -502,8 +559,9 @@ uint32_t fe2o3_sasl_server_step(const struct fe2o3_sasl_server_config *config, s
     const uint8_t *body, size_t body_len, const uint8_t nonce[32], uint32_t *progress, uint8_t *out, size_t out_size,
     size_t *out_len)
 {
-    uint32_t answer = proved_fe2o3_sasl_server_step(config, server, body, body_len, nonce, progress, out, out_size,
-        out_len);
+    uint32_t answer;
+    BELOW_PAD(answer = proved_fe2o3_sasl_server_step(config, server, body, body_len, nonce, progress, out, out_size,
+        out_len));
     clear_stack(depth_sasl_server_step);
     return answer;
 }
@@ -511,7 +569,8 @@ uint32_t fe2o3_sasl_server_step(const struct fe2o3_sasl_server_config *config, s
 uint32_t proved_fe2o3_sasl_view_frame(const uint8_t *body, size_t body_len, struct fe2o3_sasl_frame_view *view);
 uint32_t fe2o3_sasl_view_frame(const uint8_t *body, size_t body_len, struct fe2o3_sasl_frame_view *view)
 {
-    uint32_t answer = proved_fe2o3_sasl_view_frame(body, body_len, view);
+    uint32_t answer;
+    BELOW_PAD(answer = proved_fe2o3_sasl_view_frame(body, body_len, view));
     clear_stack(depth_sasl_view_frame);
     return answer;
 }
@@ -519,7 +578,8 @@ uint32_t fe2o3_sasl_view_frame(const uint8_t *body, size_t body_len, struct fe2o
 uint32_t proved_fe2o3_sasl_offers(const uint8_t *body, size_t body_len, const uint8_t *mechanism, size_t mechanism_len);
 uint32_t fe2o3_sasl_offers(const uint8_t *body, size_t body_len, const uint8_t *mechanism, size_t mechanism_len)
 {
-    uint32_t answer = proved_fe2o3_sasl_offers(body, body_len, mechanism, mechanism_len);
+    uint32_t answer;
+    BELOW_PAD(answer = proved_fe2o3_sasl_offers(body, body_len, mechanism, mechanism_len));
     clear_stack(depth_sasl_offers);
     return answer;
 }

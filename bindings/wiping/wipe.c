@@ -12,6 +12,8 @@ void fe2o3_wipe(void *memory, size_t len)
     set(memory, 0, len);
 }
 
+const volatile size_t pad_len = PAD;
+
 #ifdef LEAVE_STACK
 
 /* (for the tests that compare) */

@@ -11,8 +11,23 @@ enum depth {
 };
 #undef DEPTH
 
-/* Zeroes that many bytes of the stack below the caller, and the registers that a call may change. */
+/* Zeroes that many bytes of the stack below its own frame, and the registers that a call may change. */
 void clear_stack(size_t depth);
+
+/* How many bytes a wrapper leaves free between its own frame and the function that it calls. (volatile, so that a compiler
+ * cannot know the size, and allocates and frees the pad where it is declared) */
+enum { PAD = 512 };
+extern const volatile size_t pad_len;
+
+/* Makes a call below a pad. The pad is free again when `clear_stack` is called, whose own frame then lies in it. That
+ * frame has bytes that nothing writes, and so would keep what the call has left there. */
+#define BELOW_PAD(call) \
+    do { \
+        volatile unsigned char pad[pad_len]; \
+        pad[0] = 0; \
+        call; \
+        (void)pad[0]; \
+    } while (0)
 
 #if defined(__x86_64__) && defined(__GNUC__)
 #include <cpuid.h>

@@ -381,11 +381,13 @@ static const char *why_header(const struct exchange *one, const sasl_server_para
 }
 
 /* Puts into the rules what the server accepts after a client's header: `y,,` only without a channel (RFC 5802, section 6),
- * and `p=` only with the application's channel. */
+ * and `p=` only with the application's channel. If there is a channel, every header has to stay in its place, so that
+ * nobody moves from one message to another what a client says of its channel. */
 static int accept_channel(const struct exchange *one, const sasl_server_params_t *params, struct fe2o3_scram_rules *rules)
 {
     const sasl_channel_binding_t *binding = params->cbinding;
     uint32_t kind;
+    rules->reject_misplaced = binding != NULL;
     if (one->channel == SASL_CB_DISP_WANT)
         rules->accept_cbind_flag_y = !binding;
     if (one->channel != SASL_CB_DISP_USED || !binding)

@@ -24,7 +24,9 @@ enum {
     OTHER_DATA = 262144, OTHER_KIND = 524288, /* the client has another channel than the server */
     UNKNOWN_KIND = 1048576, LONG_DATA = 2097152, /* a kind and data that this plugin does not know */
     ALLOWS = 4194304, FORBIDS = 8388608, /* the server's policy lets the user act for the identity, or refuses it */
-    ZERO = 16777216 /* what answers the prompt for the identity has a zero byte */
+    ZERO = 16777216, /* what answers the prompt for the identity has a zero byte */
+    SERVER_HAS = 33554432, /* the server has a channel, and does not ask for it */
+    MOVES = 67108864 /* somebody on the way moves text, so that the server reads `n,,` of a client that says `y,,` */
 };
 
 /* No code of libsasl2: the login is not tried where that side is so. */
@@ -208,6 +210,19 @@ static const struct login logins[] = {
     {.what = "-PLUS removed from what the server offers", .name = "user", .password = "pencil", .side = SERVER,
         .ours = SASL_BADPROT, .theirs = SASL_BADAUTH, .says = "the client assumes",
         .flags = MAY_BIND | SERVER_BINDS | TWO_NAMES},
+    {.what = "a server that has a channel, and a client that has none", .name = "user", .password = "pencil",
+        .flags = SERVER_HAS | PLUS},
+    {.what = "a binding of both that neither asks for", .name = "user", .password = "pencil",
+        .flags = MAY_BIND | SERVER_HAS | PLUS},
+    {.what = "-PLUS removed, and the server does not ask for it", .name = "user", .password = "pencil", .side = SERVER,
+        .ours = SASL_BADPROT, .theirs = SASL_BADAUTH, .says = "the client assumes",
+        .flags = MAY_BIND | SERVER_HAS | TWO_NAMES},
+    {.what = "-PLUS removed, and the header moved", .name = "user", .password = "pencil", .side = CLIENT,
+        .ours = SASL_BADPROT, .theirs = SKIP, .says = "place of an extension",
+        .flags = MAY_BIND | SERVER_HAS | TWO_NAMES | MOVES},
+    {.what = "-PLUS removed, and the header moved", .name = "user", .password = "pencil", .side = SERVER,
+        .ours = SASL_BADPROT, .theirs = SKIP, .says = "place of an extension",
+        .flags = MAY_BIND | SERVER_HAS | TWO_NAMES | MOVES | THEIR_CLIENT},
     {.what = "a binding that the server asks for", .name = "user", .password = "pencil", .side = SERVER,
         .ours = SASL_BADBINDING, .theirs = SASL_BADBINDING, .flags = SERVER_BINDS},
     {.what = "another proof", .name = "user", .password = "pencil", .side = SERVER, .ours = SASL_BADAUTH,

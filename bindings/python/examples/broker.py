@@ -2,9 +2,10 @@
 
     broker.py PORT USERS [CERTIFICATE KEY AUTHORITY]
 
-USERS has a line for each user and hash (`Record.line`). `USERS.secret` is made at the first start. It has the secret of
-mock records. AUTHORITY issues the certificates of clients, which need none. Prints the port and a line for each login:
-how it ended, the mechanism, the claimed user and the hostname. Then it closes the connection, since it speaks no AMQP.
+USERS has a line for each user and hash, as `scram users add` writes them. The broker offers the hashes for which every
+user has a record. `USERS.secret` is made at the first start. It has the secret of mock records. AUTHORITY issues the
+certificates of clients, which need none. Prints the port and a line for each login: how it ended, the mechanism, the
+claimed user and the hostname. Then it closes the connection, since it speaks no AMQP.
 """
 
 from __future__ import annotations
@@ -18,9 +19,8 @@ import time
 from pathlib import Path
 
 import fe2o3_sasl_asyncio
-from fe2o3_sasl import SHA_1, SHA_256, SHA_512, CredentialsRejected, Offer, Record, Refused, ServerConnection
+from fe2o3_sasl import CredentialsRejected, Offer, Record, RecordStore, Refused, ServerConnection
 
-SCRAM = {SHA_512: Offer.SCRAM_SHA_512, SHA_256: Offer.SCRAM_SHA_256, SHA_1: Offer.SCRAM_SHA_1}
 #: The limits: of open connections, of seconds for a login, and of bytes and seconds for a close. A login ends by itself
 #: after a few frames of at most 512 bytes.
 CONNECTIONS, LOGIN_SECONDS, CLOSE_BYTES, CLOSE_SECONDS = 1000, 10, 65536, 2
@@ -32,28 +32,28 @@ class Broker:
     """What the connections share: the users, and the counts of refused logins."""
 
     def __init__(self, users: Path, is_tls: bool) -> None:
-        self.records: dict[str, list[Record]] = {}
-        for line in users.read_bytes().decode().removesuffix("\n").split("\n"):
-            name, _, text = line.rpartition(" ")
-            self.records.setdefault(name.replace("=2C", ",").replace("=3D", "="), []).append(Record.parse(text))
-        for records in self.records.values():
-            records.sort(key=lambda record: -record.version)  # PLAIN takes the first
-        forms = {tuple((one.version, len(one.salt), one.iterations) for one in user) for user in self.records.values()}
-        if len(forms) != 1:
-            raise ValueError("the hashes, salt lengths and iteration counts of all users have to be the same")
-        secret, self.form = Path(f"{users}.secret"), forms.pop()
+        self.store = RecordStore(users.read_bytes())
+        if not self.store.hashes():
+            raise ValueError("there is no hash for which every user has a record")
+        if len(self.store.forms()) > 1:
+            raise ValueError("the salt lengths and iteration counts of all users have to be the same")
+        secret = Path(f"{users}.secret")
         with contextlib.suppress(FileExistsError):
             secret.touch(0o600, exist_ok=False)
             secret.write_bytes(secrets.token_bytes(32))
-        self.secret, self.connections = secret.read_bytes(), 0
-        self.mechanisms = sum(SCRAM[version] for version, _, _ in self.form) | (Offer.PLAIN if is_tls else 0)
+        self.mock, self.connections = self.store.mock_settings(secret.read_bytes()), 0
+        self.mechanisms = self.store.hashes() | (Offer.PLAIN if is_tls else 0)
         self.refusals: dict[str, tuple[int, float]] = {}
-        self.records_of("")  # raises if the secret is too short
+        self.side("")  # raises if the secret is too short
+
+    def side(self, identity: str) -> ServerConnection:
+        """Returns a login that has not begun, of a client whose certificate has this name, if any."""
+        mechanisms = self.mechanisms | (Offer.EXTERNAL if identity else 0)
+        return ServerConnection(self.records_of, mechanisms=mechanisms, mock=self.mock, external_authcid=identity)
 
     def records_of(self, name: str) -> list[Record]:
-        """Returns the records of a user, and mock records for an unknown name or a locked one. Both take as long."""
-        mocks = [Record.mock(hash, self.secret, name, salt_length=size, iterations=n) for hash, size, n in self.form]
-        return self.records.get(name, mocks) if self.refused(name) < REFUSALS else mocks
+        """Returns the records of a user; none for an unknown name or a locked one. Both get mock records."""
+        return self.store.records(name) if self.refused(name) < REFUSALS else []
 
     def refused(self, name: str) -> int:
         """Returns the number of refused logins of a name over all connections. It ends LOCK_SECONDS after the last."""
@@ -84,8 +84,7 @@ class Broker:
     async def login(self, reader: asyncio.StreamReader, writer: asyncio.StreamWriter) -> str:
         """Serves a login, and returns how it ended, and what its last init claimed."""
         identity = certified_name(writer)
-        mechanisms = self.mechanisms | (Offer.EXTERNAL if identity else 0)
-        with ServerConnection(self.records_of, mechanisms=mechanisms, external_authcid=identity) as side:
+        with self.side(identity) as side:
             try:
                 await fe2o3_sasl_asyncio.serve(reader, writer, side, timeout=LOGIN_SECONDS)
             except Refused as why:

@@ -1,14 +1,11 @@
 """Logs in over a connected socket, as an AMQP 1.0 client and as a server, and closes it."""
 
-from __future__ import annotations
-
 import contextlib
 import socket
 import ssl
 import time
-from typing import Callable, Optional, Union
 
-from fe2o3_sasl import SHA_256, Client, ClientConnection, Offer, Progress, Record, ServerConnection
+from fe2o3_sasl import SHA_256, Client, ClientConnection, Offer, Progress, RecordStore, ServerConnection
 
 
 def log_in(sock: socket.socket) -> bytes:
@@ -19,15 +16,14 @@ def log_in(sock: socket.socket) -> bytes:
     return finish(side, sock)
 
 
-def serve(sock: socket.socket, records_of: Callable[[str], list[Record]], tls: bool) -> tuple[Optional[str], bytes]:
-    """Serves one login. `records_of` returns the records of a name, or mock records. Returns the user and AMQP's bytes."""
-    mechanisms = Offer.SCRAM_SHA_512 | Offer.SCRAM_SHA_256 | (Offer.PLAIN if tls else 0)
-    side = ServerConnection(records_of, mechanisms=mechanisms)
-    rest = finish(side, sock)
-    return side.authenticated_user(), rest
+def serve(sock: socket.socket, store: RecordStore, secret: bytes, tls: bool) -> "tuple[bytes, str | None]":
+    """Serves one login of a store's users. Returns AMQP's bytes and the user. `secret`: 32 random bytes, kept with them."""
+    mechanisms = store.hashes() | (Offer.PLAIN if tls else 0)
+    side = ServerConnection(store.records, mechanisms=mechanisms, mock=store.mock_settings(secret))
+    return finish(side, sock), side.authenticated_user()
 
 
-def finish(side: Union[ClientConnection, ServerConnection], sock: socket.socket) -> bytes:
+def finish(side: "ClientConnection | ServerConnection", sock: socket.socket) -> bytes:
     """Receives and sends until the login of either side ends."""
     rest = b""
     while side.progress == Progress.IN_PROGRESS:
@@ -35,7 +31,8 @@ def finish(side: Union[ClientConnection, ServerConnection], sock: socket.socket)
             side.end_of_input()
             break
         answer, rest = side.receive(data)
-        sock.sendall(answer)
+        if answer:
+            sock.sendall(answer)
     if side.why is not None:
         raise side.why
     return rest

@@ -1,16 +1,16 @@
-//! Serves logins over TCP on the loopback, for the user `user` with the password `pencil`, and closes each connection
-//! after its login. `server PORT`; it prints the port, which is a free one for 0, and how each login ended.
+//! Serves logins over TCP on the loopback, and closes each connection after its login: `server PORT USERS`. USERS has a line
+//! for each user and hash, as `scram users add` writes them. `USERS.secret`, which is made at the first start, has the secret
+//! of mock records. The program prints the port, which is a free one for 0, and how each login ended.
 
 use fe2o3_sasl_proved::io::{serve, LoginError, Served};
 use fe2o3_sasl_proved::*;
-use std::collections::HashMap;
 use std::error::Error;
+use std::fs::{self, OpenOptions};
 use std::io::{self, ErrorKind, Read, Write};
 use std::net::{Shutdown, TcpListener, TcpStream};
+use std::os::unix::fs::OpenOptionsExt;
 use std::time::{Duration, Instant};
-use std::{iter, thread};
-
-type Users = HashMap<String, Vec<ScramRecord>>;
+use std::{env, iter, thread};
 
 /// The time that a login may take, and the time and the bytes that a close may take.
 const LOGIN: Duration = Duration::from_secs(10);
@@ -70,7 +70,7 @@ fn with_causes(why: &LoginError) -> String {
 }
 
 /// Serves each connection in a thread.
-pub fn listen(listener: &TcpListener, server: &PasswordServer<Users>) -> io::Result<()> {
+pub fn listen(listener: &TcpListener, server: &PasswordServer<RecordStore>) -> io::Result<()> {
     for socket in listener.incoming() {
         let (socket, mut side) = (socket?, ServerNegotiation::new(server.clone()));
         thread::spawn(move || {
@@ -84,18 +84,34 @@ pub fn listen(listener: &TcpListener, server: &PasswordServer<Users>) -> io::Res
     Ok(())
 }
 
-/// Returns a server that knows one user. It offers only the hash of which every user has a record.
-pub fn example_server() -> Result<PasswordServer<Users>, Box<dyn Error>> {
-    let record = ScramRecord::from_password(ScramVersion::Sha256, "pencil", &generate_nonce(), 4096)?;
-    let users = HashMap::from([("user".to_owned(), vec![record])]);
-    let server = PasswordServer::new(users).hashes(&[ScramVersion::Sha256]);
-    Ok(server.mock_unknown_users(generate_nonce(), 32, 4096))
+/// Returns the secret of mock records in this file, which the first call makes.
+fn mock_secret(path: &str) -> io::Result<[u8; 32]> {
+    match OpenOptions::new().write(true).create_new(true).mode(0o600).open(path) {
+        Ok(mut file) => file.write_all(&generate_nonce())?,
+        Err(why) if why.kind() == ErrorKind::AlreadyExists => {}
+        Err(why) => return Err(why),
+    }
+    fs::read(path)?.try_into().map_err(|_| ErrorKind::InvalidData.into())
+}
+
+/// Returns a server for the users in a file. It offers the hashes for which every user has a record, and answers unknown
+/// users like known ones.
+pub fn server_of(users: &str) -> Result<PasswordServer<RecordStore>, Box<dyn Error>> {
+    let store = RecordStore::parse_lines(&fs::read_to_string(users)?)?;
+    let (hashes, (salt_len, iterations)) = (store.hashes(), store.mock_form());
+    if hashes.is_empty() || store.forms().len() > 1 {
+        return Err("the users need records of one hash, with one salt length and one iteration count".into());
+    }
+    let secret = mock_secret(&format!("{users}.secret"))?;
+    Ok(PasswordServer::new(store).hashes(&hashes).mock_unknown_users(secret, salt_len, iterations))
 }
 
 fn main() -> Result<(), Box<dyn Error>> {
-    let port = std::env::args().nth(1).ok_or("server PORT")?.parse()?;
-    let listener = TcpListener::bind(("127.0.0.1", port))?;
+    let words: Vec<String> = env::args().skip(1).collect();
+    let [port, users] = &words[..] else { return Err("server PORT USERS".into()) };
+    let server = server_of(users)?;
+    let listener = TcpListener::bind(("127.0.0.1", port.parse()?))?;
     println!("{}", listener.local_addr()?.port());
-    listen(&listener, &example_server()?)?;
+    listen(&listener, &server)?;
     Ok(())
 }

@@ -192,7 +192,7 @@ impl ScramClient {
     }
 
     /// Makes the client bind this channel, by the mechanism with `-PLUS` ([`Self::mechanism`]). Its GS2 header is then
-    /// `p=` with the kind of the channel, and it is strict in any case. Set the channel before the client-first message.
+    /// `p=` with the kind of the channel, and it tests extensions. Set the channel before the client-first message.
     /// If the server did not offer that mechanism, use [`Self::channel_not_offered`].
     pub fn with_channel(mut self, channel: Channel) -> Self {
         self.who.channel = ClientChannel::Bound(channel);
@@ -200,8 +200,10 @@ impl ScramClient {
     }
 
     /// Makes the client say that it has a channel, but was offered no mechanism with `-PLUS`: its GS2 header is `y,,`. A
-    /// server that did offer one rejects it, so that nobody on the way can remove the mechanism from the offer (RFC 5802,
-    /// section 6).
+    /// server that offers one has to reject this header, as the servers here do (RFC 5802, section 6). The client also tests
+    /// extensions: nobody on the way can move text between the messages. Removing the mechanism from the offer then ends the
+    /// login. A server that offers `-PLUS` and accepts `y,,` does not protect against that, so log in to it only with
+    /// [`Self::with_channel`].
     pub fn channel_not_offered(mut self) -> Self {
         self.who.channel = ClientChannel::NotOffered;
         self
@@ -240,8 +242,8 @@ impl ScramClient {
 
     /// With `is_strict`, makes the client read messages by the grammar of RFC 5802, section 7. The server's part of the
     /// nonce has to be printable and not empty, and the iteration count without a sign or leading zeros. What follows the
-    /// count or the signature has to be an extension, or [`ScramErrorKind::MisplacedAttribute`] is returned. A client that
-    /// binds a channel tests the extensions in any case.
+    /// count or the signature has to be an extension, or [`ScramErrorKind::MisplacedAttribute`] is returned. A client
+    /// with a channel tests the extensions in any case.
     pub fn strict(mut self, is_strict: bool) -> Self {
         self.who.strict = is_strict;
         self

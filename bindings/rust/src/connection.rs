@@ -5,9 +5,11 @@ use crate::client::{Who, INITIAL};
 use crate::frames::view_frame;
 use crate::keys::NO_KEYS;
 use crate::messages::plain_message;
-use crate::peeks::{end_of_input, foreign_header, nonce_for, peek_body, wants_nonce};
+use crate::peeks::{end_of_input, foreign_header, peek_body, wants_nonce};
 use crate::policies::{refusal_data, Choice};
-use crate::{sys, CachedKeys, ClientPolicy, ConnectionError, Frame, PlainError, ScramClient, ScramVersion};
+use crate::{
+    generate_nonce, sys, CachedKeys, ClientPolicy, ConnectionError, Frame, PlainError, ScramClient, ScramVersion,
+};
 use std::fmt;
 use std::marker::PhantomData;
 
@@ -294,7 +296,7 @@ impl ClientNegotiation {
             if let Some(body) = &body {
                 self.choice.select(body);
             }
-            let (taken, sent) = self.step(rest, &nonce_for(&self.state.connection))?;
+            let (taken, sent) = self.step(rest, &generate_nonce())?;
             received.taken += taken;
             received.sent.extend(sent);
             self.refusal_data = body.and_then(|body| refusal_data(self.progress(), &body));
@@ -346,7 +348,7 @@ impl ClientNegotiation {
         foreign_header(&self.state.connection)
     }
 
-    /// Returns whether the next step of the login may use a nonce. Only then [`Self::receive`] reads random bytes.
+    /// Returns whether the next step of the login may use a nonce. [`Self::receive`] passes fresh random bytes in any case.
     pub fn wants_nonce(&self) -> bool {
         wants_nonce(&self.state.connection)
     }

@@ -112,7 +112,7 @@ kinds! {
         /// The server-final message is no error of the server, and does not begin with `v=` or has another signature.
         ServerSignatureMismatch = CLIENT_SERVER_SIGNATURE_MISMATCH,
         /// A part in the place of an extension is none: after the iteration count, or after the signature. Only a client
-        /// that is strict or binds a channel returns it.
+        /// that is strict, has a channel or acts for an identity returns it.
         MisplacedAttribute = CLIENT_MISPLACED_ATTRIBUTE,
         /// The server sent this error in the place of its signature, such as `invalid-proof` for a wrong password.
         ServerError(ServerError) = SERVER_ERROR,
@@ -155,7 +155,8 @@ kinds! {
         /// No challenge is open.
         IllegalAuthenticatorState = SERVER_ILLEGAL_AUTHENTICATOR_STATE,
         /// A part in the place of an extension is none: after the nonce of the client-first message, or between the nonce
-        /// and the proof of the client-final message. Only a server that is strict or binds channels returns it.
+        /// and the proof of the client-final message. Only a server that tests extensions returns it: a strict one, one with
+        /// channels, one that accepts identities, and one with `reject_misplaced`.
         MisplacedAttribute = SERVER_MISPLACED_ATTRIBUTE,
         /// A name or a message does not fit into the struct, or the salt of the record has more than 128 bytes.
         TooLong = TOO_LONG,
@@ -229,6 +230,50 @@ kinds! {
         OutOfMemory = OUT_OF_MEMORY,
     }
 }
+
+kinds! {
+    /// Why a line of records cannot be parsed.
+    ReadLinesErrorKind {
+        /// The last line has no line feed.
+        LineFeedMissing = LINE_FEED_MISSING,
+        /// The line has no space.
+        SpaceMissing = SPACE_MISSING,
+        /// The text before the last space is not an escaped name.
+        InvalidName = INVALID_NAME,
+        /// The record does not have five fields: parts are missing or left over.
+        PartsMismatch = RECORD_PARTS_MISMATCH,
+        /// The first field of the record is not a mechanism that the library supports.
+        UnknownMechanism = RECORD_UNKNOWN_MECHANISM,
+        /// The second field of the record is not a decimal number from 1 to 4294967295 without sign or leading zeros.
+        IterationCountParseError = RECORD_ITERATION_COUNT_PARSE_ERROR,
+        /// The salt or a key is not base64.
+        Base64DecodeError = RECORD_BASE64_DECODE_ERROR,
+        /// A key is not as long as a digest of the mechanism.
+        KeyLengthMismatch = RECORD_KEY_LENGTH_MISMATCH,
+        /// The salt is longer than 128 bytes.
+        TooLong = TOO_LONG,
+        /// An allocation failed.
+        OutOfMemory = OUT_OF_MEMORY,
+    }
+}
+
+/// A line of records that cannot be parsed.
+#[derive(Clone, Copy, Debug, PartialEq, Eq)]
+pub struct ReadLinesError {
+    /// The number of the line, counted from 1; 0 if an allocation failed.
+    pub line: usize,
+
+    /// Why the line cannot be parsed.
+    pub kind: ReadLinesErrorKind,
+}
+
+impl fmt::Display for ReadLinesError {
+    fn fmt(&self, f: &mut fmt::Formatter<'_>) -> fmt::Result {
+        write!(f, "Line {}: {}", self.line, self.kind)
+    }
+}
+
+impl Error for ReadLinesError {}
 
 kinds! {
     /// Why SASLprep rejects a text.

@@ -48,6 +48,7 @@ mod server;
 mod server_error;
 mod serving;
 mod steps;
+mod stores;
 #[allow(dead_code, missing_docs)]
 #[rustfmt::skip]
 mod sys;
@@ -59,8 +60,8 @@ pub use channels::{Channel, ChannelDataLength, ChannelKind};
 pub use client::ScramClient;
 pub use connection::{ClientNegotiation, Progress, Received, SaslProfile};
 pub use errors::{
-    ConnectionError, IdentityError, PlainError, RecordError, RecordTextError, SaslprepError, ScramErrorKind,
-    ServerScramErrorKind, Status,
+    ConnectionError, IdentityError, PlainError, ReadLinesError, ReadLinesErrorKind, RecordError, RecordTextError,
+    SaslprepError, ScramErrorKind, ServerScramErrorKind, Status,
 };
 pub use frames::{offers, view_frame, Frame};
 pub use keys::CachedKeys;
@@ -73,7 +74,12 @@ pub use server::{ScramAuthenticator, ScramCredentialProvider, SingleScramCredent
 pub use server_error::ServerError;
 pub use serving::{PasswordServer, PlainPasswords, ServerNegotiation, UserRecords};
 pub use steps::{Answered, ClientSteps, ServerSteps};
+pub use stores::RecordStore;
 pub use version::ScramVersion;
 
-/// The iteration count of a credential that names none.
-pub const DEFAULT_SCRAM_ITERATIONS: u32 = 4096;
+/// The iteration count of new records and of mock records, unless you choose another one.
+pub const DEFAULT_SCRAM_ITERATIONS: u32 = sys::DEFAULT_ITERATIONS;
+
+/// The length of the salts of new records and of mock records, in bytes, unless you choose another one. The salt of
+/// [`SingleScramCredential::new`] has 32.
+pub const DEFAULT_SALT_LEN: usize = sys::DEFAULT_SALT_LEN;

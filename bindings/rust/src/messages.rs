@@ -100,8 +100,8 @@ pub fn plain_claimed_identity(message: &[u8]) -> Option<String> {
 /// The user may act for these identities besides itself (RFC 4422, section 2), which have no NUL. With `None` the server
 /// rejects a message that names another identity than its user, before it tests the password.
 ///
-/// For an unknown user pass a [`ScramRecord::mock`], or `None`: the password is then hashed with SHA-256 and this iteration
-/// count, and rejected. That takes as many HMAC values as the login of a known user whose record has this count.
+/// For an unknown user pass a mock record ([`RecordStore::record`](crate::RecordStore::record)), or `None`: the password is
+/// then hashed with SHA-256 and this iteration count, and rejected. That takes as many HMAC values as the login of a known user whose record has this count.
 pub fn plain_verify(
     record: Option<&ScramRecord>,
     passwords: PlainPasswords,

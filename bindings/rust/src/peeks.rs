@@ -1,7 +1,7 @@
 //! What both sides of a connection say between their calls, and how the other side ends it.
 
 use crate::calls::filled;
-use crate::{generate_nonce, sys, ConnectionError};
+use crate::{sys, ConnectionError};
 
 /// The most bytes of the body of a frame (AMQP 1.0, part 5, section 5.3.1).
 const BODY_MOST: usize = 508;
@@ -25,15 +25,6 @@ pub(crate) fn foreign_header(connection: &sys::Connection) -> Option<[u8; 8]> {
 pub(crate) fn wants_nonce(connection: &sys::Connection) -> bool {
     // SAFETY: the connection is borrowed and lives through the call.
     unsafe { sys::fe2o3_sasl_wants_nonce(connection) != 0 }
-}
-
-/// Returns random bytes if the next call may use its nonce, and otherwise zeros.
-pub(crate) fn nonce_for(connection: &sys::Connection) -> [u8; 32] {
-    if wants_nonce(connection) {
-        generate_nonce()
-    } else {
-        [0; 32]
-    }
 }
 
 /// Returns the body of the frame that these bytes complete, if they complete one. Nothing is taken.

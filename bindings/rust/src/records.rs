@@ -5,7 +5,7 @@ use crate::{sys, Password, RecordError, RecordTextError, ScramVersion};
 use std::fmt;
 use std::str::FromStr;
 
-const NO_RECORD: sys::ScramRecord = sys::ScramRecord {
+pub(crate) const NO_RECORD: sys::ScramRecord = sys::ScramRecord {
     version: 0,
     iterations: 0,
     salt_len: 0,
@@ -57,8 +57,9 @@ pub struct ScramRecord(pub(crate) sys::ScramRecord);
 
 impl ScramRecord {
     /// Computes the record of a password. A text is a typed password. The salt has to be random, and fresh for each
-    /// record: 16 bytes of [`generate_nonce`](crate::generate_nonce) suffice. For SCRAM-SHA-256 some clients of MongoDB
-    /// require 28.
+    /// record: the first [`DEFAULT_SALT_LEN`](crate::DEFAULT_SALT_LEN) bytes of
+    /// [`generate_nonce`](crate::generate_nonce) suffice. For SCRAM-SHA-256 some clients of MongoDB require 28. All records
+    /// of a server need one salt length and one iteration count, which are also those of its mock records.
     pub fn from_password<'a>(
         version: ScramVersion,
         password: impl Into<Password<'a>>,
@@ -108,9 +109,11 @@ impl ScramRecord {
         Ok(Self(record))
     }
 
-    /// Computes a mock record for a name that the server does not know, so that it answers unknown users like known
-    /// ones. The login then fails at its proof. The secret is 32 random bytes, one value for all names, kept as long
+    /// Computes a mock record for a name without a record of this hash, so that the server answers it like one with a
+    /// record. The login then fails at its proof. The secret is 32 random bytes, one value for all names, kept as long
     /// as the records. The salt length, at most 64, and the iteration count are those of the server's other records.
+    /// Servers make mock records themselves: see
+    /// [`PasswordServer::mock_unknown_users`](crate::PasswordServer::mock_unknown_users).
     pub fn mock(
         version: ScramVersion,
         secret: &[u8; 32],
@@ -184,6 +187,11 @@ impl ScramRecord {
     /// Returns the version.
     pub fn version(&self) -> ScramVersion {
         ScramVersion::of_record(&self.0)
+    }
+
+    /// Returns the salt length and the iteration count.
+    pub(crate) fn form(&self) -> (usize, u32) {
+        (self.0.salt_len as usize, self.0.iterations)
     }
 
     /// Returns the parts of the record.

@@ -157,7 +157,8 @@ impl MockSettings {
 /// # fn main() -> Result<(), Box<dyn std::error::Error>> {
 /// let credential = SingleScramCredential::new("user", "pencil", ScramVersion::Sha256)?;
 /// let secret = generate_nonce(); // in production, kept as long as the records
-/// let mut server = ScramAuthenticator::new(credential).mock_unknown_users(secret, 32, 4096);
+/// // (the salt of `SingleScramCredential::new` has 32 bytes)
+/// let mut server = ScramAuthenticator::new(credential).mock_unknown_users(secret, 32, DEFAULT_SCRAM_ITERATIONS);
 /// let mut client = ScramClient::new("unknown", "pencil", ScramVersion::Sha256).with_min_iterations(4096);
 ///
 /// let client_first = client.compute_client_first_message();
@@ -183,7 +184,9 @@ impl<C: ScramCredentialProvider + Clone> ScramAuthenticator<C> {
         Self { credentials, mock: None, rules: Rules::NONE, challenged: String::new(), state: NO_CHALLENGE }
     }
 
-    /// Makes the server answer an unknown user with a mock record ([`ScramRecord::mock`]).
+    /// Makes the server answer an unknown user with a mock record ([`ScramRecord::mock`]), by 32 random bytes that are kept as
+    /// long as the records. The salt length, at most 64, and the iteration count have to be those of all records. New
+    /// records have [`DEFAULT_SALT_LEN`](crate::DEFAULT_SALT_LEN) and [`DEFAULT_SCRAM_ITERATIONS`].
     pub fn mock_unknown_users(mut self, secret: [u8; 32], salt_len: usize, iterations: u32) -> Self {
         self.mock = Some(MockSettings { secret, salt_len, iterations });
         self
@@ -211,6 +214,16 @@ impl<C: ScramCredentialProvider + Clone> ScramAuthenticator<C> {
     /// in any case.
     pub fn strict(mut self, is_strict: bool) -> Self {
         self.rules.strict = is_strict.into();
+        self
+    }
+
+    /// With `reject`, makes the server reject what is no extension in the place of one
+    /// ([`ServerScramErrorKind::MisplacedAttribute`]), like a strict one, and nothing more: an empty user name is accepted. If
+    /// you offer a mechanism with `-PLUS` beside one without it, set it for both. Then nobody on the way can make a client
+    /// that has a channel log in without binding it, whatever library the client is of. A server with channels does so in
+    /// any case.
+    pub fn reject_misplaced(mut self, reject: bool) -> Self {
+        self.rules.reject_misplaced = reject.into();
         self
     }
 
@@ -372,6 +385,7 @@ pub(crate) fn joined(identities: &[String]) -> Vec<u8> {
 struct Rules {
     accept_cbind_flag_y: u32,
     strict: u32,
+    reject_misplaced: u32,
     accept_authzid: u32,
     channels: sys::ServerChannels,
 }
@@ -384,7 +398,8 @@ struct LentRules<'a> {
 
 impl Rules {
     /// The rules of a server that accepts the GS2 header `n,,` only, and is not strict.
-    const NONE: Self = Self { accept_cbind_flag_y: 0, strict: 0, accept_authzid: 0, channels: NO_CHANNELS };
+    const NONE: Self =
+        Self { accept_cbind_flag_y: 0, strict: 0, reject_misplaced: 0, accept_authzid: 0, channels: NO_CHANNELS };
 
     /// Returns the rules with these identities, joined.
     fn lend<'a>(&self, identities: &'a [u8]) -> LentRules<'a> {
@@ -393,6 +408,7 @@ impl Rules {
             strict: self.strict,
             channels: self.channels,
             accept_authzid: self.accept_authzid,
+            reject_misplaced: self.reject_misplaced,
             identities: identities.as_ptr(),
             identities_len: identities.len(),
         };

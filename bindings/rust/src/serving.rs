@@ -5,10 +5,12 @@ use crate::calls::filled;
 use crate::channels::{bound, NO_CHANNELS};
 use crate::connection::{progress_of, Progress, Received, FRESH};
 use crate::frames::view_frame;
-use crate::peeks::{end_of_input, foreign_header, nonce_for, peek_body, wants_nonce};
+use crate::peeks::{end_of_input, foreign_header, peek_body, wants_nonce};
 use crate::records::ScramRecord;
 use crate::server::{acts_for, authenticated_user, joined, MockSettings, NO_CHALLENGE};
-use crate::{sys, Channel, ConnectionError, Frame, LoginAttempt, ScramVersion, DEFAULT_SCRAM_ITERATIONS};
+use crate::{
+    generate_nonce, sys, Channel, ConnectionError, Frame, LoginAttempt, ScramVersion, DEFAULT_SCRAM_ITERATIONS,
+};
 use std::collections::HashMap;
 use std::fmt;
 use std::marker::PhantomData;
@@ -17,10 +19,15 @@ use std::sync::Arc;
 /// The most bytes that are sent at once: a header, and after it a frame (AMQP 1.0, part 5, section 5.3.1).
 const SENT_MOST: usize = 520;
 
-/// The records of users, of any hashes.
+/// The records of users, of any hashes. A [`ScramCredentialProvider`](crate::ScramCredentialProvider) is another trait, for
+/// the one hash of a [`ScramAuthenticator`](crate::ScramAuthenticator): a store for both implements both.
+///
+/// The calls return no error. If your store can fail, read the records before the call of the library, and close the
+/// connection on a failure: without records the client reads that its credentials are wrong.
 pub trait UserRecords {
     /// Returns the records of a user, whose name has no escapes; none if there is no such user. SCRAM with a hash uses
-    /// the first record of that hash, and PLAIN the first record.
+    /// the first record of that hash, and PLAIN the first record. Do not add mock records: see
+    /// [`PasswordServer::mock_unknown_users`].
     fn records(&self, username: &str) -> Vec<ScramRecord>;
 
     /// Returns the identities that a user may act for besides itself, in SCRAM and PLAIN (RFC 4422, section 2), without
@@ -60,8 +67,8 @@ fn structs(records: &[ScramRecord]) -> Vec<sys::ScramRecord> {
     records.iter().map(|record| record.0).collect()
 }
 
-/// The hashes of SCRAM, the strongest first.
-const HASHES: [ScramVersion; 3] = [ScramVersion::Sha512, ScramVersion::Sha256, ScramVersion::Sha1];
+/// The hashes of SCRAM, in the order of a user's records, of which PLAIN takes the first ([`ScramVersion::rank`]).
+const HASHES: [ScramVersion; 3] = [ScramVersion::Sha256, ScramVersion::Sha512, ScramVersion::Sha1];
 
 /// Which password PLAIN tests for the received one. User names are compared as received.
 #[derive(Clone, Copy, Debug, PartialEq, Eq)]
@@ -78,7 +85,8 @@ pub enum PlainPasswords {
 }
 
 /// A server of SCRAM, PLAIN, ANONYMOUS and EXTERNAL over the records of users. Without options it offers SCRAM-SHA-512
-/// and SCRAM-SHA-256.
+/// and SCRAM-SHA-256, and a name without a record is rejected at once, which shows that there is none. A server for the
+/// users in a file is at [`RecordStore`](crate::RecordStore).
 ///
 /// ```
 /// use fe2o3_sasl_proved::*;
@@ -87,10 +95,11 @@ pub enum PlainPasswords {
 /// # fn main() -> Result<(), Box<dyn std::error::Error>> {
 /// # let (secret, is_tls) = (generate_nonce(), false);
 /// let mut records = HashMap::new();
-/// let record = ScramRecord::from_password(ScramVersion::Sha256, "pencil", &generate_nonce(), 4096)?;
+/// let salt = &generate_nonce()[..DEFAULT_SALT_LEN];
+/// let record = ScramRecord::from_password(ScramVersion::Sha256, "pencil", salt, DEFAULT_SCRAM_ITERATIONS)?;
 /// records.insert("user".to_owned(), vec![record]);
 /// let server = PasswordServer::new(records).hashes(&[ScramVersion::Sha256]);
-/// let server = server.mock_unknown_users(secret, 32, 4096).plain_under_tls(is_tls);
+/// let server = server.mock_unknown_users(secret, DEFAULT_SALT_LEN, DEFAULT_SCRAM_ITERATIONS).plain_under_tls(is_tls);
 /// let side = ServerNegotiation::new(server);
 /// # drop(side);
 /// # Ok(())
@@ -132,14 +141,22 @@ impl<R: UserRecords + Clone> PasswordServer<R> {
         self
     }
 
-    /// Makes the server offer SCRAM with these hashes. Offer only those of which every user has a record: a user without one
-    /// cannot log in by that hash, and many clients select the strongest.
+    /// Makes the server offer SCRAM with these hashes. Offer only those of which every user has a record
+    /// ([`RecordStore::hashes`](crate::RecordStore::hashes)): a user without one cannot log in by that hash, and many clients
+    /// select the strongest.
     pub fn hashes(self, hashes: &[ScramVersion]) -> Self {
         HASHES.into_iter().fold(self, |server, version| server.with(offer_of(version), hashes.contains(&version)))
     }
 
-    /// Makes the server answer an unknown user with a mock record ([`ScramRecord::mock`]). PLAIN hashes the password of
-    /// an unknown user with the same iteration count.
+    /// Makes the answers not show which names exist: a name gets a mock record ([`ScramRecord::mock`]) for each offered hash
+    /// for which the store returns none, also the name of a known user. The secret is 32 random bytes, one value for all
+    /// names, kept as long as the records. All records need this salt length, at most 64, and this iteration count. Those
+    /// of new records are [`DEFAULT_SALT_LEN`](crate::DEFAULT_SALT_LEN) and
+    /// [`DEFAULT_SCRAM_ITERATIONS`](crate::DEFAULT_SCRAM_ITERATIONS), those of a file
+    /// [`RecordStore::mock_form`](crate::RecordStore::mock_form).
+    ///
+    /// PLAIN hashes the password of an unknown user by the first mock record: that of SHA-256, or otherwise that of
+    /// SHA-512. Let the records of each user begin with that hash too.
     pub fn mock_unknown_users(mut self, secret: [u8; 32], salt_len: usize, iterations: u32) -> Self {
         self.mock = Some(MockSettings { secret, salt_len, iterations });
         self
@@ -198,6 +215,13 @@ impl<R: UserRecords + Clone> PasswordServer<R> {
     /// then.
     pub fn strict(self, is_strict: bool) -> Self {
         self.with(sys::STRICT, is_strict)
+    }
+
+    /// With `reject`, makes SCRAM reject what is no extension in the place of one: see
+    /// [`ScramAuthenticator::reject_misplaced`](crate::ScramAuthenticator::reject_misplaced). It has no effect beside
+    /// [`PasswordServer::channels`]: such a server does so in any case.
+    pub fn reject_misplaced(self, reject: bool) -> Self {
+        self.with(sys::REJECT_MISPLACED, reject)
     }
 
     /// With `by_challenge`, makes SCRAM send the server's signature in a challenge: the outcome follows the client's empty
@@ -361,7 +385,7 @@ impl<R: UserRecords + Clone> ServerNegotiation<R> {
         name: Option<&str>,
         records: &[sys::ScramRecord],
     ) -> Result<(usize, Vec<u8>), ConnectionError> {
-        let nonce = nonce_for(&self.state.connection);
+        let nonce = generate_nonce();
         let identities = self.config.identities(name);
         let lent = self.config.lend(name, records, &identities);
         let state = &mut self.state;
@@ -405,7 +429,7 @@ impl<R: UserRecords + Clone> ServerNegotiation<R> {
         foreign_header(&self.state.connection)
     }
 
-    /// Returns whether the next step of the login may use a nonce. Only then [`Self::receive`] reads random bytes.
+    /// Returns whether the next step of the login may use a nonce. [`Self::receive`] passes fresh random bytes in any case.
     pub fn wants_nonce(&self) -> bool {
         wants_nonce(&self.state.connection)
     }
@@ -437,5 +461,32 @@ impl<R: UserRecords + Clone> ServerNegotiation<R> {
 impl<R: UserRecords + Clone> fmt::Debug for ServerNegotiation<R> {
     fn fmt(&self, f: &mut fmt::Formatter<'_>) -> fmt::Result {
         f.debug_struct("ServerNegotiation").field("progress", &self.progress()).finish_non_exhaustive()
+    }
+}
+
+#[cfg(test)]
+mod tests {
+    use super::*;
+    use crate::RecordStore;
+
+    /// What a server lends to the library for a name: the iteration count of the configuration, and the hash, the salt
+    /// length and the iteration count of each record. PLAIN takes the first.
+    fn lent(server: &PasswordServer<RecordStore>, name: &str) -> (u32, Vec<(u32, u32, u32)>) {
+        let records = server.records(Some(name)).unwrap();
+        let forms = records.iter().map(|record| (record.version, record.salt_len, record.iterations)).collect();
+        (server.lend(Some(name), &records, &[]).config.iterations, forms)
+    }
+
+    #[test]
+    fn plain_of_an_unknown_user_is_that_of_the_mock_record() {
+        let record = ScramRecord::from_password(ScramVersion::Sha512, "pencil", &[1; 20], 5000).unwrap();
+        let store = RecordStore::parse_lines(&format!("user {record}\n")).unwrap();
+        let server = PasswordServer::new(store).hashes(&HASHES).plain_under_tls(true);
+        assert_eq!(lent(&server, "nobody"), (4096, Vec::new()));
+        let mocking = server.clone().mock_unknown_users([3; 32], 20, 5000);
+        let forms = |versions: [u32; 3]| versions.map(|version| (version, 20, 5000)).to_vec();
+        assert_eq!(lent(&mocking, "nobody"), (5000, forms([256, 512, 1])));
+        assert_eq!(lent(&mocking, "user"), (5000, forms([512, 256, 1])));
+        assert_eq!(lent(&mocking.hashes(&[]), "nobody"), (5000, Vec::new()));
     }
 }

@@ -103,13 +103,15 @@ pub const CLIENT_ILLEGAL_CLIENT_STATE: u32 = 35;
 pub const CLIENT_SERVER_SIGNATURE_MISMATCH: u32 = 36;
 
 /// A part in the place of an extension is none (RFC 5802, section 7): after the iteration count, or after the
-/// signature. Only a client that is strict or binds a channel returns it.
+/// signature. Only a client that is strict, has a channel (also one that says `y,,`) or acts for somebody else returns
+/// it.
 pub const CLIENT_MISPLACED_ATTRIBUTE: u32 = 37;
 
 /// The message is not UTF-8.
 pub const SERVER_UTF8_ERROR: u32 = 40;
 
-/// The client-first message does not begin with `n,,`.
+/// The client-first message does not begin with a GS2 header that the server accepts: `n,,`, and by its rules `y,,`,
+/// `p=` with the kind of a channel, or `a=` with an identity.
 pub const SERVER_CANNOT_PARSE_GS2_HEADER: u32 = 41;
 
 /// The client-first message does not name a user: the first part after the header does not begin with `n=`, or goes on
@@ -125,13 +127,13 @@ pub const SERVER_HMAC_ERROR_INVALID_LENGTH: u32 = 44;
 /// The proof is not as long as a digest.
 pub const SERVER_XOR_LENGTH_MISMATCH: u32 = 45;
 
-/// The password is not printable ASCII.
+/// Never returned by a server, which has records and no password.
 pub const SERVER_NORMALIZE_ERROR: u32 = 46;
 
 /// The client-final message does not begin with `c=`, or its second part is absent or does not begin with `r=`.
 pub const SERVER_CANNOT_PARSE_CLIENT_FINAL_MESSAGE: u32 = 47;
 
-/// The channel binding is not `n,,`.
+/// The channel binding has another GS2 header than the client-first message, or other data than the server's channel.
 pub const SERVER_INVALID_CHANNEL_BINDING: u32 = 48;
 
 /// A channel binding or a proof is not base64.
@@ -150,8 +152,8 @@ pub const SERVER_AUTHENTICATION_FAILED: u32 = 52;
 pub const SERVER_ILLEGAL_AUTHENTICATOR_STATE: u32 = 53;
 
 /// A part in the place of an extension is none (RFC 5802, section 7): after the nonce of the client-first message, or
-/// between the nonce and the proof of the client-final message. Only a server that is strict or binds channels returns
-/// it.
+/// between the nonce and the proof of the client-final message. Only a server that tests extensions returns it
+/// (`ServerRules::is_strict`), and one that accepts the GS2 header `y,,`, to a client that sends it.
 pub const SERVER_MISPLACED_ATTRIBUTE: u32 = 54;
 
 /// The text does not have five fields: parts are missing or left over.
@@ -252,6 +254,12 @@ pub const NO_SUCH_CHANNEL: u32 = 92;
 /// The password for a message of PLAIN is empty (RFC 4616, section 2).
 pub const EMPTY_PASSWORD: u32 = 93;
 
+/// The length in bytes of the salt of a new record and of a mock record, unless you choose another one.
+pub const DEFAULT_SALT_LEN: usize = 16;
+
+/// The iteration count of a new record and of a mock record, unless you choose another one.
+pub const DEFAULT_ITERATIONS: u32 = 4096;
+
 /// `scram_version`: SCRAM-SHA-1.
 pub const SHA_1: u32 = 1;
 
@@ -287,7 +295,8 @@ pub const BY_PASSWORD: u32 = 0;
 /// `secret`: The keys.
 pub const BY_KEYS: u32 = 1;
 
-/// `secret`: The keys if they are of the server's salt and iteration count, otherwise the password.
+/// `secret`: The keys if they are of the server's salt and iteration count, otherwise the password. The login has to
+/// have both: without keys the calls return NO_KEYS.
 pub const BY_PASSWORD_AND_KEYS: u32 = 2;
 
 /// `password_form`: The password as the user typed it, which has to be printable ASCII.
@@ -299,8 +308,10 @@ pub const PREPARED: u32 = 1;
 /// `channel_use`: The client does not support channel binding, or has no channel: its GS2 header is `n,,`.
 pub const CHANNEL_ABSENT: u32 = 0;
 
-/// `channel_use`: The client has a channel, but was offered no mechanism with `-PLUS`: its GS2 header is `y,,`. A
-/// server that offered one rejects it, so that nobody on the way can remove the mechanism from the offer.
+/// `channel_use`: The client has a channel, but was offered no mechanism with `-PLUS`: its GS2 header is `y,,`. The
+/// client rejects what is no extension in the place of one, and a server that offers `-PLUS` has to reject `y,,`, as
+/// the servers here do. Nobody on the way can then remove `-PLUS` from the offer unnoticed. A server that offers
+/// `-PLUS` and accepts `y,,` does not protect against that: log in to it by CHANNEL_BOUND only.
 pub const CHANNEL_NOT_OFFERED: u32 = 1;
 
 /// `channel_use`: The client binds its channel, by a mechanism with `-PLUS`: its GS2 header is `p=` and the kind.
@@ -373,6 +384,10 @@ pub const SIGNATURE_BY_CHALLENGE: u32 = 1024;
 /// `strict` of struct fe2o3_scram_rules.
 pub const STRICT: u32 = 2048;
 
+/// `offer`: No mechanism: SCRAM rejects what is no extension in the place of one, and nothing more: see the field
+/// `reject_misplaced` of struct fe2o3_scram_rules. A server with `channels` does so in any case.
+pub const REJECT_MISPLACED: u32 = 4096;
+
 /// `progress`: The login goes on: the other side has to send more.
 pub const IN_PROGRESS: u32 = 0;
 
@@ -443,14 +458,13 @@ pub const SCRAM_SERVER_INITIAL_RESPONSE_ASKED: u32 = 5;
 /// `scram_server_state`: Like SCRAM_SERVER_INITIAL_RESPONSE_ASKED, but the init had a hostname: `bare`.
 pub const SCRAM_SERVER_INITIAL_RESPONSE_ASKED_WITH_HOSTNAME: u32 = 6;
 
-/// `scram_server_state`: A challenge is open, to a client that binds the channel by `tls-unique`. Only over messages.
+/// `scram_server_state`: A challenge is open, to a client that binds the channel by `tls-unique`.
 pub const SCRAM_SERVER_CHALLENGE_OPEN_TLS_UNIQUE: u32 = 7;
 
-/// `scram_server_state`: A challenge is open, to a client that binds the channel by `tls-server-end-point`. Only over
-/// messages.
+/// `scram_server_state`: A challenge is open, to a client that binds the channel by `tls-server-end-point`.
 pub const SCRAM_SERVER_CHALLENGE_OPEN_TLS_SERVER_END_POINT: u32 = 8;
 
-/// `scram_server_state`: A challenge is open, to a client that binds the channel by `tls-exporter`. Only over messages.
+/// `scram_server_state`: A challenge is open, to a client that binds the channel by `tls-exporter`.
 pub const SCRAM_SERVER_CHALLENGE_OPEN_TLS_EXPORTER: u32 = 9;
 
 /// `server_error`: The message is no error.
@@ -486,7 +500,7 @@ pub const SERVER_ERROR_INVALID_USERNAME_ENCODING: u32 = 9;
 /// `server_error`: `no-resources`.
 pub const SERVER_ERROR_NO_RESOURCES: u32 = 10;
 
-/// `server_error`: `other-error`, and every value that RFC 5802 does not name.
+/// `server_error`: `other-error`, and every value that RFC 5802 does not name, also the empty one.
 pub const SERVER_ERROR_OTHER_ERROR: u32 = 11;
 
 /// `frame_kind`: The list of mechanisms.
@@ -585,7 +599,7 @@ pub struct Login {
     /// the client acts for itself. The server decides whether the user may act for it.
     ///
     /// - SCRAM sends it in the GS2 header (RFC 5802, section 7). A client that names one tests the extensions like one
-    ///   that binds a channel.
+    ///   that has a channel.
     /// - PLAIN sends it as the first part of its message (RFC 4616, section 2), by `fe2o3_sasl_client_receive` and
     ///   `fe2o3_sasl_client_step`. A client that names one tests its words like a strict one.
     /// - ANONYMOUS and EXTERNAL do not send it: with one these calls return NOT_IMPLEMENTED. EXTERNAL_AS sends
@@ -605,8 +619,8 @@ pub struct Login {
     /// Whether the client is strict: it reads messages by the grammar of RFC 5802, section 7. 0 is no, any other value
     /// yes. The server's part of the nonce has to be printable and not empty (CLIENT_CLIENT_NONCE_MISMATCH), the
     /// iteration count without a sign or leading zeros (CLIENT_ITERATION_COUNT_PARSE_ERROR), and what follows the count
-    /// or the signature an extension (CLIENT_MISPLACED_ATTRIBUTE). A client that binds a channel tests the extensions
-    /// in any case.
+    /// or the signature an extension (CLIENT_MISPLACED_ATTRIBUTE). A client that has a channel or names an identity
+    /// tests the extensions in any case.
     ///
     /// A strict client sends a user name and a password by PLAIN only if a message can have them (RFC 4616, section 2).
     /// Otherwise the call returns NAMES_NO_USER or EMPTY_PASSWORD for an empty one, and PROHIBITED_CHARACTER for a zero
@@ -712,7 +726,8 @@ pub struct ScramRules {
     /// Whether the server is strict: it reads messages by the grammar of RFC 5802, section 7. 0 is no, any other value
     /// yes. A user name has to be of one or more characters and without NUL (SERVER_CANNOT_PARSE_USERNAME), a nonce
     /// printable and not empty (SERVER_CANNOT_PARSE_CLIENT_NONCE), and what follows the nonce an extension
-    /// (SERVER_MISPLACED_ATTRIBUTE). A server that binds channels tests the extensions in any case.
+    /// (SERVER_MISPLACED_ATTRIBUTE). A server that binds channels or accepts identities tests the extensions in any
+    /// case.
     pub strict: u32,
     /// The server's channel, if it is of the mechanism with `-PLUS`.
     pub channels: ServerChannels,
@@ -720,10 +735,16 @@ pub struct ScramRules {
     /// identity is of one or more characters and without NUL (SERVER_CANNOT_PARSE_GS2_HEADER), and such a server tests
     /// the extensions like a strict one. By itself the option lets each user name only itself.
     pub accept_authzid: u32,
+    /// Whether the server rejects what is no extension in the place of one (SERVER_MISPLACED_ATTRIBUTE), like a strict
+    /// one, and nothing more: an empty user name is accepted. 0 is no, any other value yes. A server that binds
+    /// channels rejects it in any case. If you offer a mechanism with `-PLUS` beside one without it, set the field for
+    /// both, and accept `y,,` by neither. Then nobody on the way can make a client that has a channel log in without
+    /// binding it, whatever library the client is of.
+    pub reject_misplaced: u32,
     /// The identities that the claimed user may act for besides itself (RFC 4422, section 2), without escapes, with a
-    /// zero byte after each. It is read with the client-final message: look up the identities of the user
-    /// (`fe2o3_scram_server_claimed_user_with_rules`), or only whether it may act for the one that the client names
-    /// (`fe2o3_scram_server_claimed_identity`). A user who may not act for the identity gets
+    /// zero byte after each but the last, which may have one too. It is read with the client-final message: look up the
+    /// identities of the user (`fe2o3_scram_server_claimed_user_with_rules`), or only whether it may act for the one
+    /// that the client names (`fe2o3_scram_server_claimed_identity`). A user who may not act for the identity gets
     /// SERVER_AUTHENTICATION_FAILED, like one with a wrong password.
     pub identities: *const u8,
     pub identities_len: usize,
@@ -779,7 +800,7 @@ pub struct SaslClient {
     /// The connection.
     pub connection: Connection,
     /// The SCRAM client. After the login it holds the keys (`fe2o3_scram_client_get_keys`). For ANONYMOUS_AS and
-    /// EXTERNAL_AS its `state` is CLIENT_FIRST_SENT after the init, until the response.
+    /// EXTERNAL_AS its `state` is SCRAM_CLIENT_FIRST_SENT after the init, until the response.
     pub scram: ScramClient,
 }
 
@@ -793,16 +814,21 @@ pub struct SaslServerConfig {
     /// With SIGNATURE_BY_CHALLENGE SCRAM's outcome OK follows the client's empty response to a challenge. With
     /// INITIAL_RESPONSE_BY_CHALLENGE an init for SCRAM or PLAIN without an initial response is answered by an empty
     /// challenge, and the response is the initial response. With STRICT SCRAM is strict, as by the field `strict` of
-    /// struct fe2o3_scram_rules.
+    /// struct fe2o3_scram_rules, and with REJECT_MISPLACED as by its field `reject_misplaced`.
     pub mechanisms: u32,
-    /// The iteration count with which PLAIN hashes the password of an unknown user.
+    /// The iteration count with which PLAIN hashes a password if no record can be read.
     pub iterations: u32,
     /// The name of the user whose records these are, without escapes.
     pub username: *const u8,
     pub username_len: usize,
-    /// The records of the user, of any hashes. SCRAM with a hash uses the first record of that hash; if there is none,
-    /// it does not know the user. PLAIN tests the password against the first record that can be read, so put mock
-    /// records last; if there is none, it hashes the password with SHA-256 and rejects the login.
+    /// The records of the user: one for each hash that is offered. For a hash of which the user has no record, pass a
+    /// mock record (`fe2o3_scram_record_mock`), also for a known user who has records of other hashes only. SCRAM uses
+    /// the first record of its hash. If there is none, it rejects the init at once, and a client can tell known users
+    /// from unknown ones.
+    ///
+    /// PLAIN tests the password against the first record that can be read, so put mock records last. It then hashes the
+    /// password of an unknown user with the hash, the salt length and the iteration count of the first mock record. If
+    /// no record can be read, it hashes the password with SHA-256 and rejects the login.
     pub records: *const ScramRecord,
     pub records_count: usize,
     /// The name of the client that the transport has authenticated, for instance by a certificate. EXTERNAL accepts it.
@@ -810,15 +836,17 @@ pub struct SaslServerConfig {
     pub external_authcid: *const u8,
     pub external_authcid_len: usize,
     /// The server's channel. If it binds channels, SCRAM is also offered with `-PLUS`, by the same hashes, and before
-    /// the other mechanisms. SCRAM without `-PLUS` then accepts no client that has seen no such mechanism (`y,,`; RFC
-    /// 5802, section 6), whatever ACCEPT_CBIND_FLAG_Y says.
+    /// the other mechanisms. SCRAM without `-PLUS` then rejects the GS2 header `y,,` (RFC 5802, section 6), whatever
+    /// ACCEPT_CBIND_FLAG_Y says. Both reject what is no extension in the place of one, as with REJECT_MISPLACED. So a
+    /// client of SCRAM that has a channel binds this one, or does not log in.
     pub channels: ServerChannels,
     /// Whether a client of SCRAM or PLAIN may name an identity to act for (RFC 5802, section 5.1; RFC 4616, section 2),
     /// as by the field `accept_authzid` of struct fe2o3_scram_rules. 0 is no, any other value yes. Without it a message
     /// of PLAIN may still name its own user.
     pub accept_authzid: u32,
     /// The identities that the user may act for besides itself (RFC 4422, section 2), without escapes, with a zero byte
-    /// after each. After the login `fe2o3_scram_server_acts_for` returns the one that the user acts for.
+    /// after each but the last, which may have one too. After the login `fe2o3_scram_server_acts_for` returns the one
+    /// that the user acts for.
     pub identities: *const u8,
     pub identities_len: usize,
 }
@@ -941,11 +969,11 @@ extern "C" {
         server_key_len: usize,
         kept: *mut ScramRecord) -> u32;
 
-    /// Computes a mock record for a name that the server does not know, so that it answers unknown users like known
-    /// ones. The login then fails at its proof.
+    /// Computes a mock record for a name that the server does not know, or that has no record of this hash. The server
+    /// then answers unknown users like known ones. The login then fails at its proof.
     ///
     /// `secret` is 32 random bytes, one value for all names, kept as long as the records. `salt_len`, at most 64, and
-    /// `iterations` are those of the server's other records.
+    /// `iterations` are those of the server's other records. An iteration count of 0 is not rejected here.
     pub fn fe2o3_scram_record_mock(
         version: u32,
         secret: *const u8,
@@ -1015,6 +1043,20 @@ extern "C" {
         line: *mut usize,
         kept: *mut ScramRecord) -> u32;
 
+    /// Writes 1 to `all` if each user of a text has a record of this version, and 0 if one has none. The text is one
+    /// that `fe2o3_scram_lines_find` reads. Offer only hashes by which all users can log in: a client selects the
+    /// strongest hash that is offered, whether its user has a record of it or not. A text without users has 1 for every
+    /// version.
+    ///
+    /// If the text cannot be parsed, `line` is the number of the first line that cannot, counted from 1. It is 0 after
+    /// the other errors, except OUT_OF_MEMORY, which leaves it unchanged.
+    pub fn fe2o3_scram_lines_all_have(
+        lines: *const u8,
+        lines_len: usize,
+        version: u32,
+        line: *mut usize,
+        all: *mut u32) -> u32;
+
     /// Writes the line of a user and a record, with its line feed, as `fe2o3_scram_lines_find` reads it. Returns
     /// NOT_WRITABLE if the name contains a line feed or the iteration count is 0.
     pub fn fe2o3_scram_line(
@@ -1055,7 +1097,7 @@ extern "C" {
 
     /// Writes the client-first message. This starts a new exchange, whatever the state of the client is. `nonce` is 32
     /// fresh random bytes. With CHANNEL_BOUND name the mechanism with `-PLUS` to the server, such as SCRAM-SHA-256-PLUS
-    /// (RFC 5802, section 6).
+    /// (RFC 5802, section 6). The whole login is tested, also the secret, which this message does not use.
     pub fn fe2o3_scram_client_first(
         login: *const Login,
         client: *mut ScramClient,
@@ -1067,6 +1109,9 @@ extern "C" {
     /// Answers the server-first message with the client-final message. `out` needs 128 bytes more than the server-first
     /// message has, or 256 more if the client binds a channel, and another 1024 if it names an identity to act for.
     /// This is tested before anything is hashed.
+    ///
+    /// The errors are, in this order: ROOM_TOO_SMALL, CLIENT_UTF8_ERROR, the faults of the login,
+    /// CLIENT_ILLEGAL_CLIENT_STATE, and the other faults of the message.
     pub fn fe2o3_scram_client_final(
         login: *const Login,
         client: *mut ScramClient,
@@ -1079,8 +1124,11 @@ extern "C" {
     /// Verifies the server-final message. Only OK means that the login is complete and the server authenticated.
     ///
     /// The message may be an error of the server, such as `e=invalid-proof` for a wrong password. The call then returns
-    /// SERVER_ERROR, and fe2o3_scram_server_error says which error it is. After CLIENT_SERVER_SIGNATURE_MISMATCH the
-    /// server has not proved that it knows the user's keys.
+    /// SERVER_ERROR, and fe2o3_scram_server_error says which error it is. After every other status than OK the server
+    /// has not proved that it knows the user's keys. CLIENT_MISPLACED_ATTRIBUTE comes before
+    /// CLIENT_SERVER_SIGNATURE_MISMATCH, so a forged message can cause either.
+    ///
+    /// The faults of the login come first, then CLIENT_ILLEGAL_CLIENT_STATE, and then those of the message.
     pub fn fe2o3_scram_client_verify(
         login: *const Login,
         client: *mut ScramClient,
@@ -1265,7 +1313,8 @@ extern "C" {
     /// (RFC 5802, section 7). The status is one that a call of the server over messages returned, or NO_SUCH_USER.
     ///
     /// An unknown user, a mock record and a wrong proof have one message, `e=invalid-proof`. A status that no name of
-    /// RFC 5802 describes has `e=other-error`.
+    /// RFC 5802 describes has `e=other-error`. `unknown-user`, `extensions-not-supported`, and the errors of channel
+    /// binding other than `channel-bindings-dont-match` are never written.
     pub fn fe2o3_scram_server_error_message(status: u32, out: *mut u8, out_size: usize, out_len: *mut usize) -> u32;
 
     /// Writes the message by which a client logs in with PLAIN (RFC 4616, section 2): the identity that the client acts
@@ -1319,7 +1368,7 @@ extern "C" {
     ///
     /// `accept_authzid` says whether a message may name an identity other than its user. 0 is no, any other value yes.
     /// `identities` are those that the user may act for besides itself (RFC 4422, section 2), with a zero byte after
-    /// each.
+    /// each but the last, which may have one too.
     ///
     /// Returns NO_SUCH_CHOICE if `passwords` is none of the enum, NOT_UTF8 if the identities are not UTF-8, and
     /// SERVER_AUTHENTICATION_FAILED for every message that does not log in: a wrong password, an unknown user, an
@@ -1403,8 +1452,8 @@ extern "C" {
         out_len: *mut usize) -> u32;
 
     /// Returns 1 if the next call of `fe2o3_sasl_client_receive` or `fe2o3_sasl_server_receive` may use its nonce: a
-    /// client that expects the list of mechanisms, or a server that expects an init. Otherwise returns 0. Then every
-    /// nonce gives the same result, and you need no fresh random bytes.
+    /// client that expects the list of mechanisms, or a server that expects an init. Otherwise returns 0. The call then
+    /// gives the same result with every nonce, which is tested and not proved, and you need no fresh random bytes.
     pub fn fe2o3_sasl_wants_nonce(connection: *const Connection) -> u32;
 
     /// Writes the body of the frame that `bytes` complete with the part that `connection` holds, without the four bytes

@@ -47,6 +47,16 @@ impl ScramVersion {
         }
     }
 
+    /// Returns the place of the version among the records of a user: that of SHA-256 first, of which PLAIN takes the
+    /// first, then in the order in which `scram users add` writes them.
+    pub(crate) fn rank(self) -> u32 {
+        match self {
+            ScramVersion::Sha256 => 0,
+            ScramVersion::Sha512 => 1,
+            ScramVersion::Sha1 => 2,
+        }
+    }
+
     /// Returns the number of the version in the structs of the library.
     pub(crate) fn number(self) -> u32 {
         match self {

@@ -205,6 +205,35 @@ fn an_offer_without_plus() {
     }
 }
 
+/// A man in the middle of two channels removes -PLUS from the offer, and moves text between the messages, so that both sides
+/// would have the same AuthMessage. Each side refuses by itself.
+#[test]
+fn moved_text() {
+    for version in VERSIONS {
+        // The client, whose channel the server does not have.
+        let mut client = client(version).with_channel(channel(&KINDS[2])).channel_not_offered();
+        let client_first = client.compute_client_first_message();
+        let forged = [b"n,,", &client_first[3..]].concat();
+        let offers_plus = server(version).reject_misplaced(true);
+        for mut server in [server(version), offers_plus.clone()] {
+            let server_first = server.compute_server_first_message(&forged).unwrap().unwrap();
+            let server_first = text(&server_first);
+            let moved = format!("c=biws,{}", server_first.split(',').next().unwrap());
+            let answer = client.clone().compute_client_final_message(&format!("{server_first},{moved}"));
+            assert_eq!(answer, Err(ScramErrorKind::MisplacedAttribute));
+            // (text without an attribute of RFC 5802 changes nothing of the client's channel)
+            assert!(client.clone().compute_client_final_message(&format!("{server_first},x=1")).is_ok());
+        }
+        // The server, whatever a foreign client sends it: that text, and what such a client answers.
+        let mut server = offers_plus;
+        let server_first = server.compute_server_first_message(&forged).unwrap().unwrap();
+        let nonces = text(&server_first).split(',').next().unwrap().to_owned();
+        let client_final = format!("c=biws,{nonces},c=eSws,{nonces},p=AAAA");
+        let refused = server.compute_server_final_message(client_final.as_bytes());
+        assert_eq!(refused, Err(ServerScramErrorKind::MisplacedAttribute));
+    }
+}
+
 #[test]
 fn rules_that_change_during_an_exchange() {
     let mut opened_by_plus = server(ScramVersion::Sha256).with_channels(all());
@@ -258,6 +287,8 @@ fn strict_servers() {
         takes(plain(), "n,,", "biws", extension, proof, false);
         takes(plain().strict(false), "n,,", "biws", extension, proof, false);
         takes(plain().strict(true), "n,,", "biws", extension, proof, is_attribute);
+        takes(plain().reject_misplaced(true), "n,,", "biws", extension, proof, is_attribute);
+        takes(plain().reject_misplaced(true).reject_misplaced(false), "n,,", "biws", extension, proof, false);
         for bound in [plain().with_channels(all()), plain().strict(true).with_channels(all()).strict(false)] {
             takes(bound, "p=tls-exporter,,", KINDS[2].3, extension, bound_proof, is_attribute);
         }
@@ -266,6 +297,9 @@ fn strict_servers() {
     let mut both = plain().strict(true).accept_cbind_flag_y();
     assert_eq!(opened(&mut both, "y,,", ""), Ok(()));
     assert_eq!(opened(&mut both, "y,,", ",i=4096"), Err(ServerScramErrorKind::MisplacedAttribute));
+    let mut rejects = plain().reject_misplaced(true).accept_cbind_flag_y();
+    assert_eq!(opened(&mut rejects, "y,,", ",i=4096"), Err(ServerScramErrorKind::MisplacedAttribute));
+    assert!(rejects.compute_server_first_message(b"n,,n=,r=x").is_ok());
 }
 
 #[test]
@@ -276,7 +310,7 @@ fn strict_clients() {
         (plain(), false),
         (plain().strict(true), true),
         (plain().strict(true).strict(false), false),
-        (plain().channel_not_offered(), false),
+        (plain().channel_not_offered(), true),
         (bound.clone(), true),
         (bound.strict(false), true),
     ] {

@@ -5,6 +5,7 @@ use std::io::{Read, Write};
 use std::net::{TcpListener, TcpStream};
 use std::{thread, time::Duration};
 
+mod common;
 #[path = "../examples/server.rs"]
 #[allow(dead_code)]
 mod server;
@@ -13,7 +14,8 @@ mod server;
 fn port() -> u16 {
     let listener = TcpListener::bind(("127.0.0.1", 0)).unwrap();
     let port = listener.local_addr().unwrap().port();
-    let server = server::example_server().unwrap();
+    let users = common::UsersFile::new("closing", common::ADDED);
+    let server = server::server_of(users.path()).unwrap();
     thread::spawn(move || server::listen(&listener, &server));
     port
 }

@@ -279,10 +279,15 @@ fn strict_servers() {
         [(false, "i=4096", Progress::InProgress), (true, "i=4096", refused), (true, "x=1", Progress::InProgress)]
     {
         let init = frame(0x41, &[b"\xa3\x0dSCRAM-SHA-256", &binary(format!("n,,n=user,r=x,{extension}").as_bytes())]);
-        let mut side = ServerNegotiation::new(offering(ScramVersion::Sha256).strict(is_strict));
-        let sent = side.receive(&[HEADER, &init].concat()).unwrap().sent;
-        assert_eq!(side.progress(), progress, "{is_strict} {extension}");
-        assert_eq!(sent.ends_with(&frame(OUTCOME, &[&[0x50, 1]])), progress == refused);
+        for server in [
+            offering(ScramVersion::Sha256).strict(is_strict),
+            offering(ScramVersion::Sha256).reject_misplaced(is_strict),
+        ] {
+            let mut side = ServerNegotiation::new(server);
+            let sent = side.receive(&[HEADER, &init].concat()).unwrap().sent;
+            assert_eq!(side.progress(), progress, "{is_strict} {extension}");
+            assert_eq!(sent.ends_with(&frame(OUTCOME, &[&[0x50, 1]])), progress == refused);
+        }
     }
 }
 

@@ -1,5 +1,7 @@
 //! The programs `examples/server.rs` and `examples/client.rs` against each other, as `cargo test` has built them.
 
+mod common;
+
 use std::io::{BufRead, BufReader, Write};
 use std::path::PathBuf;
 use std::process::{Child, Command, Stdio};
@@ -34,12 +36,13 @@ fn log_in(port: &str, user: &str, password: &str) -> (String, bool) {
 
 #[test]
 fn server_and_client() {
-    let mut server = Running(example("server").arg("0").stdout(Stdio::piped()).spawn().unwrap());
+    let users = common::UsersFile::new("examples", common::ADDED);
+    let mut server = Running(example("server").args(["0", users.path()]).stdout(Stdio::piped()).spawn().unwrap());
     let mut said = BufReader::new(server.0.stdout.take().unwrap()).lines().map(|line| line.unwrap());
     let port = said.next().unwrap();
     let rejected = "not logged in: the login was rejected: Connection: The login was rejected";
     for (user, password, client_says, server_says) in [
-        ("user", "pencil", "logged in: SCRAM-SHA-256", "logged in: Some(\"user\")"),
+        ("user", "pencil", "logged in: SCRAM-SHA-512", "logged in: Some(\"user\")"),
         ("user", "pencils", rejected, rejected),
         ("nobody", "pencil", rejected, rejected),
     ] {

@@ -1,5 +1,5 @@
 -- What is found of a user in a text of lines (RFC 5803, section 2).
-use Rattle.std.proofs.Common.{inl, inr, refl, sym, ap, ◌∙◌, ◌≡◌, ◌≢◌, ℕ, List}
+use Rattle.std.proofs.Common.{inl, inr, refl, sym, ap, ◌∙◌, ◌≡◌, ◌≢◌, ℕ, Bool, List}
 use Rattle.std.specs.Prelude.{Ok, Err}
 use Rattle.std.specs.Str.{IsUtf8}
 use Rattle.fe2o3_scram.specs.declared.credentials.record_lines.ReadLinesError.{ReadLinesError}
@@ -9,14 +9,14 @@ use Rattle.fe2o3_scram.specs.declared.credentials.record_lines.ReadLinesErrorKin
 use Rattle.fe2o3_scram.specs.declared.credentials.record_text.RecordTextError.TheVariants as texts
 use Rattle.fe2o3_scram.specs.declared.hmac.ScramVersion.{ScramVersion}
 use Rattle.fe2o3_scram.specs.declared.hmac.ScramVersion.TheVariants.{Sha1}
-use Rattle.fe2o3_scram.specs.Mixed.{MultiRecords}
+use Rattle.fe2o3_scram.specs.Mixed.{MultiRecords, all_have}
 use Rattle.fe2o3_scram.specs.MultiRecordLines.{MixedFault, ReadsMixed, SpellsMixed, UpToMixed}
 use Rattle.fe2o3_scram.specs.RecordLines.{ReachesUser}
 use Rattle.fe2o3_scram.specs.RecordText.{ReadsRecord}
 use Rattle.sasl_c.specs.declared.records.ScramRecord.{ScramRecord as Struct}
 use Rattle.sasl_c.specs.declared.status.Status.{Status}
 use Rattle.sasl_c.specs.declared.status.Status.TheVariants as statuses
-use Rattle.sasl_c.specs.Lines.{Chosen, FindAsks, FindsRecord, NotChosen, line_status}
+use Rattle.sasl_c.specs.Lines.{AllAsks, Chosen, FindAsks, FindsRecord, NotChosen, TellsAll, line_status}
 use Rattle.sasl_c.specs.Records.{IsVersion}
 
 pub found : (lines name : List ℕ) (version : ℕ) (made : Struct) (known : ScramVersion) (users : MultiRecords)
@@ -94,3 +94,38 @@ asks lines name version known error status is named utf8 reads comes gives memor
     ((known, is), named, utf8, (error.line, reaches lines error.line error.kind reads comes (sym gives ∙ memory)))
 
 pub ruleset finds = (asks, found, unread, no_version, no_name, no_lines, not_found)
+
+-- ---- whether all users have a record
+
+pub told : (lines : List ℕ) (version : ℕ) (all : Bool) (known : ScramVersion) (users : MultiRecords)
+    → IsVersion version known → SpellsMixed lines users → all ≡ all_have known users
+    → TellsAll lines version 0 (Ok all)
+unfolding TellsAll
+told lines version all known users is spells same = (known, users, (is, spells), same)
+
+pub untold : (lines : List ℕ) (version line : ℕ) (error : ReadLinesError) (status : Status)
+    → (error.kind ≢ NoMemory → ReadsMixed lines (Err error)) → line ≡ error.line → status ≡ line_status error.kind
+    → status ≢ statuses.OutOfMemory → TellsAll lines version line (Err status)
+unfolding TellsAll
+untold lines version line error status reads at is other =
+    inl (error, reads (λ memory. other (is ∙ ap line_status memory)), at, is)
+
+pub no_such_version : (lines : List ℕ) (version line : ℕ) (status : Status) → line ≡ 0
+    → status ≡ statuses.NoSuchVersion → ((known : ScramVersion) → ¬ IsVersion version known)
+    → TellsAll lines version line (Err status)
+unfolding TellsAll
+no_such_version lines version line status at is none = inr (at, inl (is, none))
+
+pub no_text : (lines : List ℕ) (version line : ℕ) (status : Status) → line ≡ 0 → status ≡ statuses.NotUtf8
+    → ¬ IsUtf8 lines → TellsAll lines version line (Err status)
+unfolding TellsAll
+no_text lines version line status at is wrong = inr (at, inr (is, wrong))
+
+pub all_asks : (lines : List ℕ) (version : ℕ) (known : ScramVersion) (error : ReadLinesError) (status : Status)
+    → IsVersion version known → IsUtf8 lines → (error.kind ≢ NoMemory → ReadsMixed lines (Err error))
+    → (error.kind ≡ NoMemory → UpToMixed lines error.line ReachesUser) → status ≡ line_status error.kind
+    → status ≡ statuses.OutOfMemory → AllAsks lines version
+all_asks lines version known error status is utf8 reads comes gives memory =
+    ((known, is), utf8, (error.line, reaches lines error.line error.kind reads comes (sym gives ∙ memory)))
+
+pub ruleset tells = (all_asks, told, untold, no_such_version, no_text)

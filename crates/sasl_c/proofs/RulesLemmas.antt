@@ -29,15 +29,18 @@ pub ruleset data_of = (no_data, some_data)
 -- rules of zeros are those of a server without options
 pub zeros : (rules : ScramRules) (answer : Result ServerRules Status) → ShowsRules rules answer
     → rules.accept_cbind_flag_y ≡ 0 → rules.strict ≡ 0 → rules.channels.binds_channel ≡ 0 → rules.accept_authzid ≡ 0
-    → answer ≡ Ok default_rules
-zeros rules (Ok shown) (same, short) flag strict binds accept =
-    let means : ℕ → ℕ → ℕ → ℕ → ServerRules = λ f s b a. record {
+    → rules.reject_misplaced ≡ 0 → answer ≡ Ok default_rules
+zeros rules (Ok shown) (same, short) flag strict binds accept reject =
+    let means : ℕ → ℕ → ℕ → ℕ → ℕ → ServerRules = λ f s b a r. record {
       accept_cbind_flag_y = is_set f;
       strict = is_set s;
+      reject_misplaced = is_set r;
       channels = if is_set b then Some (channels_in rules.channels) else None;
       accept_authzid = is_set a;
     } in
-    ap Ok (same ∙ ap (λ f. means f rules.strict rules.channels.binds_channel rules.accept_authzid) flag
-    ∙ ap (λ s. means 0 s rules.channels.binds_channel rules.accept_authzid) strict
-    ∙ ap (λ b. means 0 0 b rules.accept_authzid) binds ∙ ap (λ a. means 0 0 0 a) accept)
-zeros rules (Err status) (is, long) flag strict binds accept = absurd (long.0 binds)
+    ap Ok (same
+    ∙ ap (λ f. means f rules.strict rules.channels.binds_channel rules.accept_authzid rules.reject_misplaced) flag
+    ∙ ap (λ s. means 0 s rules.channels.binds_channel rules.accept_authzid rules.reject_misplaced) strict
+    ∙ ap (λ b. means 0 0 b rules.accept_authzid rules.reject_misplaced) binds
+    ∙ ap (λ a. means 0 0 0 a rules.reject_misplaced) accept ∙ ap (λ r. means 0 0 0 0 r) reject)
+zeros rules (Err status) (is, long) flag strict binds accept reject = absurd (long.0 binds)

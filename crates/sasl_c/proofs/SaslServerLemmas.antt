@@ -67,19 +67,24 @@ sum_small choice = omega (
   form_within choice.passwords,
 )
 
--- so no choice has a sum above 4095, or one whose rest below 512 is above 383
-pub too_large : (sum : ℕ) → 4095 < sum → (choice : Choice) → sum_of choice ≢ sum
+-- so no choice has a sum above 8191, or one whose rest below 512 is above 383
+pub too_large : (sum : ℕ) → 8191 < sum → (choice : Choice) → sum_of choice ≢ sum
 too_large sum large choice same = absurd (omega (
   arith,
   large,
   same,
   sum_small choice,
+  within choice.reject_misplaced 4096,
   within choice.strict 2048,
   within choice.signature_by_challenge 1024,
   within choice.initial_response_by_challenge 512,
 ))
 
--- the numbers of the strict option and of the two challenges are multiples of 512
+-- the numbers of the two options on the grammar and of the two challenges are multiples of 512
+multiple_8 : (is : Bool) → one_where is 4096 ≡ 512 * one_where is 8
+multiple_8 true = refl
+multiple_8 false = refl
+
 multiple_4 : (is : Bool) → one_where is 2048 ≡ 512 * one_where is 4
 multiple_4 true = refl
 multiple_4 false = refl
@@ -92,11 +97,13 @@ multiple_1 : (is : Bool) → one_where is 512 ≡ 512 * one_where is 1
 multiple_1 true = refl
 multiple_1 false = refl
 
-pub between : (sum signs asks rest : ℕ) (strict signed asked : Bool) → sum ≡ one_where strict 2048 + signs
+pub between : (sum stricts signs asks rest : ℕ) (rejects strict signed asked : Bool)
+    → sum ≡ one_where rejects 4096 + stricts → stricts ≡ one_where strict 2048 + signs
     → signs ≡ one_where signed 1024 + asks → asks ≡ one_where asked 512 + rest → 383 < rest → rest < 512
     → (choice : Choice) → sum_of choice ≢ sum
-between sum signs asks rest strict signed asked split then last large small choice same = absurd (omega (
+between sum stricts signs asks rest rejects strict signed asked first split then last large small choice same = absurd (omega (
   arith,
+  first,
   split,
   then,
   last,
@@ -104,9 +111,11 @@ between sum signs asks rest strict signed asked split then last large small choi
   small,
   same,
   sum_small choice,
+  multiple_8 rejects,
   multiple_4 strict,
   multiple_2 signed,
   multiple_1 asked,
+  multiple_8 choice.reject_misplaced,
   multiple_4 choice.strict,
   multiple_2 choice.signature_by_challenge,
   multiple_1 choice.initial_response_by_challenge,

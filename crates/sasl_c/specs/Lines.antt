@@ -1,6 +1,6 @@
 -- The text of users and their records, a line for each, of which C asks for one (RFC 5802, section 5.1; RFC 5803,
 -- section 2).
-use Rattle.std.specs.Prelude.{◌≡◌, ◌≢◌, ◌⊎◌, ℕ, Some, None, List, [], ◌∷◌, Result, Ok, Err}
+use Rattle.std.specs.Prelude.{◌≡◌, ◌≢◌, ◌⊎◌, ℕ, Bool, Some, None, List, [], ◌∷◌, Result, Ok, Err}
 use Rattle.std.specs.List.{AllByRecursion}
 use Rattle.std.specs.Str.{IsUtf8}
 use Rattle.fe2o3_scram.specs.declared.credentials.record_lines.ReadLinesError.{ReadLinesError}
@@ -9,12 +9,13 @@ use Rattle.fe2o3_scram.specs.declared.credentials.record_lines.ReadLinesErrorKin
 use Rattle.fe2o3_scram.specs.declared.credentials.record_text.RecordTextError.TheVariants as texts
 use Rattle.fe2o3_scram.specs.declared.hmac.ScramVersion.{ScramVersion}
 use Rattle.fe2o3_scram.specs.Credentials.{Record, VersionedRecord, record_at, versioned}
-use Rattle.fe2o3_scram.specs.Mixed.{MultiRecords, provider_for}
+use Rattle.fe2o3_scram.specs.Mixed.{MultiRecords, all_have, provider_for}
 use Rattle.fe2o3_scram.specs.MultiRecordLines.{IsMixedWritable, ReadsMixed, SpellsMixed, UpToMixed, mixed_text}
 use Rattle.fe2o3_scram.specs.RecordLines.{ReachesUser}
 use Rattle.sasl_c.specs.declared.records.ScramRecord.{ScramRecord as Struct}
 use Rattle.sasl_c.specs.declared.status.Status.{Status}
 use Rattle.sasl_c.specs.declared.status.Status.TheVariants as statuses
+use Rattle.sasl_c.specs.Client.{flag_number}
 use Rattle.sasl_c.specs.Records.{RecordHasRoom, IsVersion, ShowsRecord, SpellsStruct, record_struct}
 
 -- why a line is not read; lines of any version are, so that is never why
@@ -54,6 +55,29 @@ FindsRecord lines name version line (Err status) =
     ⊎ ((status ≡ statuses.NotUtf8) × (¬ IsUtf8 name ⊎ ¬ IsUtf8 lines))
     ⊎ ((known : ScramVersion) × (users : MultiRecords) × HasUsers lines version known users
     × NotChosen users name known status)))
+
+-- whether each user of a text has a record of the version, or why the text or the version is rejected; a line that cannot be
+-- read is given by its number from 1, and no line by 0
+unfoldable pub TellsAll : List ℕ → ℕ → ℕ → Result Bool Status → Type 0
+TellsAll lines version line (Ok all) = (known : ScramVersion) × (users : MultiRecords)
+    × HasUsers lines version known users × (all ≡ all_have known users)
+TellsAll lines version line (Err status) =
+    ((error : ReadLinesError) × ReadsMixed lines (Err error) × (line ≡ error.line) × (status ≡ line_status error.kind))
+    ⊎ ((line ≡ 0) × (((status ≡ statuses.NoSuchVersion) × ((known : ScramVersion) → ¬ IsVersion version known))
+    ⊎ ((status ≡ statuses.NotUtf8) × ¬ IsUtf8 lines)))
+
+-- memory is requested to read a text: the version is known, the text is UTF-8, and a line that is reached has a user
+abbrev pub AllAsks : List ℕ → ℕ → Type 0
+AllAsks lines version = ((known : ScramVersion) × IsVersion version known) × IsUtf8 lines
+    × ((line : ℕ) × UpToMixed lines line ReachesUser)
+
+-- the flag after a call, and the number of the line
+abbrev pub TellsAllInto : List ℕ → ℕ → ℕ → ℕ → ℕ → ℕ → Result (Unit {0}) Status → Type 0
+TellsAllInto lines version line told before after (Ok done) = (told ≡ line)
+    × ((all : Bool) × TellsAll lines version 0 (Ok all) × (after ≡ flag_number all))
+TellsAllInto lines version line told before after (Err status) = (after ≡ before)
+    × (status ≡ statuses.OutOfMemory → told ≡ line)
+    × (status ≢ statuses.OutOfMemory → TellsAll lines version told (Err status))
 
 -- memory is requested to find a record: the version is known, the name and the text are UTF-8, and a line that is
 -- reached has a user

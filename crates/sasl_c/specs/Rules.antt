@@ -35,6 +35,7 @@ abbrev pub rules_of : ScramRules → ServerRules
 rules_of rules = record {
   accept_cbind_flag_y = is_set rules.accept_cbind_flag_y;
   strict = is_set rules.strict;
+  reject_misplaced = is_set rules.reject_misplaced;
   channels = channels_of rules.channels;
   accept_authzid = is_set rules.accept_authzid;
 }

@@ -95,11 +95,12 @@ mechanisms_sum choice = one_where choice.sha_512 1 + one_where choice.sha_256 2 
     + one_where choice.cbind_flag_y 64 + passwords_number choice.passwords
 
 -- and 512 if an init without an initial response is answered by a challenge, 1024 if the signature is sent in one (RFC
--- 4422, section 5), and 2048 if SCRAM is strict: it rejects an attribute that RFC 5802 defines in the place of an extension
--- (RFC 5802, section 7)
+-- 4422, section 5), 2048 if SCRAM is strict: it reads messages by the grammar of RFC 5802, section 7, and 4096 if it rejects
+-- what is no extension in the place of one, and nothing more
 abbrev pub sum_of : Choice → ℕ
-sum_of choice = one_where choice.strict 2048 + one_where choice.signature_by_challenge 1024
-    + one_where choice.initial_response_by_challenge 512 + mechanisms_sum choice
+sum_of choice = one_where choice.reject_misplaced 4096 + one_where choice.strict 2048
+    + one_where choice.signature_by_challenge 1024 + one_where choice.initial_response_by_challenge 512
+    + mechanisms_sum choice
 
 -- the challenges that are sent beyond those of the mechanisms
 abbrev pub extra_for : Choice → ExtraChallenges
@@ -140,6 +141,7 @@ settings_for config choice records restored = record {
   rules = record {
     accept_cbind_flag_y = choice.cbind_flag_y;
     strict = choice.strict;
+    reject_misplaced = choice.reject_misplaced;
     channels = channels_of config.channels;
     accept_authzid = is_set config.accept_authzid;
   };

@@ -133,7 +133,7 @@ abbrev pub config_size : ℕ
 config_size = 2 * word + slice + slice + slice + channels_size + (word + 4) + slice
 
 abbrev pub rules_size : ℕ
-rules_size = 2 * word + channels_size + (word + 4) + slice
+rules_size = 2 * word + channels_size + 2 * word + slice
 
 -- the sizes by the numbers of `fe2o3_size`, and 0 of every other number
 abbrev pub struct_sizes : List (ℕ × ℕ)

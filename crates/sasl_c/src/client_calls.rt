@@ -82,7 +82,7 @@ fn first(
 
 /// Writes the client-first message. This starts a new exchange, whatever the state of the client is. `nonce` is 32
 /// fresh random bytes. With FE2O3_CHANNEL_BOUND name the mechanism with `-PLUS` to the server, such as
-/// SCRAM-SHA-256-PLUS (RFC 5802, section 6).
+/// SCRAM-SHA-256-PLUS (RFC 5802, section 6). The whole login is tested, also the secret, which this message does not use.
 #[unsafe(no_mangle)]
 pub extern "C" fn fe2o3_scram_client_first(
     alloc: Global,
@@ -151,8 +151,11 @@ fn verify(
 /// Verifies the server-final message. Only FE2O3_OK means that the login is complete and the server authenticated.
 ///
 /// The message may be an error of the server, such as `e=invalid-proof` for a wrong password. The call then returns
-/// FE2O3_SERVER_ERROR, and fe2o3_scram_server_error says which error it is. After FE2O3_CLIENT_SERVER_SIGNATURE_MISMATCH
-/// the server has not proved that it knows the user's keys.
+/// FE2O3_SERVER_ERROR, and fe2o3_scram_server_error says which error it is. After every other status than FE2O3_OK the
+/// server has not proved that it knows the user's keys. FE2O3_CLIENT_MISPLACED_ATTRIBUTE comes before
+/// FE2O3_CLIENT_SERVER_SIGNATURE_MISMATCH, so a forged message can cause either.
+///
+/// The faults of the login come first, then FE2O3_CLIENT_ILLEGAL_CLIENT_STATE, and then those of the message.
 #[unsafe(no_mangle)]
 pub extern "C" fn fe2o3_scram_client_verify(
     alloc: Global,

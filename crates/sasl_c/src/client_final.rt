@@ -266,6 +266,9 @@ fn answer(
 /// Answers the server-first message with the client-final message. `out` needs 128 bytes more than the server-first
 /// message has, or 256 more if the client binds a channel, and another 1024 if it names an identity to act for. This is
 /// tested before anything is hashed.
+///
+/// The errors are, in this order: FE2O3_ROOM_TOO_SMALL, FE2O3_CLIENT_UTF8_ERROR, the faults of the login,
+/// FE2O3_CLIENT_ILLEGAL_CLIENT_STATE, and the other faults of the message.
 #[unsafe(no_mangle)]
 pub extern "C" fn fe2o3_scram_client_final(
     alloc: Global,

@@ -2,11 +2,12 @@
 
 ghost use Rattle.std.specs.Prelude.{◌≡◌, ◌≢◌, Ok, Err, IfOk, IfErr};
 ghost use Rattle.std.specs.Str.{IsUtf8};
-ghost use Rattle.sasl_c.specs.Lines.{Chosen, FindAsks, FindsRecord, FindsInto, NotChosen, SpellsLine, line_status};
+ghost use Rattle.sasl_c.specs.Lines.{AllAsks, Chosen, FindAsks, FindsRecord, FindsInto, NotChosen, SpellsLine, TellsAll, TellsAllInto, line_status};
 ghost use Rattle.sasl_c.specs.Status.{Answers, AnswersText, AsksText, AsksWhere, Fills};
 ghost use Rattle.sasl_c.specs.declared.status.Status.TheVariants.{OutOfMemory as StatusOutOfMemory};
 
 use crate::arrays::write;
+use crate::flags::flag_number;
 use crate::records::ScramRecord;
 use crate::status::{Status, WriteError, number, text, text_number, version_of};
 use fe2o3_scram::{
@@ -152,6 +153,74 @@ pub extern "C" fn fe2o3_scram_lines_find(
         answer × AsksWhere (FindAsks lines.now username.now version) answer) }
 {
     number(find(alloc, lines, username, version, line, kept))
+}
+
+/// Returns whether each user of a text has a record of this version.
+#[tactic(auto, using(crate::proofs::LineLemmas::tells))]
+fn all_have(alloc: Global, lines: &[u8], version: u32) -> Result<bool, NotFound>
+    ensures ok { IfOk result (λ all. TellsAll lines.now version 0 (Ok all)) }
+    ensures err { IfErr result (λ none. none.why ≢ StatusOutOfMemory
+        → TellsAll lines.now version none.line (Err none.why)) }
+    ensures memory { IfErr result (λ none. none.why ≡ StatusOutOfMemory → AllAsks lines.now version) }
+{
+    let Some(version) = version_of(version) else {
+        return Err(NotFound::from(Status::NoSuchVersion));
+    };
+    let lines = text(lines)?;
+    match MultiRecordStore::parse_lines(alloc, lines) {
+        Ok(users) => {
+            let all = users.all_have(version);
+            drop(users);
+            Ok(all)
+        }
+        Err(fault) => Err(NotFound {
+            why: of_line(fault.kind),
+            line: fault.line,
+        }),
+    }
+}
+
+/// Writes whether each user of a text has a record of this version.
+fn tell_all(
+    alloc: Global,
+    lines: &[u8],
+    version: u32,
+    line: &mut usize,
+    all: &mut u32,
+) -> Result<(), Status>
+    ensures tells { TellsAllInto lines.now version line.old line.new all.old all.new result }
+    ensures memory { AsksWhere (AllAsks lines.now version) result }
+{
+    match all_have(alloc, lines, version) {
+        Ok(each) => {
+            *all = flag_number(each);
+            Ok(())
+        }
+        Err(none) => {
+            tell(none, line);
+            Err(none.why)
+        }
+    }
+}
+
+/// Writes 1 to `all` if each user of a text has a record of this version, and 0 if one has none. The text is one that
+/// `fe2o3_scram_lines_find` reads. Offer only hashes by which all users can log in: a client selects the strongest hash that
+/// is offered, whether its user has a record of it or not. A text without users has 1 for every version.
+///
+/// If the text cannot be parsed, `line` is the number of the first line that cannot, counted from 1. It is 0 after the other
+/// errors, except FE2O3_OUT_OF_MEMORY, which leaves it unchanged.
+#[unsafe(no_mangle)]
+pub extern "C" fn fe2o3_scram_lines_all_have(
+    alloc: Global,
+    lines: &[u8],
+    version: u32,
+    line: &mut usize,
+    all: &mut u32,
+) -> u32
+    ensures { Answers result (λ answer. TellsAllInto lines.now version line.old line.new all.old all.new answer
+        × AsksWhere (AllAsks lines.now version) answer) }
+{
+    number(tell_all(alloc, lines, version, line, all))
 }
 
 /// Returns the line of a user and a record.

@@ -50,7 +50,7 @@ pub struct Login<'a> {
     /// client acts for itself. The server decides whether the user may act for it.
     ///
     /// - SCRAM sends it in the GS2 header (RFC 5802, section 7). A client that names one tests the extensions like one
-    ///   that binds a channel.
+    ///   that has a channel.
     /// - PLAIN sends it as the first part of its message (RFC 4616, section 2), by `fe2o3_sasl_client_receive` and
     ///   `fe2o3_sasl_client_step`. A client that names one tests its words like a strict one.
     /// - ANONYMOUS and EXTERNAL do not send it: with one these calls return FE2O3_NOT_IMPLEMENTED. FE2O3_EXTERNAL_AS sends
@@ -72,8 +72,8 @@ pub struct Login<'a> {
     /// Whether the client is strict: it reads messages by the grammar of RFC 5802, section 7. 0 is no, any other value
     /// yes. The server's part of the nonce has to be printable and not empty (FE2O3_CLIENT_CLIENT_NONCE_MISMATCH), the
     /// iteration count without a sign or leading zeros (FE2O3_CLIENT_ITERATION_COUNT_PARSE_ERROR), and what follows the
-    /// count or the signature an extension (FE2O3_CLIENT_MISPLACED_ATTRIBUTE). A client that binds a channel tests the
-    /// extensions in any case.
+    /// count or the signature an extension (FE2O3_CLIENT_MISPLACED_ATTRIBUTE). A client that has a channel or names an
+    /// identity tests the extensions in any case.
     ///
     /// A strict client sends a user name and a password by PLAIN only if a message can have them (RFC 4616, section 2).
     /// Otherwise the call returns FE2O3_NAMES_NO_USER or FE2O3_EMPTY_PASSWORD for an empty one, and

@@ -14,8 +14,8 @@ use fe2o3_sasl_negotiation::RestoreError;
 use std::alloc::Global;
 
 /// Returns 1 if the next call of `fe2o3_sasl_client_receive` or `fe2o3_sasl_server_receive` may use its nonce: a client
-/// that expects the list of mechanisms, or a server that expects an init. Otherwise returns 0. Then every nonce gives
-/// the same result, and you need no fresh random bytes.
+/// that expects the list of mechanisms, or a server that expects an init. Otherwise returns 0. The call then gives the
+/// same result with every nonce, which is tested and not proved, and you need no fresh random bytes.
 #[unsafe(no_mangle)]
 #[tactic(auto, using(crate::proofs::PeekLemmas::nonces))]
 pub extern "C" fn fe2o3_sasl_wants_nonce(connection: &Connection) -> u32

@@ -270,7 +270,8 @@ fn verify(
 /// enum fe2o3_plain_passwords.
 ///
 /// `accept_authzid` says whether a message may name an identity other than its user. 0 is no, any other value yes.
-/// `identities` are those that the user may act for besides itself (RFC 4422, section 2), with a zero byte after each.
+/// `identities` are those that the user may act for besides itself (RFC 4422, section 2), with a zero byte after each but
+/// the last, which may have one too.
 ///
 /// Returns FE2O3_NO_SUCH_CHOICE if `passwords` is none of the enum, FE2O3_NOT_UTF8 if the identities are not UTF-8, and
 /// FE2O3_SERVER_AUTHENTICATION_FAILED for every message that does not log in: a wrong password, an unknown user, an

@@ -242,11 +242,11 @@ fn compute_mock(
     }
 }
 
-/// Computes a mock record for a name that the server does not know, so that it answers unknown users like known ones.
-/// The login then fails at its proof.
+/// Computes a mock record for a name that the server does not know, or that has no record of this hash. The server then
+/// answers unknown users like known ones. The login then fails at its proof.
 ///
 /// `secret` is 32 random bytes, one value for all names, kept as long as the records. `salt_len`, at most 64, and
-/// `iterations` are those of the server's other records.
+/// `iterations` are those of the server's other records. An iteration count of 0 is not rejected here.
 #[unsafe(no_mangle)]
 pub extern "C" fn fe2o3_scram_record_mock(
     alloc: Global,

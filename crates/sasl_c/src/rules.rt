@@ -54,7 +54,8 @@ pub struct ScramRules<'a> {
     /// Whether the server is strict: it reads messages by the grammar of RFC 5802, section 7. 0 is no, any other value
     /// yes. A user name has to be of one or more characters and without NUL (FE2O3_SERVER_CANNOT_PARSE_USERNAME), a nonce
     /// printable and not empty (FE2O3_SERVER_CANNOT_PARSE_CLIENT_NONCE), and what follows the nonce an extension
-    /// (FE2O3_SERVER_MISPLACED_ATTRIBUTE). A server that binds channels tests the extensions in any case.
+    /// (FE2O3_SERVER_MISPLACED_ATTRIBUTE). A server that binds channels or accepts identities tests the extensions in any
+    /// case.
     pub strict: u32,
 
     /// The server's channel, if it is of the mechanism with `-PLUS`.
@@ -65,10 +66,17 @@ pub struct ScramRules<'a> {
     /// extensions like a strict one. By itself the option lets each user name only itself.
     pub accept_authzid: u32,
 
+    /// Whether the server rejects what is no extension in the place of one (FE2O3_SERVER_MISPLACED_ATTRIBUTE), like a strict
+    /// one, and nothing more: an empty user name is accepted. 0 is no, any other value yes. A server that binds channels
+    /// rejects it in any case. If you offer a mechanism with `-PLUS` beside one without it, set the field for both, and
+    /// accept `y,,` by neither. Then nobody on the way can make a client that has a channel log in without binding it,
+    /// whatever library the client is of.
+    pub reject_misplaced: u32,
+
     /// The identities that the claimed user may act for besides itself (RFC 4422, section 2), without escapes, with a zero
-    /// byte after each. It is read with the client-final message: look up the identities of the user
-    /// (`fe2o3_scram_server_claimed_user_with_rules`), or only whether it may act for the one that the client names
-    /// (`fe2o3_scram_server_claimed_identity`). A user who may not act for the identity gets
+    /// byte after each but the last, which may have one too. It is read with the client-final message: look up the
+    /// identities of the user (`fe2o3_scram_server_claimed_user_with_rules`), or only whether it may act for the one that
+    /// the client names (`fe2o3_scram_server_claimed_identity`). A user who may not act for the identity gets
     /// FE2O3_SERVER_AUTHENTICATION_FAILED, like one with a wrong password.
     pub identities: &'a [u8],
 }
@@ -124,7 +132,7 @@ impl ScramRules<'_> {
     pub fn shown(&self) -> Result<ServerRules, Status>
         ensures shows { ShowsRules self.now result }
         ensures zeros { self.now.accept_cbind_flag_y ≡ 0 → self.now.strict ≡ 0 → self.now.channels.binds_channel ≡ 0
-            → self.now.accept_authzid ≡ 0 → result ≡ Ok default_rules }
+            → self.now.accept_authzid ≡ 0 → self.now.reject_misplaced ≡ 0 → result ≡ Ok default_rules }
     {
         self.read()
     }
@@ -137,6 +145,7 @@ impl ScramRules<'_> {
         Ok(ServerRules {
             accept_cbind_flag_y: is_set(self.accept_cbind_flag_y),
             strict: is_set(self.strict),
+            reject_misplaced: is_set(self.reject_misplaced),
             channels: self.channels.shown()?,
             accept_authzid: is_set(self.accept_authzid),
         })

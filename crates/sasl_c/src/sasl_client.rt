@@ -54,7 +54,7 @@ pub struct SaslClient {
     pub connection: Connection,
 
     /// The SCRAM client. After the login it holds the keys (`fe2o3_scram_client_get_keys`). For FE2O3_ANONYMOUS_AS and
-    /// FE2O3_EXTERNAL_AS its `state` is FE2O3_CLIENT_FIRST_SENT after the init, until the response.
+    /// FE2O3_EXTERNAL_AS its `state` is FE2O3_SCRAM_CLIENT_FIRST_SENT after the init, until the response.
     pub scram: ScramClient,
 }
 

@@ -54,18 +54,23 @@ pub struct SaslServerConfig<'a> {
     /// text. With FE2O3_SIGNATURE_BY_CHALLENGE SCRAM's outcome OK follows the client's empty response to a challenge.
     /// With FE2O3_INITIAL_RESPONSE_BY_CHALLENGE an init for SCRAM or PLAIN without an initial response is answered by
     /// an empty challenge, and the response is the initial response. With FE2O3_STRICT SCRAM is strict, as by the
-    /// field `strict` of struct fe2o3_scram_rules.
+    /// field `strict` of struct fe2o3_scram_rules, and with FE2O3_REJECT_MISPLACED as by its field `reject_misplaced`.
     pub mechanisms: u32,
 
-    /// The iteration count with which PLAIN hashes the password of an unknown user.
+    /// The iteration count with which PLAIN hashes a password if no record can be read.
     pub iterations: u32,
 
     /// The name of the user whose records these are, without escapes.
     pub username: &'a [u8],
 
-    /// The records of the user, of any hashes. SCRAM with a hash uses the first record of that hash; if there is none,
-    /// it does not know the user. PLAIN tests the password against the first record that can be read, so put mock
-    /// records last; if there is none, it hashes the password with SHA-256 and rejects the login.
+    /// The records of the user: one for each hash that is offered. For a hash of which the user has no record, pass a mock
+    /// record (`fe2o3_scram_record_mock`), also for a known user who has records of other hashes only. SCRAM uses the
+    /// first record of its hash. If there is none, it rejects the init at once, and a client can tell known users from
+    /// unknown ones.
+    ///
+    /// PLAIN tests the password against the first record that can be read, so put mock records last. It then hashes the
+    /// password of an unknown user with the hash, the salt length and the iteration count of the first mock record.
+    /// If no record can be read, it hashes the password with SHA-256 and rejects the login.
     pub records: &'a [ScramRecord],
 
     /// The name of the client that the transport has authenticated, for instance by a certificate. EXTERNAL accepts
@@ -73,8 +78,9 @@ pub struct SaslServerConfig<'a> {
     pub external_authcid: &'a [u8],
 
     /// The server's channel. If it binds channels, SCRAM is also offered with `-PLUS`, by the same hashes, and before
-    /// the other mechanisms. SCRAM without `-PLUS` then accepts no client that has seen no such mechanism (`y,,`; RFC
-    /// 5802, section 6), whatever FE2O3_ACCEPT_CBIND_FLAG_Y says.
+    /// the other mechanisms. SCRAM without `-PLUS` then rejects the GS2 header `y,,` (RFC 5802, section 6), whatever
+    /// FE2O3_ACCEPT_CBIND_FLAG_Y says. Both reject what is no extension in the place of one, as with
+    /// FE2O3_REJECT_MISPLACED. So a client of SCRAM that has a channel binds this one, or does not log in.
     pub channels: ServerChannels,
 
     /// Whether a client of SCRAM or PLAIN may name an identity to act for (RFC 5802, section 5.1; RFC 4616, section 2), as
@@ -83,7 +89,8 @@ pub struct SaslServerConfig<'a> {
     pub accept_authzid: u32,
 
     /// The identities that the user may act for besides itself (RFC 4422, section 2), without escapes, with a zero byte
-    /// after each. After the login `fe2o3_scram_server_acts_for` returns the one that the user acts for.
+    /// after each but the last, which may have one too. After the login `fe2o3_scram_server_acts_for` returns the one that
+    /// the user acts for.
     pub identities: &'a [u8],
 }
 
@@ -116,6 +123,9 @@ struct Choice {
     /// Whether SCRAM reads messages by the grammar of RFC 5802, section 7.
     strict: bool,
 
+    /// Whether SCRAM rejects what is no extension in the place of one.
+    reject_misplaced: bool,
+
     /// Whether an init without an initial response is answered by an empty challenge.
     initial_response_by_challenge: bool,
 
@@ -131,10 +141,11 @@ impl Choice {
     fn of(sum: u32) -> Option<Choice>
         ensures { MatchOption result ((choice : Choices) → sum_of choice ≢ sum) (λ choice. sum_of choice ≡ sum) }
     {
-        if sum > 4095 {
+        if sum > 8191 {
             return None;
         }
-        let (strict, rest) = split(sum, 2048);
+        let (reject_misplaced, rest) = split(sum, 4096);
+        let (strict, rest) = split(rest, 2048);
         let (signature_by_challenge, rest) = split(rest, 1024);
         let (initial_response_by_challenge, rest) = split(rest, 512);
         if rest > 383 {
@@ -157,6 +168,7 @@ impl Choice {
             external,
             cbind_flag_y,
             strict,
+            reject_misplaced,
             initial_response_by_challenge,
             signature_by_challenge,
             passwords,
@@ -289,6 +301,7 @@ impl SaslServerConfig<'_> {
             .hashes(choice.hashes())
             .accept_cbind_flag_y(choice.cbind_flag_y)
             .strict(choice.strict)
+            .reject_misplaced(choice.reject_misplaced)
             .channels(channels)
             .accept_authzid(is_set(self.accept_authzid))
             .acting_rights(rights)

@@ -30,6 +30,7 @@ type Machine = ScramAuthenticator<UserRecord>;
 const EITHER_HEADER: ServerRules = ServerRules {
     accept_cbind_flag_y: true,
     strict: false,
+    reject_misplaced: false,
     channels: None,
     accept_authzid: false,
 };

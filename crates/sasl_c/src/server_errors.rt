@@ -164,7 +164,8 @@ fn message_of(status: u32) -> Result<&'static [u8], Status>
 /// 5802, section 7). The status is one that a call of the server over messages returned, or FE2O3_NO_SUCH_USER.
 ///
 /// An unknown user, a mock record and a wrong proof have one message, `e=invalid-proof`. A status that no name of RFC 5802
-/// describes has `e=other-error`.
+/// describes has `e=other-error`. `unknown-user`, `extensions-not-supported`, and the errors of channel binding
+/// other than `channel-bindings-dont-match` are never written.
 #[unsafe(no_mangle)]
 #[tactic(auto, using(crate::proofs::StatusLemmas::written))]
 pub extern "C" fn fe2o3_scram_server_error_message(

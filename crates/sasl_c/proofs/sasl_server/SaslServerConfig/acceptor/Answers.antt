@@ -13,7 +13,7 @@ returns-in-Ok-server-clause-ok c =
     (password_state c.in-Ok-server.server) c.extra.result (phase_of c.in_ok-phase.phase) c.in-Some.ensures
     (carried (λ user. ShowRecords user c.args.self.now.records.now c.in-Ok-store.store) c.in-Ok.words.0.now _
     c.in-Ok.ensures.0 c.in-Ok-store.ensures.ok) c.kept_exchange-exchange.ensures c.in-Ok-server.ensures.ok c.extra.ensures
-    c.in_ok-phase.ensures c.with_phase.ensures
+    c.in_ok-phase.ensures c.with_phase.ensures.state
 
 pub returns-in-Err-NoMechanism-clause-err : goal.returns-in-Err-NoMechanism-clause-err
 returns-in-Err-NoMechanism-clause-err c = λ _. let none = c.in-Err-NoMechanism.ensures.none c.in-Err-NoMechanism.field-0-is in
