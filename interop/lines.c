@@ -4,7 +4,7 @@
  * before these.
  *
  *     lines client PORT MECHANISM USER LEAST MOST [prepared] [again] [for:IDENTITY] [KIND:HEX]
- *     lines server USERS MECHANISM LOGINS [unbound] [for:IDENTITY].. [KIND:HEX]
+ *     lines server USERS MECHANISM LOGINS [unbound] [misplaced] [for:IDENTITY].. [KIND:HEX]
  *     lines server USERS PLAIN LOGINS [prepared | saslprep] [for:IDENTITY]..
  *     lines server USERS EXTERNAL LOGINS NAME
  *     lines record MECHANISM SALT COUNT [prepared]
@@ -13,11 +13,13 @@
  * LEAST and MOST bound the iteration count, SALT is in base64, and USERS is a file of users' lines. All but the server
  * take the password from the first line of standard input; with `prepared` it is what SASLprep prepares that to, for a
  * record without code points that Unicode 3.2 does not assign. With `again` a second login uses the keys of the
- * first one, without the password. With `unbound` the server takes the GS2 header `y,,` too. With a kind of
- * channel binding, such as `tls-exporter`, and the data of the channel in hexadecimal, either side binds that channel:
- * the name of the mechanism then ends with `-PLUS`. With `for:` the server accepts authorization identities, and each
- * user may act for these; an empty one adds none. A client of SCRAM or PLAIN acts for its IDENTITY. The server prints its
- * port; each login has a line that says how it ended, for which user, and for which identity the user acts.
+ * first one, without the password. With `unbound` the server takes the GS2 header `y,,` too. With `misplaced` it rejects
+ * what is no extension in the place of one. With a kind of channel binding, such as `tls-exporter`, and the data of the
+ * channel in hexadecimal, either side binds that channel: the name of the mechanism then ends with `-PLUS`. A client with a
+ * channel and another mechanism was not offered `-PLUS`: its GS2 header is `y,,`. With `for:` the server accepts
+ * authorization identities, and each user may act for these; an empty one adds none. A client of SCRAM or PLAIN acts for
+ * its IDENTITY. The server prints its port; each login has a line that says how it ended, for which user, and for which
+ * identity the user acts.
  *
  * For ANONYMOUS the USER is the trace information, and for EXTERNAL the authorization identity; both can be empty. NAME
  * is the name that the transport authenticated. With `prepared` a server of PLAIN expects a prepared password, and with
@@ -77,9 +79,10 @@ static int read_identity(const char *word)
     return 1;
 }
 
-static void set_rules(int accepts_y)
+static void set_rules(int accepts_y, int rejects_misplaced)
 {
     rules.accept_cbind_flag_y = (uint32_t)accepts_y;
+    rules.reject_misplaced = (uint32_t)rejects_misplaced;
     rules.channels.binds_channel = bound.use == FE2O3_CHANNEL_BOUND;
     *(bound.kind == FE2O3_TLS_UNIQUE ? &rules.channels.tls_unique_len : bound.kind == FE2O3_TLS_SERVER_END_POINT
         ? &rules.channels.tls_server_end_point_len : &rules.channels.tls_exporter_len) = bound.len;
@@ -109,6 +112,13 @@ static int has_one_message(const char *mechanism)
 {
     return strcmp(mechanism, "PLAIN") == 0 || strcmp(mechanism, "ANONYMOUS") == 0
         || strcmp(mechanism, "EXTERNAL") == 0;
+}
+
+/* Returns what a client of this mechanism says of its channel. */
+static uint32_t channel_use_by(const char *mechanism)
+{
+    int has_channel = bound.use == FE2O3_CHANNEL_BOUND;
+    return has_channel && strstr(mechanism, "-PLUS") == NULL ? FE2O3_CHANNEL_NOT_OFFERED : bound.use;
 }
 
 static int is_known(const char *mechanism)
@@ -229,7 +239,7 @@ static int run_client(char **words, int prepared, int again, const char *typed)
     login.password = password.bytes;
     login.password_len = password.len;
     login.keys = &keys;
-    login.channel_use = bound.use;
+    login.channel_use = channel_use_by(words[1]);
     login.channel_kind = bound.kind;
     login.channel_data_len = bound.len;
     memcpy(login.channel_data, bound.bytes, sizeof bound.bytes);
@@ -420,10 +430,12 @@ int main(int count, char **words)
 {
     char password[1024] = "";
     const char *what = count > 1 ? words[1] : "", *last;
-    int again, prepared, prepares, takes_unbound;
+    int again, prepared, prepares, misplaced, takes_unbound;
     count -= count > 1 && read_channel(words[count - 1]);
     while (count > 1 && read_identity(words[count - 1]))
         count--;
+    misplaced = strcmp(words[count - 1], "misplaced") == 0;
+    count -= misplaced;
     last = words[count - 1];
     again = strcmp(what, "client") == 0 && strcmp(last, "again") == 0;
     prepares = strcmp(last, "saslprep") == 0;
@@ -431,7 +443,7 @@ int main(int count, char **words)
     prepared = strcmp(words[count - 1], "prepared") == 0;
     takes_unbound = strcmp(last, "unbound") == 0;
     count -= prepared + takes_unbound + prepares;
-    set_rules(takes_unbound);
+    set_rules(takes_unbound, misplaced);
     signal(SIGPIPE, SIG_IGN);
     if (strcmp(what, "server") == 0 && count == 6 && strcmp(words[3], "EXTERNAL") == 0)
         transport_name = words[--count];

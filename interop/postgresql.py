@@ -16,6 +16,7 @@ import time
 from pathlib import Path
 from typing import Iterator, Optional
 
+from attacker import ONLY_RELAYS, Attacker
 from cells import Cell, Peer, certificate, none
 from sides import (
     COMMA, HARD, PAST, PATIENCE, SOFT, USER, Client, Ending, Side, User, dialled, ended_after, free_port, listening,
@@ -102,8 +103,11 @@ class Messages:
         return name
 
 
-def to_server(port: int, ours: socket.socket, name: str, mechanism: str, by_tls: bool) -> bool:
-    """Hands the messages of our client to PostgreSQL and back. Whether PostgreSQL takes it for the user."""
+def to_server(
+    port: int, ours: socket.socket, name: str, mechanism: str, by_tls: bool, attacker: Attacker = ONLY_RELAYS
+) -> bool:
+    """Hands the messages of our client to PostgreSQL and back, changed by the attacker. Whether PostgreSQL takes it for
+    the user."""
     lines = Lines(ours)
     with dialled(port) as plain, (in_tls(plain) if by_tls else plain) as channel:
         server = Messages(channel)
@@ -113,10 +117,11 @@ def to_server(port: int, ours: socket.socket, name: str, mechanism: str, by_tls:
             offered = server.challenge(SASL).split(b"\0")
             assert MECHANISM.encode() in offered and (PLUS.encode() in offered) == by_tls
             ours.sendall(mechanism.encode() + b"\n\n")
-            first = lines.hear()
-            server.say(b"p", mechanism.encode() + b"\0" + struct.pack(">I", len(first)) + first)
-            lines.say(server.challenge(SASL_CONTINUE))
-            server.say(b"p", lines.hear())
+            first = attacker.client_first(lines.hear())
+            selected = attacker.mechanism(mechanism.encode())
+            server.say(b"p", selected + b"\0" + struct.pack(">I", len(first)) + first)
+            lines.say(attacker.server_first(server.challenge(SASL_CONTINUE)))
+            server.say(b"p", attacker.client_final(lines.hear()))
             lines.say(server.challenge(SASL_FINAL))
             server.challenge(OK)
             lines.hear()
@@ -147,19 +152,21 @@ def begun(channel: socket.socket, context: Optional[ssl.SSLContext]) -> Messages
             channel = context.wrap_socket(channel, server_side=True)
 
 
-def to_client(client: Messages, ours: socket.socket, header: bytes, offered: tuple[str, ...]) -> None:
-    """Hands the messages of a client of libpq to our server and back, and answers a query by nothing. The first one has
-    to begin with this header."""
+def to_client(
+    client: Messages, ours: socket.socket, header: bytes, offered: tuple[str, ...], attacker: Attacker
+) -> None:
+    """Hands the messages of a client of libpq to our server and back, changed by the attacker, and answers a query by
+    nothing. The client's first one has to begin with this header."""
     lines = Lines(ours)
     client.say(b"R", struct.pack(">I", SASL) + b"".join(name.encode() + b"\0" for name in offered) + b"\0")
     mechanism, first = client.response().split(b"\0", 1)
     first = first[4:]
     assert first.startswith(header)
-    ours.sendall(mechanism + b"\n")
+    ours.sendall(attacker.mechanism(mechanism) + b"\n")
     try:
-        lines.say(first)
-        client.say(b"R", struct.pack(">I", SASL_CONTINUE) + lines.hear())
-        lines.say(client.response())
+        lines.say(attacker.client_first(first))
+        client.say(b"R", struct.pack(">I", SASL_CONTINUE) + attacker.server_first(lines.hear()))
+        lines.say(attacker.client_final(client.response()))
         client.say(b"R", struct.pack(">I", SASL_FINAL) + lines.hear())
     except Ended:
         client.say(b"E", b"SFATAL\0C28P01\0Mnot logged in\0\0")
@@ -184,16 +191,17 @@ def psql(port: int, name: str, password: str, more: str = "") -> subprocess.Pope
 
 
 def from_psql(
-    ours: socket.socket, user: User, context: Optional[ssl.SSLContext], header: bytes, offered: tuple[str, ...]
+    ours: socket.socket, user: User, context: Optional[ssl.SSLContext], header: bytes, offered: tuple[str, ...],
+    attacker: Attacker = ONLY_RELAYS,
 ) -> bool:
-    """A login of `psql` at our server. Whether it is content."""
+    """A login of `psql` at our server, with messages that the attacker changes. Whether `psql` is content."""
     mode = f"sslmode={'require' if context else 'disable'}"
     mode += f" channel_binding={ {BINDS: 'require', BINDS_NOT: 'prefer'}.get(header, 'disable') }"
     with listening() as listener:
         with ended_after(psql(listener.getsockname()[1], user.name, user.password, mode)) as client:
             channel, _ = listener.accept()
             with channel, contextlib.suppress(Ended, ConnectionError):
-                to_client(begun(channel, context), ours, header, offered)
+                to_client(begun(channel, context), ours, header, offered, attacker)
             return client.wait(PATIENCE) == 0
 
 

@@ -25,6 +25,7 @@ from typing import Optional
 sys.dont_write_bytecode = True
 sys.path.insert(0, str(Path(__file__).resolve().parent))
 import record  # noqa: E402
+from attacked import AttackedPostgreSql  # noqa: E402
 from cells import Cell, Peer  # noqa: E402
 from cyrus_sasl import CyrusSasl  # noqa: E402
 from example_broker import ExampleBroker  # noqa: E402
@@ -41,7 +42,7 @@ HEAD = "# Logins to other programs and by them\n\nWritten by `interop/run.py --t
 
 def peers(built: Path, proton: Optional[Path]) -> list[Peer]:
     """The peers, in the order of the table."""
-    with_sasl_alone = [GnuSasl(), CyrusSasl(built), PostgreSql()]
+    with_sasl_alone = [GnuSasl(), CyrusSasl(built), PostgreSql(), AttackedPostgreSql()]
     proton_peers = [QpidProton(), ProtonWithCyrus(proton), ExampleBroker(proton)]
     return [*with_sasl_alone, *proton_peers, LateCyrus(built), LateGnu(), RabbitMq()]
 

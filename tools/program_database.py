@@ -1,5 +1,6 @@
 #!/usr/bin/env python3
-"""Tries the built program `scram` on SQLite files (`--db`): logins at once, a change under way, locks, and faults.
+"""Tries the built program `scram` on SQLite files (`--db`): logins at once, a change under way, locks, and faults. How it
+makes a new file is tried by tools/program_new_database.py.
 
     tools/program_database.py [PROGRAM]           the program defaults to crates/scram/out/scram
     tools/program_database.py [PROGRAM] --sizes   also measures a login among 1, 1,000 and 1,000,000 users
@@ -7,7 +8,9 @@
 It needs Python's sqlite3 module, which reads and writes the same files.
 """
 import fcntl
+import base64
 import hashlib
+import hmac
 import os
 import sqlite3
 import subprocess
@@ -26,6 +29,8 @@ TABLE = ("CREATE TABLE users (name TEXT NOT NULL, mechanism TEXT NOT NULL, salt 
          "iterations INTEGER NOT NULL, stored_key BLOB NOT NULL, server_key BLOB NOT NULL, "
          "PRIMARY KEY (name, mechanism)) WITHOUT ROWID")
 
+HASHES = {"SCRAM-SHA-1": "sha1", "SCRAM-SHA-256": "sha256", "SCRAM-SHA-512": "sha512"}
+
 # SQLite's lock bytes (fileformat2.html, section 1.6: the lock page).
 LOCK_START, LOCK_LENGTH = 1 << 30, 512
 
@@ -36,21 +41,15 @@ def scram(*words, password="pencil"):
     return run.returncode, run.stdout.decode(), run.stderr.decode()
 
 
-def record(password, salt, iterations):
+def record(password, salt, iterations, digest="sha256"):
     """The record of a password (RFC 5802, section 3), by Python's hashlib."""
-    salted = hashlib.pbkdf2_hmac("sha256", password.encode(), salt, iterations)
-    client = hmac256(salted, b"Client Key")
-    return hashlib.sha256(client).digest(), hmac256(salted, b"Server Key")
+    salted = hashlib.pbkdf2_hmac(digest, password.encode(), salt, iterations)
+    client = hmac.digest(salted, b"Client Key", digest)
+    return hashlib.new(digest, client).digest(), hmac.digest(salted, b"Server Key", digest)
 
 
-def hmac256(key, text):
-    import hmac
-    return hmac.new(key, text, "sha256").digest()
-
-
-def make(path, count):
-    """Makes a file of this many users with SQLite. The password of each is its name."""
-    salt = bytes(range(16))
+def make(path, count, salt=bytes(range(16))):
+    """Makes a file of this many users with SQLite, each with the password `pencil`."""
     with sqlite3.connect(path) as base:
         base.execute("PRAGMA synchronous=OFF")
         base.execute(TABLE)
@@ -127,19 +126,52 @@ def commands(folder):
     assert scram("users", "add", "--db", path, "alice")[:2] == (0, "added\n")
     assert scram("users", "add", "--db", path, "alice", password="second")[:2] == (0, "replaced\n")
     assert scram("users", "add", "--db", path, "alice", "--mechanism", "SCRAM-SHA-1", password="second")[0] == 0
-    assert scram("users", "add", "--db", path, "b=o,b é", "--iterations", "1")[0] == 0
-    assert scram("users", "check", "--db", path, "alice", password="second")[:2] == (0, "SCRAM-SHA-1 yes\nSCRAM-SHA-256 yes\n")
+    assert scram("users", "add", "--db", path, "b=o,b é", "--mechanism", "SCRAM-SHA-256", "--iterations", "1")[0] == 0
+    assert scram("users", "check", "--db", path, "alice", password="second")[:2] == (
+        0, "SCRAM-SHA-1 yes\nSCRAM-SHA-256 yes\nSCRAM-SHA-512 yes\n")
     assert scram("users", "check", "--db", path, "alice")[0] == 3
-    assert scram("users", "passwd", "--db", path, "alice", "--all", password="third")[:2] == (0, "changed\n")
+    assert scram("users", "passwd", "--db", path, "alice", password="third")[:2] == (0, "changed\n")
     assert scram("users", "check", "--db", path, "alice", password="third")[0] == 0
-    assert [row[:2] for row in rows(path)] == [("alice", "SCRAM-SHA-1"), ("alice", "SCRAM-SHA-256"), ("b=o,b é", "SCRAM-SHA-256")]
-    for name, mechanism, salt, count, stored, server in rows(path)[1:]:
-        assert (stored, server) == record("third" if name == "alice" else "pencil", salt, count)
+    assert [row[:2] for row in rows(path)] == [
+        ("alice", "SCRAM-SHA-1"), ("alice", "SCRAM-SHA-256"), ("alice", "SCRAM-SHA-512"), ("b=o,b é", "SCRAM-SHA-256")]
+    for name, mechanism, salt, count, stored, server in rows(path):
+        assert (stored, server) == record("third" if name == "alice" else "pencil", salt, count, HASHES[mechanism])
     status, listed, _ = scram("users", "list", "--db", path)
-    assert status == 0 and len(listed.splitlines()) == 3, listed
+    assert status == 0 and len(listed.splitlines()) == 4, listed
     assert scram("users", "remove", "--db", path, "alice")[:2] == (0, "removed\n")
     assert [row[0] for row in rows(path)] == ["b=o,b é"]
     assert scram("users", "remove", "--db", path, "alice")[0] == 3
+
+
+def challenged(path, mechanism, name):
+    """The form that a server's challenge shows of a user: the length of the salt, and the iteration count."""
+    given = base64.b64encode(f"n,,n={name},r=nonce".encode()) + b"\n"
+    run = subprocess.run([PROGRAM, "server", mechanism, path, "--db"], input=given, capture_output=True, timeout=SECONDS)
+    fields = dict(field.split("=", 1) for field in base64.b64decode(run.stdout.splitlines()[0]).decode().split(","))
+    return len(base64.b64decode(fields["s"])), int(fields["i"])
+
+
+def forms(folder):
+    """New records and mock records have the form of the first record for the hash, in the order of the names."""
+    path = str(folder / "users.db")
+    make(path, 2000, bytes(24))
+    assert scram("users", "add", "--db", path, "alice")[:2] == (0, "added\n")
+    assert scram("users", "add", "--db", path, "zoe", "--mechanism", "SCRAM-SHA-1", "--salt-length", "9", "--iterations", "7")[0] == 0
+    assert scram("users", "add", "--db", path, "aaron", "--mechanism", "SCRAM-SHA-1")[:2] == (0, "added\n")
+    added = {row[:2]: (len(row[2]), row[3]) for row in rows(path) if not row[0].startswith("user")}
+    assert added == {("aaron", "SCRAM-SHA-1"): (9, 7), ("zoe", "SCRAM-SHA-1"): (9, 7),
+                     ("alice", "SCRAM-SHA-256"): (24, 4096), ("alice", "SCRAM-SHA-512"): (16, 4096)}, added
+    assert challenged(path, "SCRAM-SHA-1", "nobody") == challenged(path, "SCRAM-SHA-1", "zoe") == (9, 7)
+    assert challenged(path, "SCRAM-SHA-256", "nobody") == challenged(path, "SCRAM-SHA-256", "user0000007") == (24, 4096)
+    assert challenged(path, "SCRAM-SHA-512", "nobody") == challenged(path, "SCRAM-SHA-512", "alice") == (16, 4096)
+    assert scram("users", "list", "--db", path, "--hashes")[:2] == (0, "")
+    status, said, _ = scram("users", "check", "--db", path)
+    assert status == 3 and "SCRAM-SHA-512 user0001999: no record\n" in said and "a salt" not in said, said[-200:]
+    status, said, errors = scram("users", "passwd", "--db", path, "user0000007", "--iterations", "1")
+    assert (status, said) == (0, "changed\n") and errors.count("but the first has") == 2, errors
+    assert [row[1:4:2] for row in rows(path) if row[0] == "user0000007"] == [("SCRAM-SHA-256", 1), ("SCRAM-SHA-512", 1)]
+    status, said, _ = scram("users", "check", "--db", path)
+    assert status == 3 and "SCRAM-SHA-256 user0000007: a salt of 24 bytes and 1 iterations" in said, said[:200]
 
 
 def logins(folder):
@@ -202,7 +234,7 @@ def at_once(folder):
         thread.join()
     assert len(ended) == 8 and all(login[:2] == (0, 0) for login in ended), ended
     assert changed == [(0, "added\n")] * 8, changed
-    assert len(rows(path)) == 1008
+    assert len(rows(path)) == 1016
 
 
 def locked(folder):
@@ -268,7 +300,7 @@ def torn(folder):
         time.sleep(pause)
         run.kill()
         run.wait()
-        assert len(rows(path)) - before in (0, 1)
+        assert len(rows(path)) - before in (0, 2)
     assert scram("users", "check", "--db", path, "user0000999")[0] == 0
 
 
@@ -301,14 +333,19 @@ def least(way):
     return min(times)
 
 
-def main():
-    trials = [commands, logins, closed_at_the_challenge, at_once, locked, faults, torn]
-    if "--sizes" in sys.argv:
-        trials.append(sizes)
+def run(trials):
+    """Runs each trial in a folder of its own, and prints what it is of."""
     for trial in trials:
         with tempfile.TemporaryDirectory() as name:
             trial(Path(name))
         print(f"ok: {trial.__doc__.splitlines()[0]}")
+
+
+def main():
+    trials = [commands, forms, logins, closed_at_the_challenge, at_once, locked, faults, torn]
+    if "--sizes" in sys.argv:
+        trials.append(sizes)
+    run(trials)
 
 
 if __name__ == "__main__":

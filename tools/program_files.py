@@ -7,6 +7,8 @@ The trials of owners need root, those of relays `socat`, and those of many lines
 otherwise.
 """
 import base64
+import hashlib
+import hmac
 import os
 import pty
 import shutil
@@ -85,7 +87,7 @@ def changes_at_once(folder):
     for run in runs:
         run.communicate(b"pencil\n", timeout=SECONDS)
     assert [run.returncode for run in runs] == [0] * 12
-    assert len(Path(users).read_text().splitlines()) == 12
+    assert len(Path(users).read_text().splitlines()) == 24
 
 
 def left_over(folder):
@@ -114,7 +116,7 @@ def quoted_names(folder):
     users = str(folder / "users.txt")
     names = ["alice", "a,b c=", "\x1b[31m'\\", "Müller", ""]
     for name in names:
-        assert scram("users", "add", users, name)[0] == 0
+        assert scram("users", "add", users, name, "--mechanism", "SCRAM-SHA-256")[0] == 0
     listed = scram("users", "list", users)[1]
     assert listed.isascii() and "\x1b" not in listed
     for line, name in zip(listed.splitlines(), names):
@@ -174,10 +176,87 @@ def measured(given, *words):
     return run.stdout, float(user) + float(system), int(memory)
 
 
+def record(name, mechanism, salt, count, password="pencil"):
+    """The line of a user (RFC 5802, section 3), by Python's hashlib."""
+    digest = {"SCRAM-SHA-1": "sha1", "SCRAM-SHA-256": "sha256", "SCRAM-SHA-512": "sha512"}[mechanism]
+    salted = hashlib.pbkdf2_hmac(digest, password.encode(), salt, count)
+    stored = hashlib.new(digest, hmac.digest(salted, b"Client Key", digest)).digest()
+    keys = (base64.b64encode(it).decode() for it in (salt, stored, hmac.digest(salted, b"Server Key", digest)))
+    return "{} {}${}:{}${}:{}\n".format(name, mechanism, count, *keys)
+
+
+def parts(line):
+    """The name, the mechanism, the salt and the iteration count of a line."""
+    name, _, rest = line.rpartition(" ")
+    mechanism, count, keys = rest.split("$", 1)[0], *rest.split("$", 1)[1].split(":", 1)
+    return name, mechanism, base64.b64decode(keys.split("$")[0]), int(count)
+
+
+def challenged(users, mechanism, name):
+    """The form that a server's challenge shows of a user: the length of the salt, and the iteration count."""
+    given = base64.b64encode(f"n,,n={name},r=nonce".encode()) + b"\n"
+    run = subprocess.run([PROGRAM, "server", mechanism, users], input=given, capture_output=True, timeout=SECONDS)
+    fields = dict(field.split("=", 1) for field in base64.b64decode(run.stdout.splitlines()[0]).decode().split(","))
+    return len(base64.b64decode(fields["s"])), int(fields["i"]), run.stderr.decode()
+
+
+def two_hashes(folder):
+    """A new user has a record for SCRAM-SHA-256 and then one for SCRAM-SHA-512. Their keys are those of Python's hashlib."""
+    users = folder / "users.txt"
+    assert scram("users", "add", str(users), "alice")[:2] == (0, "added\n")
+    lines = users.read_text().splitlines(keepends=True)
+    found = [parts(line) for line in lines]
+    assert [it[:2] for it in found] == [("alice", "SCRAM-SHA-256"), ("alice", "SCRAM-SHA-512")], found
+    assert all((len(salt), count) == (16, 4096) for _, _, salt, count in found) and found[0][2] != found[1][2], found
+    assert lines == [record(*it) for it in found]
+    assert scram("users", "check", str(users), "alice")[:2] == (0, "SCRAM-SHA-256 yes\nSCRAM-SHA-512 yes\n")
+    assert scram("users", "list", "--hashes", str(users))[:2] == (0, "SCRAM-SHA-256\nSCRAM-SHA-512\n")
+    for mechanism in ("SCRAM-SHA-256", "SCRAM-SHA-512"):
+        known, unknown = (challenged(str(users), mechanism, name) for name in ("alice", "nobody"))
+        assert known[:2] == unknown[:2] == (16, 4096) and "several forms" not in known[2] + unknown[2]
+
+
+def older_file(folder):
+    """The users of a file with one hash get records for the other one by `users passwd`, in the form of the file."""
+    users = folder / "users.txt"
+    users.write_text("".join(record(name, "SCRAM-SHA-256", bytes(24), 5000) for name in ("alice", "bob")))
+    assert scram("users", "list", "--hashes", str(users))[:2] == (0, "SCRAM-SHA-256\n")
+    assert scram("users", "check", str(users))[:2] == (0, "")
+    assert scram("users", "add", str(users), "carol", password="third")[:2] == (0, "added\n")
+    forms = [(len(it[2]), it[3]) for it in map(parts, users.read_text().splitlines())]
+    assert forms == [(24, 5000)] * 3 + [(16, 4096)], forms
+    status, said, errors = scram("users", "check", str(users))
+    assert (status, said) == (3, "SCRAM-SHA-512 alice: no record\nSCRAM-SHA-512 bob: no record\n"), said
+    assert "passwd" in errors, errors
+    assert scram("users", "list", "--hashes", str(users))[1] == "SCRAM-SHA-256\n"
+    for name in ("alice", "bob"):
+        assert scram("users", "passwd", str(users), name, password="new")[:2] == (0, "changed\n")
+    assert scram("users", "check", str(users))[:2] == (0, "")
+    assert scram("users", "list", "--hashes", str(users))[1] == "SCRAM-SHA-256\nSCRAM-SHA-512\n"
+    assert scram("users", "check", str(users), "alice", password="new")[0] == 0
+    assert users.read_text().splitlines(keepends=True) == [
+        record(*it, password="third" if it[0] == "carol" else "new") for it in map(parts, users.read_text().splitlines())]
+
+
+def other_forms(folder):
+    """Another form by options is noted. The server notes a file with several forms, and the check lists the records."""
+    users = folder / "users.txt"
+    assert scram("users", "add", str(users), "alice")[2] == ""
+    status, said, errors = scram("users", "add", str(users), "bob", "--iterations", "5000", "--salt-length", "20")
+    assert (status, said) == (0, "added\n") and errors.count("a salt of 20 bytes and 5000 iterations") == 2, errors
+    for mechanism in ("SCRAM-SHA-256", "SCRAM-SHA-512"):
+        salt, count, errors = challenged(str(users), mechanism, "nobody")
+        assert (salt, count) == (16, 4096) and errors.count("several forms") == 1 and str(users) in errors, errors
+    status, said, _ = scram("users", "check", str(users))
+    assert status == 3 and said.count(" bob: a salt of 20 bytes and 5000 iterations") == 2 and "alice" not in said, said
+    assert scram("users", "passwd", str(users), "bob")[:2] == (0, "changed\n")
+    assert scram("users", "check", str(users))[:2] == (0, "")
+
+
 def many_lines(folder):
     """Among 200,000 lines a server parses only those of the client's user."""
     users = folder / "users.txt"
-    assert scram("users", "add", str(users), "alice")[0] == 0
+    assert scram("users", "add", str(users), "alice", "--mechanism", "SCRAM-SHA-256")[0] == 0
     record = users.read_text().removeprefix("alice")
     users.write_text("".join(f"user{number:07}{record}" for number in range(200_000)))
     line = base64.b64encode(b"n,,n=user0199999,r=nonce") + b"\n"
@@ -189,7 +268,7 @@ def many_lines(folder):
 
 
 def main():
-    trials = [devices, links, changes_at_once, left_over, outputs, quoted_names, terminals]
+    trials = [devices, links, changes_at_once, left_over, outputs, quoted_names, terminals, two_hashes, older_file, other_forms]
     if os.geteuid() == 0:
         trials += [owners, owner_lost]
     if shutil.which("socat"):

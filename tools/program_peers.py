@@ -19,6 +19,7 @@ from pathlib import Path
 TOP = Path(__file__).resolve().parent.parent
 PROGRAM = str(Path(sys.argv[1] if len(sys.argv) > 1 else TOP / "crates/scram/out/scram").resolve())
 MECHANISMS = ("SCRAM-SHA-1", "SCRAM-SHA-256", "SCRAM-SHA-512")
+DEFAULTS = ("SCRAM-SHA-256", "SCRAM-SHA-512")  # those that `users add` makes records for
 USER, PASSWORD = "alice", "pencil"
 ALLOWED, OTHER = "b=o,b", "carol"
 ASKS_ALLOWED, ASKS_OTHER = ("--acts-for", ALLOWED), ("--acts-for", OTHER)
@@ -158,6 +159,13 @@ def main():
         for mechanism in MECHANISMS:
             assert scram("users", "add", users, USER, "--mechanism", mechanism, password=PASSWORD) == 0
         assert scram("users", "check", users, USER, password=PASSWORD) == 0
+        by_default = str(Path(folder) / "default.txt")
+        assert scram("users", "add", by_default, USER, password=PASSWORD) == 0
+        for mechanism in DEFAULTS:
+            right, other = (over_lines(mechanism, by_default, password) for password in (PASSWORD, "pencils"))
+            holds = right == (0, 0) and 0 not in other
+            wrong += not holds
+            print(f"by default {mechanism}: {right} {other}{'' if holds else ' WRONG'}")
         for way, mechanisms in ways:
             for mechanism in mechanisms:
                 right = way(mechanism, users, PASSWORD)

@@ -1,5 +1,6 @@
 #!/usr/bin/env python3
-"""Runs of servers that take a client whose GS2 header is `y,,` (RFC 5802, section 6), and of one that does not.
+"""Runs of servers that accept a client whose GS2 header is `y,,` (RFC 5802, section 6), of servers that do not, and of such a
+client; with extensions, and with attributes in their place (section 7).
 
     tools/models/cbind_flag_runs.py write   writes crates/test_vectors_sasl/data/cbind-flag-y-runs.txt
     tools/models/cbind_flag_runs.py check   compares that file with what would be written
@@ -21,9 +22,12 @@ CLIENT_NONCE = base64.b64encode(b"\1" * 32).decode()
 NONCE = b"\2" * 32
 NO_NONCE = b"\0" * 32
 
-HEAD = """# Runs of SCRAM servers over bodies of frames, in the form of named-runs.txt. A run begins with its side,
-#     cbind_flag_y VERSION USER PASSWORD SALT            a server of one user that takes the GS2 header `y,,` too
-#     server VERSION USER PASSWORD SALT             one that takes `n,,` alone
+HEAD = """# Runs of SCRAM servers and clients over bodies of frames, in the form of named-runs.txt. A run begins with its side,
+#     cbind_flag_y VERSION USER PASSWORD SALT       a server of one user that accepts the GS2 header `y,,` too
+#     server VERSION USER PASSWORD SALT             one that accepts only `n,,`
+#     reject_misplaced VERSION USER PASSWORD SALT   one that accepts only `n,,`, and rejects what is no extension in the
+#                                                   place of one
+#     client_unoffered VERSION USER PASSWORD        a profile whose GS2 header is `y,,`
 # Source: written by `tools/models/cbind_flag_runs.py`, whose proofs and signatures are of Python's `hashlib` and `hmac`."""
 
 
@@ -56,17 +60,22 @@ def ok(text):
 AUTH = body(0x44, 1, b"\x50\1")
 
 
-class Exchange:
-    """A login of the user, with this GS2 header in the client's first message and this one in its last."""
+def offer(mechanism):
+    return body(0x40, 1, short(0xE0, b"\1\xa3" + bytes([len(mechanism)]) + mechanism.encode()))
 
-    def __init__(self, mechanism, header, repeated):
+
+class Exchange:
+    """A login, with this GS2 header in the client's first message and this one in its last, and with a text after the known
+    parts of each message."""
+
+    def __init__(self, mechanism, header, repeated, first="", challenge="", last="", verifier="", user=USER, nonce=CLIENT_NONCE):
         self.mechanism = mechanism
         name = HASHES[mechanism]
-        self.bare = f"n={USER},r={CLIENT_NONCE}"
+        self.bare = f"n={user},r={nonce}{first}"
         self.client_first = header + self.bare
-        both = CLIENT_NONCE + base64.b64encode(NONCE).decode()
-        self.server_first = f"r={both},s={base64.b64encode(SALT).decode()},i={COUNT}"
-        without = f"c={base64.b64encode(repeated.encode()).decode()},r={both}"
+        both = nonce + base64.b64encode(NONCE).decode()
+        self.server_first = f"r={both},s={base64.b64encode(SALT).decode()},i={COUNT}{challenge}"
+        without = f"c={base64.b64encode(repeated.encode()).decode()},r={both}{last}"
         salted = hashlib.pbkdf2_hmac(name, PASSWORD.encode(), SALT, COUNT)
         client_key = hmac.digest(salted, b"Client Key", name)
         auth = ",".join([self.bare, self.server_first, without]).encode()
@@ -74,7 +83,7 @@ class Exchange:
         proof = bytes(a ^ b for a, b in zip(client_key, signature))
         self.client_final = f"{without},p={base64.b64encode(proof).decode()}"
         server_key = hmac.digest(salted, b"Server Key", name)
-        self.server_final = "v=" + base64.b64encode(hmac.digest(server_key, auth, name)).decode()
+        self.server_final = "v=" + base64.b64encode(hmac.digest(server_key, auth, name)).decode() + verifier
 
     def challenged(self):
         sent = init(self.mechanism, self.client_first).hex()
@@ -90,9 +99,84 @@ class Exchange:
         return f"{NO_NONCE.hex()} {response(self.client_final).hex()} => Outcome:Auth {AUTH.hex()}"
 
 
-def run(name, side, mechanism, lines):
-    words = [side, mechanism, USER.encode().hex(), PASSWORD.encode().hex(), SALT.hex()]
+    def offered(self):
+        """The client begins. Its nonce is 32 bytes 01."""
+        return f"{'01' * 32} {offer(self.mechanism).hex()} => Init {init(self.mechanism, self.client_first).hex()}"
+
+    def answered(self):
+        return f"{NO_NONCE.hex()} {challenge(self.server_first).hex()} => Response {response(self.client_final).hex()}"
+
+    def not_answered(self):
+        return f"{NO_NONCE.hex()} {challenge(self.server_first).hex()} => Scram(MisplacedAttribute)"
+
+    def verified(self):
+        return f"{NO_NONCE.hex()} {ok(self.server_final).hex()} => Outcome:Ok {ok(self.server_final).hex()}"
+
+    def not_verified(self):
+        return f"{NO_NONCE.hex()} {ok(self.server_final).hex()} => Scram(MisplacedAttribute)"
+
+
+def run(name, side, mechanism, lines, user=USER):
+    words = [side, mechanism, user.encode().hex() or "-", PASSWORD.encode().hex()]
+    if side != "client_unoffered":
+        words += [SALT.hex()]
     return "\n".join(["\n# " + name, " ".join(words), *lines, ""])
+
+
+# Attributes that section 5.1 defines, `m` among them, parts that are none, and an empty part.
+MISPLACED = (",i=4096", ",m=1", ",c=biws,r=abc", ",x=1,s=AAAA", ",x=", ",xy=1", ",")
+# Extensions.
+EXTENSIONS = (",x=1", ",x=1,Y=2=3")
+
+
+def accepting(mechanism):
+    """Runs of a server that accepts `y,,`. It tests the last message of a client that has a channel, and no other."""
+    yes, no = Exchange(mechanism, "y,,", "y,,"), Exchange(mechanism, "n,,", "n,,")
+    lines = [yes.challenged()]
+    lines += [Exchange(mechanism, "y,,", "y,,", last=end).not_believed() for end in MISPLACED]
+    yield run("A client that could bind a channel, with a misplaced attribute in its last message.", "cbind_flag_y", mechanism,
+        [*lines, yes.believed()])
+    lines = []
+    for header, first, last in (("n,,", "", ",i=4096"), ("n,,", ",i=4096", ""), ("y,,", ",i=4096", "")):
+        other = Exchange(mechanism, header, header, first=first, last=last)
+        lines += [other.challenged(), other.believed()]
+    yield run("What this server does not test.", "cbind_flag_y", mechanism, [*lines, no.challenged(), no.believed()])
+
+
+def rejecting(mechanism):
+    """Runs of a server that rejects what is no extension, and nothing more."""
+    no, yes = Exchange(mechanism, "n,,", "n,,"), Exchange(mechanism, "y,,", "y,,")
+    lines = [Exchange(mechanism, "n,,", "n,,", first=end).not_challenged() for end in MISPLACED]
+    lines += [no.challenged()]
+    lines += [Exchange(mechanism, "n,,", "n,,", last=end).not_believed() for end in MISPLACED]
+    yield run("A misplaced attribute in each message.", "reject_misplaced", mechanism,
+        [*lines, no.believed(), yes.not_challenged()])
+    lines = []
+    for end in EXTENSIONS:
+        for other in (Exchange(mechanism, "n,,", "n,,", first=end), Exchange(mechanism, "n,,", "n,,", last=end)):
+            lines += [other.challenged(), other.believed()]
+    yield run("Extensions.", "reject_misplaced", mechanism, lines)
+    loose = Exchange(mechanism, "n,,", "n,,", user="", nonce="a b\x7f")
+    misplaced = Exchange(mechanism, "n,,", "n,,", user="", nonce="a b\x7f", first=",i=4096")
+    empty = Exchange(mechanism, "n,,", "n,,", user="", nonce="")
+    yield run("An empty name, and a nonce that the grammar forbids.", "reject_misplaced", mechanism,
+        [misplaced.not_challenged(), loose.challenged(), loose.believed(), empty.challenged(), empty.believed()], user="")
+
+
+def unoffered(mechanism):
+    """Runs of a client that has a channel and was not offered to bind it."""
+    yes = Exchange(mechanism, "y,,", "y,,")
+    lines = [yes.offered()]
+    lines += [Exchange(mechanism, "y,,", "y,,", challenge=end).not_answered() for end in MISPLACED]
+    lines += [yes.answered()]
+    lines += [Exchange(mechanism, "y,,", "y,,", verifier=end).not_verified() for end in MISPLACED]
+    yield run("A client that says `y,,`, with a misplaced attribute in each message.", "client_unoffered", mechanism,
+        [*lines, yes.verified()])
+    lines = []
+    for end in EXTENSIONS:
+        for other in (Exchange(mechanism, "y,,", "y,,", challenge=end), Exchange(mechanism, "y,,", "y,,", verifier=end)):
+            lines += [other.offered(), other.answered(), other.verified()]
+    yield run("A client that says `y,,`, with extensions.", "client_unoffered", mechanism, lines)
 
 
 def text():
@@ -114,7 +198,8 @@ def text():
             [bound.not_challenged(), acting.not_challenged(), yes.challenged(), yes.believed()]))
         runs.append(run("A server that was not asked to.", "server", mechanism,
             [yes.not_challenged(), yes.not_believed(), no.challenged(), other.not_believed(), no.believed()]))
-    return "".join(runs)
+    mechanism = "SCRAM-SHA-256"
+    return "".join([*runs, *accepting(mechanism), *rejecting(mechanism), *unoffered(mechanism)])
 
 
 def main():

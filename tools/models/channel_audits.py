@@ -8,6 +8,7 @@ Both sides are those of `tools/models/negotiations.py`, over Python's `hashlib` 
 bodies here, and pairs equal verifiers and equal proofs. Nothing of this repository's code is used.
 """
 import base64
+import re
 import sys
 from pathlib import Path
 
@@ -22,8 +23,9 @@ SHA_256 = "SCRAM-SHA-256"
 # The length of a Finished message of TLS 1.2, of a digest of SHA-512, and of exported keying material.
 KINDS = {"tls-unique": b"\4" * 12, "tls-server-end-point": b"\5" * 64, "tls-exporter": b"\xff" * 32}
 KIND = "tls-exporter"
-# The attributes that RFC 5802 defines (section 5.1).
-ATTRIBUTES = tuple(b"%c=" % letter for letter in b"anmrcsipve")
+# An extension (RFC 5802, section 7): an attribute that section 5.1 does not define, with a value. The letter `m` begins a
+# `reserved-mext`, which no side may ignore.
+EXTENSION = rb"(?![anmrcsipve])[A-Za-z]=[^\0]+"
 
 HEAD = """# Audits of a client with options, each with its name, separated by empty lines, in the form of named-audits.txt:
 # an audit begins with what the two sides are made of, and with options, each of which may be absent,
@@ -37,11 +39,13 @@ HEAD = """# Audits of a client with options, each with its name, separated by em
 #     most:COUNT               the client's maximum iteration count
 #     server:KIND:DATA         the server binds this channel
 #     cbind_flag_y             the server accepts the GS2 header `y,,` too
+#     reject_misplaced         the server rejects what is no extension in the place of one
 # Source: written by `tools/models/channel_audits.py`, whose proofs and signatures are of Python's `hashlib` and `hmac`."""
 
 
-def has_attribute(parts):
-    return any(part.startswith(ATTRIBUTES) for part in parts)
+def is_misplaced(parts):
+    """Whether one of the parts is no extension."""
+    return any(re.fullmatch(EXTENSION, part, re.S) is None for part in parts)
 
 
 def header_of(kind):
@@ -49,7 +53,7 @@ def header_of(kind):
 
 
 class Client(model.ScramClient):
-    """A client that rejects an attribute of RFC 5802 in the place of an extension if it binds a channel or is set to, and
+    """A client that rejects what is no extension in the place of one if it has a channel, bound or not, or is set to, and
     has a minimum iteration count too."""
 
     def __init__(self, mechanism=SHA_256, bound=None, unoffered=False, strict=False, by_challenge=False, least=1,
@@ -58,7 +62,8 @@ class Client(model.ScramClient):
         super().__init__(mechanism, USER, PASSWORD, most, by_challenge=by_challenge, channel=channel)
         if unoffered:
             self.header = b"y,,"
-        self.version, self.is_strict, self.least, self.is_due = mechanism, strict or bound is not None, least, False
+        self.is_strict = strict or unoffered or bound is not None
+        self.version, self.least, self.is_due = mechanism, least, False
         self.options = [
             *([f"client:{bound[0]}:{bound[1].hex()}"] if bound else []), *(["unoffered"] if unoffered else []),
             *(["strict"] if strict else []), *(["signature_by_challenge"] if by_challenge else []),
@@ -79,32 +84,39 @@ class Client(model.ScramClient):
             return super().challenge(message)
         if not self.is_due:
             raise model.Refused("IllegalClientState")
-        if self.is_strict and has_attribute(message.split(b",")[3:]):
+        if self.is_strict and is_misplaced(message.split(b",")[3:]):
             raise model.Refused("MisplacedAttribute")
         answer = super().challenge(message)
         self.is_due = False
         return answer
 
+    def believe(self, data):
+        if data is not None and self.signature is not None and self.is_strict and is_misplaced(data.split(b",")[1:]):
+            raise model.Refused("MisplacedAttribute")
+        super().believe(data)
+
 
 class Server(model.ScramServer):
-    """A server of the user, which rejects an attribute of RFC 5802 in the place of an extension if it binds a channel."""
+    """A server of the user, which rejects what is no extension in the place of one if it binds a channel or is set to, and
+    in the last message of a client that says `y,,`."""
 
-    def __init__(self, mechanism=SHA_256, bound=None, accepts_y=False):
+    def __init__(self, mechanism=SHA_256, bound=None, accepts_y=False, rejects=False):
         headers = [header_of(bound[0])] if bound else [b"n,,", *([b"y,,"] if accepts_y else [])]
         super().__init__(mechanism, USER, PASSWORD, SALT, COUNT, tuple(headers), bound[1] if bound else b"")
-        self.is_strict = bound is not None
+        self.is_strict, self.is_lax = bound is not None or rejects, False
         self.options = [*([f"server:{bound[0]}:{bound[1].hex()}"] if bound else []),
-                        *(["cbind_flag_y"] if accepts_y else [])]
+                        *(["cbind_flag_y"] if accepts_y else []), *(["reject_misplaced"] if rejects else [])]
 
     def init(self, mechanism, message, nonce):
-        if self.is_strict and has_attribute(message.split(b",,", 1)[-1].split(b",")[2:]):
+        if self.is_strict and not self.is_lax and is_misplaced(message.split(b",,", 1)[-1].split(b",")[2:]):
             raise model.Refused("MisplacedAttribute")
         return super().init(mechanism, message, nonce)
 
     def response(self, message):
         if self.bare is None:
             raise model.Refused("Auth")
-        if self.is_strict and has_attribute(message.split(b",")[2:-1]):
+        is_strict = self.is_strict or self.header != b"n,,"
+        if is_strict and not self.is_lax and is_misplaced(message.split(b",")[2:-1]):
             raise model.Refused("MisplacedAttribute")
         return super().response(message)
 
@@ -200,13 +212,22 @@ class Login:
             self.client.append((NO_NONCE, body("Outcome", 0, signature)))
 
 
+class Ended(Login):
+    """A login whose last message has more after the signature."""
+
+    def __init__(self, client, server, end):
+        super().__init__(client, server)
+        kind, fields = model.read(self.client[-1][1])
+        self.client[-1] = (NO_NONCE, body(kind, fields[0], fields[1] + end))
+
+
 class Shifted(Login):
     """A login of one AuthMessage that each side cuts in another place, of sides that are not strict."""
 
     def __init__(self, bound=None):
         header, data = (header_of(bound[0]), bound[1]) if bound else (b"n,,", b"")
         client, server = Client(bound=bound), Server(bound=bound)
-        client.is_strict = server.is_strict = False
+        client.is_strict, server.is_lax = False, True
         salt, binding = base64.b64encode(SALT), base64.b64encode(header + data)
         init = b"%b,r=%bA=,s=%b,i=%d" % (client.first(CLIENT_NONCE), client.nonce, salt, COUNT)
         name = server.mechanism.encode()
@@ -217,6 +238,27 @@ class Shifted(Login):
         altered = b"c=%b,r=%b,%b" % (binding, server.nonce, final)
         signature = server.response(altered)[1][1]
         self.client = [(CLIENT_NONCE, body("Mechanisms", [name])), (NO_NONCE, body("Challenge", challenge)),
+                       (NO_NONCE, body("Outcome", 0, signature))]
+        self.server = [(SERVER_NONCE, body("Init", name, init, None)), (NO_NONCE, body("Response", altered))]
+
+
+class TalkedOut(Login):
+    """A login of sides that are not strict, without a channel at the server. Someone on the way puts the header that the
+    server accepts in place of the client's, and into both later messages what the server then expects. What the client
+    sends of its own header is in the place of an extension."""
+
+    def __init__(self, mechanism=SHA_256, **options):
+        client, server = Client(mechanism, **options), Server(mechanism)
+        client.is_strict = False
+        name, accepted = server.mechanism.encode(), b"n,,"
+        client.first(CLIENT_NONCE)
+        init = accepted + client.bare
+        first = server.init(name, init, SERVER_NONCE)[1][0]
+        moved = b"c=%b,r=%b" % (base64.b64encode(accepted), server.nonce)
+        challenge = first + b"," + moved
+        altered = moved + b"," + client.challenge(challenge)
+        signature = server.response(altered)[1][1]
+        self.client = [(CLIENT_NONCE, body("Mechanisms", [client.mechanism.encode()])), (NO_NONCE, body("Challenge", challenge)),
                        (NO_NONCE, body("Outcome", 0, signature))]
         self.server = [(SERVER_NONCE, body("Init", name, init, None)), (NO_NONCE, body("Response", altered))]
 
@@ -270,7 +312,7 @@ def channels():
 
 
 def reading():
-    """Audits of clients that are strict, or have limits."""
+    """Audits of sides that are strict, or are not."""
     plain = Login(Client(), Server())
     yield row("A strict client, and no misplaced attribute.", plain, Client(strict=True), Server(), 2)
     shifted = Shifted()
@@ -281,6 +323,30 @@ def reading():
     own = {"bound": (KIND, KINDS[KIND])}
     yield row("Texts that are shifted between the messages: a client that binds a channel rejects them.", Shifted(**own),
               Client(**own), Server(**own), 0)
+    for ours, theirs in (({"unoffered": True}, {"accepts_y": True}), (own, own)):
+        client, server = Client(**ours), Server(**theirs)
+        yield row("A misplaced attribute after the signature.", Ended(client, server, b",i=1"), client, server, 1)
+        yield row("An extension after the signature.", Ended(client, server, b",x=1"), client, server, 2)
+    yield row("Texts that are shifted between the messages: a server with `reject_misplaced` rejects them.", shifted,
+              Client(most=COUNT, by_challenge=True), Server(rejects=True), 0)
+    yield row("A server with `reject_misplaced`, and no misplaced attribute.", plain, Client(), Server(rejects=True), 2)
+
+
+def talked_out():
+    """Audits of clients that have a channel, with texts in which the server reads that they have none."""
+    lax = Client(most=COUNT, by_challenge=True)
+    yield row("The client has no channel, and accepts what is moved.", TalkedOut(), lax, Server(), 2)
+    yield row("A server with `reject_misplaced` rejects it.", TalkedOut(), lax, Server(rejects=True), 0)
+    for mechanism in model.HASHES:
+        yield row("A client that says `y,,` rejects what is moved.", TalkedOut(mechanism, unoffered=True),
+                  Client(mechanism, unoffered=True), Server(mechanism), 0)
+        own = {"mechanism": mechanism, "bound": (KIND, KINDS[KIND])}
+        yield row("A client that binds a channel rejects what is moved.", TalkedOut(**own), Client(**own), Server(mechanism), 0)
+
+
+def limits():
+    """Audits of clients with limits."""
+    plain = Login(Client(), Server())
     yield row("The count is the minimum and the maximum.", plain, Client(least=COUNT, most=COUNT), Server(), 2)
     yield row("The count is below the minimum.", plain, Client(least=COUNT + 1), Server(), 0)
     yield row("The count is above the maximum.", plain, Client(least=2, most=COUNT - 1), Server(), 0)
@@ -288,7 +354,7 @@ def reading():
 
 def text():
     """The text of the file."""
-    return HEAD + "\n" + "".join([*channels(), *reading()])
+    return HEAD + "\n" + "".join([*channels(), *reading(), *talked_out(), *limits()])
 
 
 def main():

@@ -96,9 +96,10 @@ class Keys:
 
 class Login:
     """A login of the user: with this GS2 header, with this channel binding in the client's last message, with these
-    extensions after the client's and the server's first message, and with this escaped name."""
+    extensions in the client's first, the server's first, the client's last and the server's last message, and with this
+    escaped name."""
 
-    def __init__(self, header, bound, mechanism=SHA_256, client_more="", server_more="", user=USER):
+    def __init__(self, header, bound, mechanism=SHA_256, client_more="", server_more="", last_more="", end_more="", user=USER):
         keys = Keys(mechanism)
         self.keys = keys
         self.bound = bound
@@ -106,13 +107,13 @@ class Login:
         self.client_first = header + bare
         self.nonce = b64(CLIENT_NONCE) + b64(SERVER_NONCE)
         self.server_first = f"r={self.nonce},s={b64(SALT)},i={COUNT}{server_more}"
-        without = f"c={b64(bound)},r={self.nonce}"
+        without = f"c={b64(bound)},r={self.nonce}{last_more}"
         auth = ",".join([bare, self.server_first, without]).encode()
         signature = hmac.digest(keys.stored, auth, keys.hash)
         self.proof = bytes(a ^ b for a, b in zip(keys.client, signature))
         self.client_final = f"{without},p={b64(self.proof)}"
         self.signature = hmac.digest(keys.server, auth, keys.hash)
-        self.server_final = "v=" + b64(self.signature)
+        self.server_final = "v=" + b64(self.signature) + end_more
         self.plus = mechanism + ("-PLUS" if header.startswith("p=") else "")
 
     def texts(self):
@@ -286,6 +287,43 @@ def strict():
     login = plain("y,,", client_more=",i=1")
     rows.append(server("Both options.", "--accept-y --strict", [login.client_first], ["e=other-error"],
         *server_refuses(MISPLACED)))
+    return [*rows, *misplaced()]
+
+
+def misplaced():
+    """Parts that are no extension, to a client that says `y,,` and to servers that test nothing more."""
+    rows = []
+    for option, header in (("--channel-not-offered", "y,,"), (channel("tls-exporter"), "p=tls-exporter,,")):
+        data = KINDS["tls-exporter"] if header.startswith("p=") else b""
+        moved = Login(header, header.encode() + data, server_more=f",c=biws,r={plain('n,,').nonce}")
+        rows.append(client("What a server without a channel expects is moved to its message.", option, [moved.server_first],
+            [moved.client_first], *client_refuses(MISPLACED)))
+        last = Login(header, header.encode() + data, end_more=",i=1")
+        rows.append(client("A misplaced attribute after the signature.", option, [last.server_first, last.server_final],
+            [last.client_first, last.client_final], *client_refuses(MISPLACED)))
+        more = Login(header, header.encode() + data, server_more=",x=AAAA", end_more=",x=1")
+        rows.append(client("Extensions.", option, [more.server_first, more.server_final], [more.client_first, more.client_final],
+            DONE))
+    last = plain("y,,", last_more=",i=1")
+    rows.append(server("The last message of a client that has a channel is tested.", "--accept-y",
+        [last.client_first, last.client_final], [last.server_first, "e=other-error"], *server_refuses(MISPLACED)))
+    last = plain("n,,", last_more=",i=1")
+    rows.append(server("That of a client without a channel is not.", "--accept-y", [last.client_first, last.client_final],
+        [last.server_first, last.server_final], *LOGGED_IN))
+    option = "--reject-misplaced"
+    rows.append(server("The last message.", option, [last.client_first, last.client_final],
+        [last.server_first, "e=other-error"], *server_refuses(MISPLACED)))
+    first = plain("n,,", client_more=",i=1")
+    rows.append(server("The first message.", option, [first.client_first], ["e=other-error"], *server_refuses(MISPLACED)))
+    more = plain("n,,", client_more=",x=1", last_more=",y=2")
+    rows.append(server("Extensions.", option, [more.client_first, more.client_final], [more.server_first, more.server_final],
+        *LOGGED_IN))
+    empty = plain("n,,", user="")
+    rows.append(server("The empty name is read.", option, [empty.client_first], ["e=unknown-user"],
+        "! scram: The user is unknown.", "= 3"))
+    unbound = plain("y,,")
+    rows.append(server("A client that was offered no channel binding.", option, [unbound.client_first], ["e=other-error"],
+        *NO_HEADER))
     return rows
 
 
@@ -379,6 +417,12 @@ def explained():
             f'> client-first: {said}user "{USER}", nonce "{b64(CLIENT_NONCE)}"',
             f'> server-first: salt {SALT.hex()}, {COUNT} iterations, nonce "{login.nonce}"',
             "> client-final: rejected: Invalid channel binding", message_rejected(3), "= 3"))
+    login = plain("y,,", last_more=",i=1")
+    rows.append(row("A misplaced attribute in the last message of a client that has a channel.", "explain",
+        ["< " + line(text) for text in login.texts()[:3]],
+        f'> client-first: channel binding not offered, user "{USER}", nonce "{b64(CLIENT_NONCE)}"',
+        f'> server-first: salt {SALT.hex()}, {COUNT} iterations, nonce "{login.nonce}"',
+        f"> client-final: rejected: {MISPLACED}", message_rejected(3), "= 3"))
     login = bound("tls-exporter")
     for header, name in (
         ("p=tls-other,,", "An unknown kind."),

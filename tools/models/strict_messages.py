@@ -1,5 +1,5 @@
 #!/usr/bin/env python3
-"""Messages of SCRAM as strict sides read them: by the grammar of RFC 5802, section 7, written here as regular expressions.
+"""Messages of SCRAM as sides read them that test the grammar of RFC 5802, section 7, written here as regular expressions.
 
     tools/models/strict_messages.py write   writes crates/test_vectors_scram/data/strict-messages.txt
     tools/models/strict_messages.py check   compares that file with what would be written, and reads the SCRAM messages that
@@ -16,7 +16,10 @@ DATA = Path(__file__).resolve().parents[2] / "crates"
 FILE = DATA / "test_vectors_scram/data/strict-messages.txt"
 PEERS = DATA / "test_vectors_sasl/data/peer-runs.txt"
 
-HEAD = """# Messages as strict sides read them. A row is
+HEAD = """# Messages as sides read them that test the grammar. A line `given SIDE` says of which sides the rows after it are:
+#     strict             a strict side
+#     reject_misplaced   a server with `reject_misplaced`, and a client that says `y,,`: both test only extensions
+# A row is
 #     KIND MESSAGE => read
 #     KIND MESSAGE => FAULT
 # where KIND is `client-first`, `server-first` to a client with the nonce `fyko+d2lbbFgONRv9qkxdawL`, `client-final` of an
@@ -51,62 +54,78 @@ def match(pattern, text):
     return re.fullmatch(pattern, text, re.S) is not None
 
 
-def client_first(text):
-    """What a strict server says (section 5.1): what it reads in any case, and then the grammar."""
-    parts = text[3:].split(",")
+# What a side tests besides what it reads in any case: the whole grammar, or only that the parts after the known ones are
+# extensions.
+STRICT, EXTENSIONS_ONLY, NOTHING = "strict", "reject_misplaced", "nothing"
+
+
+def tested(tests, side):
+    """The tests that a side of this kind makes, in order."""
+    kinds = {STRICT: {None, "grammar", "extensions"}, EXTENSIONS_ONLY: {None, "extensions"}, NOTHING: {None}}[side]
+    return [(fault, passes) for kind, fault, passes in tests if kind in kinds]
+
+
+def client_first(text, side, headers=("n,,",)):
+    """What a server says (section 5.1): what it reads in any case, and then what it tests."""
+    header = next((it for it in headers if text.startswith(it)), None)
+    bare = text[len(header or ""):]
+    parts = bare.split(",")
     second = parts[1] if len(parts) > 1 else ""
-    return first_failure([
-        ("CannotParseGs2Header", text.startswith("n,,")),
-        ("CannotParseUsername", match(r"n=(?:[^,=]|=2C|=3D)*", parts[0])),
-        ("CannotParseClientNonce", second.startswith("r=")),
-        ("CannotParseUsername", match(f"n={SASLNAME}", parts[0])),
-        ("CannotParseClientNonce", match(f"r={PRINTABLE}+", second)),
-        ("MisplacedAttribute", match(f"n,,[^,]*,[^,]*{EXTENSIONS}", text)),
-    ])
+    return first_failure(tested([
+        (None, "CannotParseGs2Header", header is not None),
+        (None, "CannotParseUsername", match(r"n=(?:[^,=]|=2C|=3D)*", parts[0])),
+        (None, "CannotParseClientNonce", second.startswith("r=")),
+        ("grammar", "CannotParseUsername", match(f"n={SASLNAME}", parts[0])),
+        ("grammar", "CannotParseClientNonce", match(f"r={PRINTABLE}+", second)),
+        ("extensions", "MisplacedAttribute", match(f"[^,]*,[^,]*{EXTENSIONS}", bare)),
+    ], side))
 
 
-def server_first(text):
+def server_first(text, side, nonce=CLIENT_NONCE):
+    """What a client with this nonce says."""
     parts = text.split(",")
     third = parts[2] if len(parts) > 2 else ""
     digits = third[2:]
-    return first_failure([
-        ("InsufficientParts", len(parts) > 2),
-        ("ExtensionNotSupported", not parts[0].startswith("m=")),
-        ("NonceNotFound", parts[0].startswith("r=")),
-        ("ClientNonceMismatch", parts[0].startswith("r=" + CLIENT_NONCE)),
-        ("SaltNotFound", len(parts) > 1 and parts[1].startswith("s=")),
-        ("Base64DecodeError", len(parts) > 1 and match(f"s={BASE64}", parts[1])),
-        ("IterationCountNotFound", third.startswith("i=")),
-        ("IterationCountParseError", match(r"\+?[0-9]+", digits) and 1 <= int(digits) < 2**32),
-        ("ClientNonceMismatch", match(f"r={re.escape(CLIENT_NONCE)}{PRINTABLE}+", parts[0])),
-        ("IterationCountParseError", match(COUNT, digits)),
-        ("MisplacedAttribute", match(f"[^,]*,[^,]*,[^,]*{EXTENSIONS}", text)),
-    ])
+    return first_failure(tested([
+        (None, "InsufficientParts", len(parts) > 2),
+        (None, "ExtensionNotSupported", not parts[0].startswith("m=")),
+        (None, "NonceNotFound", parts[0].startswith("r=")),
+        (None, "ClientNonceMismatch", parts[0].startswith("r=" + nonce)),
+        (None, "SaltNotFound", len(parts) > 1 and parts[1].startswith("s=")),
+        (None, "Base64DecodeError", len(parts) > 1 and match(f"s={BASE64}", parts[1])),
+        (None, "IterationCountNotFound", third.startswith("i=")),
+        (None, "IterationCountParseError", match(r"\+?[0-9]+", digits) and 1 <= int(digits) < 2**32),
+        ("grammar", "ClientNonceMismatch", match(f"r={re.escape(nonce)}{PRINTABLE}+", parts[0])),
+        ("grammar", "IterationCountParseError", match(COUNT, digits)),
+        ("extensions", "MisplacedAttribute", match(f"[^,]*,[^,]*,[^,]*{EXTENSIONS}", text)),
+    ], side))
 
 
-def client_final(text):
+def client_final(text, side, nonce=BOTH, binding=b"n,,"):
+    """What a server with this nonce says, which expects this header with the data of a channel."""
     before, comma, proof = text.rpartition(",")
     parts = text.split(",")
-    return first_failure([
-        ("CannotParseClientFinalMessage", parts[0].startswith("c=")),
-        ("Base64DecodeError", match(f"c={BASE64}", parts[0])),
-        ("InvalidChannelBinding", parts[0] == "c=" + base64.b64encode(b"n,,").decode()),
-        ("CannotParseClientFinalMessage", len(parts) > 1 and parts[1].startswith("r=")),
-        ("IncorrectClientFinalNonce", len(parts) > 1 and parts[1] == "r=" + BOTH),
-        ("ProofNotFoundInClientFinal", comma and proof.startswith("p=")),
-        ("Base64DecodeError", match(f"p={BASE64}", proof)),
-        ("MisplacedAttribute", match(f"[^,]*,[^,]*{EXTENSIONS}", before)),
-    ])
+    return first_failure(tested([
+        (None, "CannotParseClientFinalMessage", parts[0].startswith("c=")),
+        (None, "Base64DecodeError", match(f"c={BASE64}", parts[0])),
+        (None, "InvalidChannelBinding", parts[0] == "c=" + base64.b64encode(binding).decode()),
+        (None, "CannotParseClientFinalMessage", len(parts) > 1 and parts[1].startswith("r=")),
+        (None, "IncorrectClientFinalNonce", len(parts) > 1 and parts[1] == "r=" + nonce),
+        (None, "ProofNotFoundInClientFinal", comma and proof.startswith("p=")),
+        (None, "Base64DecodeError", match(f"p={BASE64}", proof)),
+        ("extensions", "MisplacedAttribute", match(f"[^,]*,[^,]*{EXTENSIONS}", before)),
+    ], side))
 
 
-def server_final(text):
+def server_final(text, side, signature=SIGNATURE):
+    """What a client says that waits for this signature."""
     parts = text.split(",")
-    return first_failure([
-        ("ServerSignatureMismatch", parts[0].startswith("v=")),
-        ("Base64DecodeError", match(f"v={BASE64}", parts[0])),
-        ("MisplacedAttribute", match(f"[^,]*{EXTENSIONS}", text)),
-        ("ServerSignatureMismatch", parts[0] == "v=" + SIGNATURE),
-    ])
+    return first_failure(tested([
+        (None, "ServerSignatureMismatch", parts[0].startswith("v=")),
+        (None, "Base64DecodeError", match(f"v={BASE64}", parts[0])),
+        ("extensions", "MisplacedAttribute", match(f"[^,]*{EXTENSIONS}", text)),
+        (None, "ServerSignatureMismatch", parts[0] == "v=" + signature),
+    ], side))
 
 
 # Texts in the place of extensions.
@@ -160,12 +179,14 @@ KINDS = list(READERS)
 
 
 def written():
-    lines, last = [HEAD.rstrip("\n")], None
-    for kind, text in dict.fromkeys(rows()):
-        if kind != last:
-            lines += [""]
-            last = kind
-        lines += [f"{kind} {quoted(text)} => {READERS[kind](text)}"]
+    lines = [HEAD.rstrip("\n")]
+    for side in (STRICT, EXTENSIONS_ONLY):
+        lines, last = [*lines, "", f"given {side}"], None
+        for kind, text in dict.fromkeys(rows()):
+            if kind != last:
+                lines += [""]
+                last = kind
+            lines += [f"{kind} {quoted(text)} => {READERS[kind](text, side)}"]
     return "\n".join(lines) + "\n"
 
 
@@ -211,8 +232,9 @@ def main():
     same = FILE.read_text() == text
     if not same:
         print(f"{FILE.name} is not what the model writes")
-    print(f"{len(dict.fromkeys(rows()))} rows; {count} messages of other programs, {len(faults)} with an empty name")
+    print(f"{text.count(' => ') - 2} rows; {count} messages of other programs, {len(faults)} with an empty name")
     return 0 if same and count and not others else 1
 
 
-sys.exit(main())
+if __name__ == "__main__":
+    sys.exit(main())

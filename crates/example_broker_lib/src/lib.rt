@@ -4,8 +4,9 @@
 use anyhow::{Context, Result, bail, ensure};
 use bytes::BytesMut;
 use fe2o3_sasl_negotiation::{
-    AuthenticatedUser, CloseReason, Meter, MultiRecordStore, PasswordServerBuilder, Progress,
-    SaslCode, ServerNegotiation,
+    AuthenticatedUser, CloseReason, DEFAULT_SALT_LEN, DEFAULT_SCRAM_ITERATIONS, Meter,
+    MultiRecordStore, PasswordServerBuilder, Progress, SaslCode, ScramHashes, ScramVersion,
+    ServerNegotiation,
 };
 use mock_secret::{file_of, secret_of};
 use std::fs;
@@ -13,8 +14,8 @@ use std::io::{BufRead, Write};
 use std::random::RandomSource;
 use std::rt::Files;
 
-/// What connections share: the streams; records of 4096 iterations and salts of 16 bytes; the secret of mock records,
-/// by which unknown users are answered; and TLS, if any, without which PLAIN would show passwords.
+/// What connections share: the streams; records that have one salt length and one iteration count; the secret of mock
+/// records, by which unknown users are answered; and TLS, if any, without which PLAIN would show passwords.
 #[derive(Drop)]
 struct Broker<'a, R, I, O> {
     rt: &'a R,
@@ -25,9 +26,10 @@ struct Broker<'a, R, I, O> {
     tls: bool,
 }
 
-/// Serves logins over one connection by a file of records until a user has logged in: who, and how many logins were wrong
-/// before. Each login begins with a protocol header. The third wrong login, and one that ends otherwise, are errors. The secret of mock records is that of the
-/// file beside the records, so every process and every start answers an unknown user by the same salt.
+/// Serves logins over one connection by a file of records, as `scram users add` makes one, until a user has logged in.
+/// Returns the user, and how many logins were wrong before. Each login begins with a protocol header. The third wrong login,
+/// and one that ends otherwise, are errors. Only hashes are offered by which each user of the file can log in. The secret of
+/// mock records is that of the file beside the records: every process answers an unknown user with the same salt.
 pub fn log_in<'a, R: Files + RandomSource + AllocGlobal, I: BufRead, O: Write>(
     rt: &'a R,
     path: &str,
@@ -52,11 +54,29 @@ pub fn log_in<'a, R: Files + RandomSource + AllocGlobal, I: BufRead, O: Write>(
     bail!("three wrong logins")
 }
 
+/// Returns the salt length and the iteration count of mock records: those of the first record for the strongest hash for
+/// which each user has a record, so that an unknown user looks like a known one.
+fn form_of(records: &MultiRecordStore) -> (usize, u32) {
+    for version in [
+        ScramVersion::Sha512,
+        ScramVersion::Sha256,
+        ScramVersion::Sha1,
+    ] {
+        let first = records.for_version(version).first_stored_password();
+        if let (true, Some(first)) = (records.all_have(version), first) {
+            return (first.salt.len(), first.iterations);
+        }
+    }
+    (DEFAULT_SALT_LEN, DEFAULT_SCRAM_ITERATIONS)
+}
+
 impl<R: RandomSource + AllocGlobal, I: BufRead, O: Write> Broker<'_, R, I, O> {
-    /// Serves one login: who has logged in, or `None` if that was refused.
+    /// Serves one login. Returns the user who has logged in, or `None` if the login was rejected.
     fn serve(&mut self) -> Result<Option<String>> {
+        let (salt_len, iterations) = form_of(&self.records);
         let server = PasswordServerBuilder::new(&self.records)
-            .mock_unknown_users(&self.secret, 16, 4096)
+            .hashes(ScramHashes::of_all_users(&self.records))
+            .mock_unknown_users(&self.secret, salt_len, iterations)
             .plain_under_tls(self.tls)
             .build(self.rt.alloc())?;
         self.carry(server)

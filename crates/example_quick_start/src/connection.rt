@@ -4,9 +4,9 @@ use crate::client::new_client;
 use anyhow::Result;
 use bytes::BytesMut;
 use fe2o3_sasl_negotiation::{
-    ClientNegotiation, ConnectionSide, DEFAULT_SCRAM_ITERATIONS, Endpoint, Meter, MultiRecordStore,
-    Password, PasswordServer, PasswordServerBuilder, Progress, Role, ScramRecord, ScramVersion,
-    ServerNegotiation,
+    ClientNegotiation, ConnectionSide, DEFAULT_SALT_LEN, DEFAULT_SCRAM_ITERATIONS, Endpoint, Meter,
+    MultiRecordStore, Password, PasswordServer, PasswordServerBuilder, Progress, Role, ScramRecord,
+    ScramVersion, ServerNegotiation,
 };
 use std::alloc::Global;
 use std::random::RandomSource;
@@ -20,17 +20,20 @@ pub fn new_server(
     is_tls: bool,
 ) -> Result<ServerNegotiation<PasswordServer>> {
     let server = PasswordServerBuilder::new(users)
-        .mock_unknown_users(secret, 32, DEFAULT_SCRAM_ITERATIONS)
+        .mock_unknown_users(secret, DEFAULT_SALT_LEN, DEFAULT_SCRAM_ITERATIONS)
         .plain_under_tls(is_tls)
         .build(alloc)?;
     Ok(ServerNegotiation::new(alloc, server))
 }
 
 /// The records of `user`, one for each hash. A salt is random bytes, fresh for each record.
-pub fn new_users(alloc: Global, salts: [[u8; 32]; 2]) -> Result<MultiRecordStore> {
+pub fn new_users<T: RandomSource>(rt: &T, alloc: Global) -> Result<MultiRecordStore> {
     let mut users = MultiRecordStore::new(alloc);
-    add_user(alloc, &mut users, ScramVersion::Sha512, &salts[0])?;
-    add_user(alloc, &mut users, ScramVersion::Sha256, &salts[1])?;
+    for version in [ScramVersion::Sha256, ScramVersion::Sha512] {
+        let mut salt = [0; DEFAULT_SALT_LEN];
+        rt.fill_bytes(&mut salt)?;
+        add_user(alloc, &mut users, version, &salt)?;
+    }
     Ok(users)
 }
 
@@ -39,7 +42,7 @@ fn add_user(
     alloc: Global,
     users: &mut MultiRecordStore,
     version: ScramVersion,
-    salt: &[u8; 32],
+    salt: &[u8; DEFAULT_SALT_LEN],
 ) -> Result<()> {
     let password = Password::Typed("pencil");
     let iterations = DEFAULT_SCRAM_ITERATIONS;

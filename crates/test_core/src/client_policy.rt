@@ -81,7 +81,7 @@ fn policy(floor: ScramVersion, others: &[Mechanism]) -> ClientPolicy {
 }
 
 /// Returns what a client with a password selects from the offer of a body.
-fn select<R: Abort + AllocGlobal>(
+pub fn select<R: Abort + AllocGlobal>(
     rt: &R,
     body: &[u8],
     policy: ClientPolicy,
@@ -133,7 +133,7 @@ type ChannelRow = (
 
 /// What a client binds.
 #[derive(Clone, Copy, PartialEq, Eq)]
-enum Binds {
+pub enum Binds {
     /// No channel: the client has none.
     Nothing,
 
@@ -333,7 +333,7 @@ fn offer_of<R: Abort + AllocGlobal>(rt: &R, names: &[&str]) -> Vec<u8> {
 }
 
 /// Returns a policy that binds a channel by `tls-exporter`, or not.
-fn binding<R: Abort + AllocGlobal>(rt: &R, policy: ClientPolicy, binds: Binds) -> ClientPolicy {
+pub fn binding<R: Abort + AllocGlobal>(rt: &R, policy: ClientPolicy, binds: Binds) -> ClientPolicy {
     let channel = ChannelBinding {
         kind: ChannelKind::TlsExporter,
         cbind_data: ChannelData::new(&[255; 32]).expect(rt, "the data of a channel"),

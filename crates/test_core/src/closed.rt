@@ -1,6 +1,6 @@
 //! An acceptor that the library does not know.
 
-ghost use Rattle.std.specs.Prelude.{◌≡◌, Bool, true, ℕ, List, [], None, IfOk, OnErr};
+ghost use Rattle.std.specs.Prelude.{◌≡◌, Bool, true, ℕ, List, [], None, IfOk, OnErr, refl};
 ghost use Rattle.fe2o3_sasl_wire.specs.declared.amqp_types.SaslCode.TheVariants.{Sys};
 ghost use Rattle.fe2o3_sasl.specs.SaslAcceptor.{ends_with, reason_in, sent_frame};
 
@@ -57,13 +57,19 @@ impl SaslAcceptor for Closed {
 
     ghost machine = { λ asked nonce frame reply next. (reply ≡ ends_with Sys) × (next ≡ true) };
 
-    ghost reasons = { λ asked frame reason. ⊥ };
+    ghost Known = { Unit {0} };
+
+    ghost known = { λ _. tt };
+
+    ghost reasons = { λ known asked frame reason. ⊥ };
 
     ghost allocates = { λ asked frame. ⊥ };
 
     ghost hmacs = { λ asked frame n. n ≡ 0 };
 
     ghost clone_keeps = { λ closed copy same i. (same i).asked };
+
+    ghost clone_knows = { λ closed copy same. refl };
 
     fn mechanisms(&self, alloc: Global) -> Result<Array<Symbol>, OutOfMemory> {
         Ok(Array(Vec::new(alloc)))

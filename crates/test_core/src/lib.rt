@@ -39,4 +39,6 @@ mod program;
 #[cfg(test)]
 mod rejections;
 #[cfg(test)]
+mod talked_out;
+#[cfg(test)]
 mod values;

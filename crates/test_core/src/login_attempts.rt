@@ -82,6 +82,21 @@ fn the_attempt_of_a_completed_init(rt: HostRuntime) {
     assert!(rt; claims(server.acceptor().last_attempt(), Some("user"), None));
 }
 
+#[test]
+fn the_attempt_of_a_late_initial_response(rt: HostRuntime) {
+    let extra = ExtraChallenges {
+        initial_response: true,
+        signature: false,
+    };
+    let mut server = WithLastAttempt::new(WithExtraChallenges::new(scram(&rt), extra));
+    answers(&rt, &mut server, INIT_SCRAM, CHALLENGE_EMPTY);
+    assert!(rt; claims(server.last_attempt(), None, None));
+    answers(&rt, &mut server, FIRST_RESPONSE, LOGIN_CHALLENGE);
+    assert!(rt; claims(server.last_attempt(), Some("user"), None));
+    answers(&rt, &mut server, RESPONSE, OUTCOME_AUTH);
+    assert!(rt; claims(server.last_attempt(), Some("user"), None));
+}
+
 /// Checks which user an initial response of this mechanism claims.
 fn claims_user<R: Abort + AllocGlobal>(
     rt: &R,

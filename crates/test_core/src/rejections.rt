@@ -26,8 +26,43 @@ type Row = (
     Option<Rejection>,
 );
 
+/// A client-final message whose proof is 32 zero bytes, to the challenge for `r=abc`.
+const WRONG_PROOF: &str = "c=biws,r=abcAgICAgICAgICAgICAgICAgICAgICAgICAgICAgICAgI=,\
+    p=AAAAAAAAAAAAAAAAAAAAAAAAAAAAAAAAAAAAAAAAAAA=";
+
+/// Like `WRONG_PROOF`, but with 64 zero bytes.
+const WRONG_PROOF_512: &str = "c=biws,r=abcAgICAgICAgICAgICAgICAgICAgICAgICAgICAgICAgI=,\
+    p=AAAAAAAAAAAAAAAAAAAAAAAAAAAAAAAAAAAAAAAAAAAAAAAAAAAAAAAAAAAAAAAAAAAAAAAAAAAAAAAAAAAAAA==";
+
+/// Like `WRONG_PROOF`, but for a client that names the GS2 header `y,,`.
+const OTHER_FLAG: &str = "c=eSws,r=abcAgICAgICAgICAgICAgICAgICAgICAgICAgICAgICAgI=,\
+    p=AAAAAAAAAAAAAAAAAAAAAAAAAAAAAAAAAAAAAAAAAAA=";
+
+/// Like `WRONG_PROOF`, but for a client that acts for `root`.
+const WRONG_PROOF_AS_ROOT: &str =
+    "c=bixhPXJvb3Qs,r=abcAgICAgICAgICAgICAgICAgICAgICAgICAgICAgICAgI=,\
+    p=AAAAAAAAAAAAAAAAAAAAAAAAAAAAAAAAAAAAAAAAAAA=";
+
+/// A client-final message with the proof of the user, who acts for `root`, by Python's `hmac`.
+const RIGHT_PROOF_AS_ROOT: &str =
+    "c=bixhPXJvb3Qs,r=abcAgICAgICAgICAgICAgICAgICAgICAgICAgICAgICAgI=,\
+    p=/7URjRdmD4DFXH642bJKyV4urtb5ueCSM8l7CikApJE=";
+
+/// Like `WRONG_PROOF`, but for a client that acts for `user`.
+const WRONG_PROOF_AS_USER: &str =
+    "c=bixhPXVzZXIs,r=abcAgICAgICAgICAgICAgICAgICAgICAgICAgICAgICAgI=,\
+    p=AAAAAAAAAAAAAAAAAAAAAAAAAAAAAAAAAAAAAAAAAAA=";
+
+/// Like `WRONG_PROOF`, but for a client that binds `tls-exporter`, with 32 bytes of 8.
+const OTHER_CHANNEL: &str = "c=cD10bHMtZXhwb3J0ZXIsLAgICAgICAgICAgICAgICAgICAgICAgICAgICAgICAgI,\
+    r=abcAgICAgICAgICAgICAgICAgICAgICAgICAgICAgICAgI=,p=AAAAAAAAAAAAAAAAAAAAAAAAAAAAAAAAAAAAAAAAAAA=";
+
+/// Like `OTHER_CHANNEL`, but with the server's data, 32 bytes of 7.
+const OWN_CHANNEL: &str = "c=cD10bHMtZXhwb3J0ZXIsLAcHBwcHBwcHBwcHBwcHBwcHBwcHBwcHBwcHBwcHBwcH,\
+    r=abcAgICAgICAgICAgICAgICAgICAgICAgICAgICAgICAgI=,p=AAAAAAAAAAAAAAAAAAAAAAAAAAAAAAAAAAAAAAAAAAA=";
+
 /// The frames in this order, to one server. A challenge and an outcome Ok leave no reason.
-static ROWS: [Row; 11] = [
+static ROWS: [Row; 17] = [
     (None, Some(""), Some(Rejection::UnexpectedResponse)),
     (
         Some("SCRAM-SHA-1"),
@@ -45,9 +80,29 @@ static ROWS: [Row; 11] = [
         Some(Rejection::UnknownUser),
     ),
     (
+        Some("SCRAM-SHA-512"),
+        Some("n,,n=user,r=abc"),
+        Some(Rejection::NoRecordForHash),
+    ),
+    (
+        Some("SCRAM-SHA-512"),
+        Some("n,,n=nobody,r=abc"),
+        Some(Rejection::UnknownUser),
+    ),
+    (
         Some("SCRAM-SHA-256"),
         Some("p=tls-unique,,n=user,r=abc"),
-        Some(Rejection::Scram(ServerScramErrorKind::CannotParseGs2Header)),
+        Some(Rejection::Channel),
+    ),
+    (
+        Some("SCRAM-SHA-256"),
+        Some("y,,n=user,r=abc"),
+        Some(Rejection::Channel),
+    ),
+    (
+        Some("SCRAM-SHA-256"),
+        Some("n,a=root,n=user,r=abc"),
+        OTHER_HEADER,
     ),
     (Some("SCRAM-SHA-256"), Some("n,,n=user,r=abc"), None),
     (
@@ -55,6 +110,8 @@ static ROWS: [Row; 11] = [
         Some("c=biws,r=abc,p=AAAA"),
         Some(Rejection::Scram(ServerScramErrorKind::IncorrectClientFinalNonce)),
     ),
+    (None, Some(OTHER_FLAG), Some(Rejection::Channel)),
+    (None, Some(WRONG_PROOF), Some(Rejection::WrongProof)),
     (
         Some("PLAIN"),
         Some("user\0pencil"),
@@ -79,39 +136,87 @@ static ASKED: [Row; 2] = [
     (Some("PLAIN"), None, Some(Rejection::UnexpectedInit)),
 ];
 
-/// A reason for a header that the server does not accept.
+/// Messages to a server with mock authentication that accepts identities. No user has a right to another identity.
+static MOCK: [Row; 14] = [
+    (Some("SCRAM-SHA-256"), Some("n,,n=nobody,r=abc"), None),
+    (None, Some(WRONG_PROOF), Some(Rejection::UnknownUser)),
+    (Some("SCRAM-SHA-256"), Some("n,,n=user,r=abc"), None),
+    (None, Some(WRONG_PROOF), Some(Rejection::WrongProof)),
+    (Some("SCRAM-SHA-512"), Some("n,,n=user,r=abc"), None),
+    (
+        None,
+        Some(WRONG_PROOF_512),
+        Some(Rejection::NoRecordForHash),
+    ),
+    (Some("SCRAM-SHA-512"), Some("n,,n=nobody,r=abc"), None),
+    (None, Some(WRONG_PROOF_512), Some(Rejection::UnknownUser)),
+    (Some("SCRAM-SHA-256"), Some("n,a=root,n=user,r=abc"), None),
+    (None, Some(WRONG_PROOF_AS_ROOT), Some(Rejection::NoRight)),
+    (None, Some(RIGHT_PROOF_AS_ROOT), Some(Rejection::NoRight)),
+    (Some("SCRAM-SHA-256"), Some("n,a=user,n=user,r=abc"), None),
+    (None, Some(WRONG_PROOF_AS_USER), Some(Rejection::WrongProof)),
+    (None, Some(OTHER_FLAG), Some(Rejection::Channel)),
+];
+
+/// A reason for a header that the server does not accept, and whose flag it accepts or does not know.
 const OTHER_HEADER: Option<Rejection> = Some(Rejection::Scram(
     ServerScramErrorKind::CannotParseGs2Header,
 ));
 
-/// Inits to a server that binds `tls-exporter` (RFC 5802, section 6). It accepts no `y,,`, with `-PLUS` or without it.
-static BOUND: [Row; 8] = [
+/// Messages to a server that binds `tls-exporter` (RFC 5802, section 6). It accepts no `y,,`, with `-PLUS` or without it.
+static BOUND: [Row; 14] = [
     (
         Some("SCRAM-SHA-256-PLUS"),
         Some("p=tls-exporter,,n=user,r=abc"),
         None,
     ),
+    (None, Some(OTHER_CHANNEL), Some(Rejection::Channel)),
+    (None, Some(OWN_CHANNEL), Some(Rejection::WrongProof)),
     (
         Some("SCRAM-SHA-256-PLUS"),
         Some("p=tls-unique,,n=user,r=abc"),
-        OTHER_HEADER,
+        Some(Rejection::Channel),
+    ),
+    (
+        Some("SCRAM-SHA-256-PLUS"),
+        Some("p=tls-other,,n=user,r=abc"),
+        Some(Rejection::Channel),
     ),
     (
         Some("SCRAM-SHA-256-PLUS"),
         Some("n,,n=user,r=abc"),
-        OTHER_HEADER,
+        Some(Rejection::Channel),
     ),
     (
         Some("SCRAM-SHA-256-PLUS"),
         Some("y,,n=user,r=abc"),
+        Some(Rejection::Channel),
+    ),
+    (
+        Some("SCRAM-SHA-256-PLUS"),
+        Some("p=tls-exporter,a=root,n=user,r=abc"),
         OTHER_HEADER,
     ),
-    (Some("SCRAM-SHA-256"), Some("y,,n=user,r=abc"), OTHER_HEADER),
+    (
+        Some("SCRAM-SHA-256-PLUS"),
+        Some("x,,n=user,r=abc"),
+        OTHER_HEADER,
+    ),
+    (
+        Some("SCRAM-SHA-256"),
+        Some("y,,n=user,r=abc"),
+        Some(Rejection::Channel),
+    ),
     (Some("SCRAM-SHA-256"), Some("n,,n=user,r=abc"), None),
     (
         Some("SCRAM-SHA-256"),
         Some("p=tls-exporter,,n=user,r=abc"),
-        OTHER_HEADER,
+        Some(Rejection::Channel),
+    ),
+    (
+        Some("SCRAM-SHA-512-PLUS"),
+        Some("p=tls-exporter,,n=user,r=abc"),
+        Some(Rejection::NoRecordForHash),
     ),
     (
         Some("SCRAM-SHA-1-PLUS"),
@@ -121,7 +226,7 @@ static BOUND: [Row; 8] = [
 ];
 
 /// A text for each reason.
-static TEXTS: [(Rejection, &str); 10] = [
+static TEXTS: [(Rejection, &str); 14] = [
     (Rejection::MechanismNotOffered, "Mechanism not offered"),
     (Rejection::NoInitialResponse, "No initial response"),
     (Rejection::InvalidMessage, "Invalid message of PLAIN"),
@@ -129,7 +234,11 @@ static TEXTS: [(Rejection, &str); 10] = [
         Rejection::Scram(ServerScramErrorKind::AuthenticationFailed),
         "SCRAM: Authentication failed",
     ),
+    (Rejection::Channel, "Channel binding"),
     (Rejection::UnknownUser, "Unknown user"),
+    (Rejection::NoRecordForHash, "No record for this hash"),
+    (Rejection::NoRight, "No right to act for this identity"),
+    (Rejection::WrongProof, "Wrong password"),
     (Rejection::WrongPassword, "Unknown user or wrong password"),
     (
         Rejection::OtherIdentity,
@@ -160,6 +269,16 @@ fn bound_server<R: Abort + AllocGlobal>(rt: &R) -> PasswordServer {
             tls_server_end_point: None,
             tls_exporter: Some(ChannelData::new(&[7; 32]).expect(rt, "data")),
         }))
+        .build(rt.alloc())
+        .expect(rt, "a server")
+}
+
+/// Returns a server of SCRAM with mock authentication, at which clients may name an identity.
+fn mock_server<R: Abort + AllocGlobal>(rt: &R) -> PasswordServer {
+    let users = MultiRecordStore::parse_lines(rt.alloc(), LINES).expect(rt, "users");
+    let builder = PasswordServerBuilder::new(&users).accept_authzid(true);
+    builder
+        .mock_unknown_users(&[1; 32], 16, 4096)
         .build(rt.alloc())
         .expect(rt, "a server")
 }
@@ -205,6 +324,8 @@ fn the_last_rejection(rt: HostRuntime) {
     keeps(&rt, WithLastAttempt::new(asking), &ASKED);
 
     keeps(&rt, WithLastAttempt::new(bound_server(&rt)), &BOUND);
+
+    keeps(&rt, WithLastAttempt::new(mock_server(&rt)), &MOCK);
 }
 
 #[test]

@@ -39,6 +39,7 @@ const SERVER_FINAL: &[u8] = b"v=Kvirjct/nXdXyX/mrBd1MWQvbo2zHXO3Sr2OjJqQ7ys=";
 const RULES: ServerRules = ServerRules {
     accept_cbind_flag_y: true,
     strict: false,
+    reject_misplaced: false,
     channels: None,
     accept_authzid: false,
 };

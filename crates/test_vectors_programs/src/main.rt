@@ -36,10 +36,11 @@ fn replay<W: Write>(
 }
 
 /// The files of runs.
-static FILES: [&str; 12] = [
+static FILES: [&str; 13] = [
     "words.txt",
     "records.txt",
     "users.txt",
+    "forms.txt",
     "logins.txt",
     "names.txt",
     "frames.txt",

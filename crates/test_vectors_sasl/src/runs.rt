@@ -107,13 +107,15 @@ pub fn check(row: &mut Row<'_>) -> usize {
     let run = read(row);
     row.turn_to(run.side);
     match row.word() {
-        "server" => acceptors::check_one(row, &run, false),
-        "cbind_flag_y" => acceptors::check_one(row, &run, true),
+        "server" => acceptors::check_one(row, &run, acceptors::rules_of(false)),
+        "cbind_flag_y" => acceptors::check_one(row, &run, acceptors::rules_of(true)),
+        "reject_misplaced" => acceptors::check_one(row, &run, acceptors::rejecting_rules()),
         "records" => acceptors::check_records(row, &run),
         "server_plus" => acceptors::check_bound(row, &run),
         "acceptor" => acceptors::check_plain(row, &run),
         "client" => check_client(row, &run),
-        "client_plus" => profiles::check_bound(row, &run),
+        "client_plus" => profiles::check_channel(row, &run, true),
+        "client_unoffered" => profiles::check_channel(row, &run, false),
         "audit" => audits::check(row, &run),
         kind => profiles::check(row, &run, kind),
     }
@@ -131,7 +133,7 @@ pub fn check_strictly(row: &mut Row<'_>) -> usize {
     }
     row.turn_to(run.side);
     match row.word() {
-        "server" => acceptors::check_strict(row, &run),
+        "server" => acceptors::check_one(row, &run, acceptors::strict_rules()),
         _ => profiles::check_strict(row, &run),
     }
     run.wanted.len()

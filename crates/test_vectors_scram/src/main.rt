@@ -5,6 +5,7 @@
 mod hashes;
 mod logins;
 mod messages;
+mod moved;
 mod names;
 mod odd_records;
 mod prepared;
@@ -38,6 +39,7 @@ enum Table {
     ServerFinal,
     ServerErrors,
     StrictMessages,
+    MovedAttributes,
     Records,
     RecordFaults,
     RecordLines,
@@ -49,7 +51,7 @@ enum Table {
 }
 
 /// The tables, and the file of each.
-static TABLES: [(Table, &str); 25] = [
+static TABLES: [(Table, &str); 26] = [
     (Table::Digests, "digests.txt"),
     (Table::Hmac, "hmac.txt"),
     (Table::SaltedPasswords, "salted-passwords.txt"),
@@ -64,6 +66,7 @@ static TABLES: [(Table, &str); 25] = [
     (Table::ServerFinal, "server-final.txt"),
     (Table::ServerErrors, "server-errors.txt"),
     (Table::StrictMessages, "strict-messages.txt"),
+    (Table::MovedAttributes, "moved-attributes.txt"),
     (Table::Records, "records.txt"),
     (Table::RecordFaults, "record-faults.txt"),
     (Table::RecordLines, "record-lines.txt"),
@@ -94,6 +97,7 @@ impl Answers for Table {
             Table::ServerFinal => messages::server_final(row),
             Table::ServerErrors => messages::server_error(row),
             Table::StrictMessages => strict::message(row),
+            Table::MovedAttributes => moved::exchange(row),
             Table::Records => records::record(row),
             Table::RecordFaults => records::record_fault(row),
             Table::RecordLines => records::record_lines(row),

@@ -133,11 +133,11 @@ fn refusal<R: Abort + AllocGlobal>(
 }
 
 #[test]
-fn a_client_that_binds_a_channel_is_strict(rt: HostRuntime) {
+fn a_client_that_has_a_channel_is_strict(rt: HostRuntime) {
     let misplaced = (Some(ScramErrorKind::MisplacedAttribute), 0);
     for &(channel, wanted) in &[
         (ClientChannel::Absent, (None, 2)),
-        (ClientChannel::NotOffered, (None, 2)),
+        (ClientChannel::NotOffered, misplaced),
         (bound(&rt, ChannelKind::TlsExporter, &EXPORTER), misplaced),
     ] {
         let mut first = client(&rt, Secret::Keys).with_channel(channel);

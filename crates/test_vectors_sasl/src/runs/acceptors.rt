@@ -69,28 +69,29 @@ pub fn credential_of(
 pub fn rules_of(accept_cbind_flag_y: bool) -> ServerRules {
     ServerRules {
         accept_cbind_flag_y,
-        strict: false,
-        channels: None,
-        accept_authzid: false,
+        ..ServerRules::new()
     }
 }
 
-/// Checks a server of one user, which accepts the GS2 header `y,,` or not: `VERSION USER PASSWORD SALT`.
-pub fn check_one(row: &mut Row<'_>, run: &Run<'_>, accept_cbind_flag_y: bool) {
-    let version = row.version();
-    match credential_of(row, version) {
-        Ok(credential) => check_shared(row, run, rules_of(accept_cbind_flag_y), credential),
-        Err(error) => row.refuse(error),
+/// Returns the rules of a server that rejects what is no extension in the place of one, and nothing more.
+pub fn rejecting_rules() -> ServerRules {
+    ServerRules {
+        reject_misplaced: true,
+        ..ServerRules::new()
     }
 }
 
-/// Checks a strict server of one user: `VERSION USER PASSWORD SALT`.
-pub fn check_strict(row: &mut Row<'_>, run: &Run<'_>) {
-    let version = row.version();
-    let rules = ServerRules {
+/// Returns the rules of a strict server.
+pub fn strict_rules() -> ServerRules {
+    ServerRules {
         strict: true,
         ..ServerRules::new()
-    };
+    }
+}
+
+/// Checks a server of one user with these rules: `VERSION USER PASSWORD SALT`.
+pub fn check_one(row: &mut Row<'_>, run: &Run<'_>, rules: ServerRules) {
+    let version = row.version();
     match credential_of(row, version) {
         Ok(credential) => check_shared(row, run, rules, credential),
         Err(error) => row.refuse(error),
@@ -118,10 +119,8 @@ pub fn channels_of(channel: ChannelBinding) -> ChannelBindings {
 /// Returns the rules of a server that binds this channel, and accepts no other kind.
 fn rules_of_channel(channel: ChannelBinding) -> ServerRules {
     ServerRules {
-        accept_cbind_flag_y: false,
-        strict: false,
         channels: Some(channels_of(channel)),
-        accept_authzid: false,
+        ..ServerRules::new()
     }
 }
 

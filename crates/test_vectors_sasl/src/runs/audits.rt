@@ -65,6 +65,7 @@ fn options_of<'a>(row: &mut Row<'a>, words: &'a str) -> (ClientOptions, ServerRu
             "most" => options.limits.max_iterations = row.number(),
             "server" => rules.channels = row.channel().map(channels_of),
             "cbind_flag_y" => rules.accept_cbind_flag_y = true,
+            "reject_misplaced" => rules.reject_misplaced = true,
             _ => row.refuse("no option"),
         }
     }

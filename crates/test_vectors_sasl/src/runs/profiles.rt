@@ -12,6 +12,7 @@ use fe2o3_sasl::passwords::Password;
 use fe2o3_sasl::runs::{Event, profile_step, run_profile, scram_client_run_with_options};
 use fe2o3_sasl::sasl_profile::{SaslProfile, SaslScramSha256};
 use fe2o3_sasl::scram_client::ScramClient;
+use fe2o3_sasl::scram_messages::ClientChannel;
 use fe2o3_sasl_wire::view_frame;
 
 /// A profile as a side, and the hostname of its init.
@@ -65,11 +66,17 @@ pub fn check(row: &mut Row<'_>, run: &Run<'_>, kind: &str) {
     check_profile(row, run, profile, hostname);
 }
 
-/// Checks a profile that binds a channel, by itself and in a whole run: `VERSION USER PASSWORD KIND DATA`.
-pub fn check_bound(row: &mut Row<'_>, run: &Run<'_>) {
+/// Checks a profile that has a channel, by itself and in a whole run. It binds the channel if the server offers that,
+/// `VERSION USER PASSWORD KIND DATA`, and otherwise says `y,,`: `VERSION USER PASSWORD`.
+pub fn check_channel(row: &mut Row<'_>, run: &Run<'_>, is_offered: bool) {
     let (alloc, version, user, password) = (row.alloc, row.version(), row.text(), row.text());
+    let channel = if is_offered {
+        bound_channel(row)
+    } else {
+        ClientChannel::NotOffered
+    };
     let options = ClientOptions {
-        channel: bound_channel(row),
+        channel,
         ..ClientOptions::new()
     };
     let replies = scram_client_run_with_options(

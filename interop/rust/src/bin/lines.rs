@@ -1,7 +1,7 @@
 //! The program of `../lines.c`, by the crate for Rust: the same words, the same lines.
 
 use fe2o3_sasl_proved::{external_verify, plain_claimed_identity, plain_claimed_user, plain_message};
-use fe2o3_sasl_proved::{plain_verify, saslprep};
+use fe2o3_sasl_proved::{plain_verify, saslprep, Channel};
 use fe2o3_sasl_proved::{Password, PlainPasswords, ScramClient, ScramRecord, ScramVersion, ServerScramErrorKind};
 use fe2o3_sasl_proved::{Unassigned, UserRecords};
 use interop::{accepts_identities, identities, is_identity, named};
@@ -84,6 +84,14 @@ fn client_of(user: &str, version: ScramVersion, prepared: bool) -> Result<ScramC
     })
 }
 
+/// A client of this mechanism that has a channel: it binds the channel, or was not offered a mechanism with `-PLUS`.
+fn with_channel(client: ScramClient, channel: Channel, mechanism: &str) -> ScramClient {
+    match mechanism.ends_with("-PLUS") {
+        true => client.with_channel(channel),
+        false => client.channel_not_offered(),
+    }
+}
+
 fn run_client(words: &[&str], options: &[&str]) -> Result<i32, Failure> {
     let (port, user) = (words[0].parse()?, words[2]);
     if ONE_MESSAGE.contains(&words[1]) {
@@ -96,7 +104,7 @@ fn run_client(words: &[&str], options: &[&str]) -> Result<i32, Failure> {
         client_of(user, version, options.contains(&"prepared"))?.with_min_iterations(least).with_iteration_limit(most);
     let channel = options.iter().find_map(|word| channel_of(word));
     if let Some(channel) = channel.clone() {
-        client = client.with_channel(channel);
+        client = with_channel(client, channel, words[1]);
     }
     if let Some(identity) = identities(options).pop() {
         client = client.acting_for(identity)?;
@@ -110,7 +118,7 @@ fn run_client(words: &[&str], options: &[&str]) -> Result<i32, Failure> {
         Some(keys) => {
             let mut client = ScramClient::with_keys(user, keys);
             if let Some(channel) = channel {
-                client = client.with_channel(channel);
+                client = with_channel(client, channel, words[1]);
             }
             log_in(port, &mut client)
         }
@@ -126,6 +134,7 @@ fn serve_scram(lines: &mut Lines, first: &[u8], users: Users, options: &[&str]) 
     if options.contains(&"unbound") {
         server = server.accept_cbind_flag_y();
     }
+    server = server.reject_misplaced(options.contains(&"misplaced"));
     if let Some(channel) = options.iter().find_map(|word| channel_of(word)) {
         server = server.with_channels([channel]);
     }
@@ -246,7 +255,9 @@ fn main() -> Result<(), Failure> {
     let words: Vec<String> = std::env::args().skip(1).collect();
     let words: Vec<&str> = words.iter().map(String::as_str).collect();
     let is_option = |word: &&str| {
-        ["prepared", "again", "unbound", "saslprep"].contains(word) || is_identity(word) || channel_of(word).is_some()
+        ["prepared", "again", "unbound", "misplaced", "saslprep"].contains(word)
+            || is_identity(word)
+            || channel_of(word).is_some()
     };
     let count = words.len() - words.iter().rev().take_while(|word| is_option(word)).count();
     let (words, options) = words.split_at(count);
