@@ -1,20 +1,20 @@
 # All of this needs the Rattle kit's `rt` on the PATH, and Python 3. `tools/gate/progress.py` reports the minutes, the
 # stage and the crate of a long run on standard error.
-.PHONY: demo prove check lint check-models test quiet help install-program
+.PHONY: demo prove check lint check-models test quiet help install-program kit
 
 # The example of RFC 7677, beside what the standard prints, and a whole login over frame bodies. Nothing
 # is proved by it.
-demo:
+demo: kit
 	@tools/demo.py try
 
 # Like `demo`, but the program is proved and built, crates/sasl_lab/out/sasl_lab; then the quick start.
-prove:
+prove: kit
 	@tools/gate/progress.py $$PPID &
 	@tools/demo.py run
 	cd crates/example_quick_start && rt run
 
 # The quick way for a change: proves what changed in the libraries, in order, and lays out every crate.
-check:
+check: kit
 	@tools/gate/progress.py $$PPID &
 	cd crates/fe2o3_sasl_wire && rt check
 	cd crates/fe2o3_scram && rt check
@@ -23,20 +23,21 @@ check:
 	cd crates/fe2o3_sasl_negotiation && rt check
 	for crate in crates/*/; do (cd $$crate && rt fmt) || exit 1; done
 
-# The quick checks: what the pages quote and list, and the C header; that no modules use each other in a circle, and no
-# name of specs/ has two meanings; which functions make a meter or hash; the programs that the borrow checker has to
-# reject; and the tests of these tools.
+# The quick checks: what the pages quote and list, the C header, the versions and the notices; that no modules use each
+# other in a circle, and no name of specs/ has two meanings; which functions make a meter or hash; the programs that the
+# borrow checker has to reject; and the tests of these tools.
 LINT = gate/refused $(patsubst tools/%.py,%,$(wildcard tools/gate/tests/*.py tools/generate/promises.py)) \
-    gate/layout gate/meters gate/circles gate/names gate/quoted generate/header generate/signatures
-LINT += gate/prose gate/pages
+    gate/layout gate/meters gate/circles gate/names gate/quoted generate/header generate/notices generate/signatures
+LINT += gate/prose gate/pages gate/versions
 
 # The models that made the rows of tests: those that need a few seconds, and those that need a minute, GNU libidn
 # (Debian's package idn) or GNU SASL (gsasl).
 QUICK_MODELS = models/audit_rows models/broker_rows models/cbind_flag_runs models/channel_audits models/channel_rows \
-    models/frames models/identity_rows models/name_rows models/strict_messages generate/saslprep_tables
+    models/form_rows models/frames models/identity_rows models/moved_attributes models/name_rows models/strict_messages \
+    generate/saslprep_tables
 SLOW_MODELS = models/negotiations models/saslprep_answers models/saslprep_passwords
 
-lint:
+lint: kit
 	@begun=$$(date +%s); $(SIDE_BY_SIDE) $(LINT:%=tried/%) && \
 	echo "lint: $(words $(LINT)) checks passed in $$(($$(date +%s) - begun)) s"
 
@@ -55,11 +56,11 @@ $(TRIED:%=tried/%): tried/%:
 	printf '%4d.%d s  %-32s %s\n' $$((tenths / 10)) $$((tenths % 10)) tools/$*.py "$$said"; \
 	exit $$status
 
-# The merge gate: the quick checks and models; then every proof from nothing, the tests and the programs, and beside
-# these the wrong bodies; and the two built programs that keep a secret, started again, which say nothing if all is
-# well.
-test:
-	@tools/gate/progress.py $$PPID 60 'a whole run takes 51 to 75 min on 4 processors, and 8,600 to 11,200 s of processor' &
+# The merge gate: the quick checks and models; then every proof, the tests and the programs, and beside these the wrong
+# bodies; and the two built programs that keep a secret, started again, which say nothing if all is well. `rt ci` takes
+# what earlier runs on this machine passed, and proves what changed and the crates above it.
+test: kit
+	@tools/gate/progress.py $$PPID 60 'a run from nothing takes 57 to 65 min on 4 processors, and 8,600 to 11,200 s of processor' &
 	@$(SIDE_BY_SIDE) $(LINT:%=tried/%) $(QUICK_MODELS:%=tried/%) || { echo 'the quick checks failed'; exit 1; }
 	tools/gate/gate.py
 	@tools/gate/restarts.py
@@ -72,18 +73,18 @@ quiet:
 
 # What there is, with the times of four processors.
 define HELP
-make demo            a published exchange and a whole login, without proofs         about 1 min
+make demo            a published exchange and a whole login, without proofs         1 to 3 min
 make check           proves what changed in the five libraries, and formats         12 min from nothing
 make prove           proves, builds and runs the programs of the demo               8 min after make check
 make lint            the quick checks of the pages, the sources and the tools       about 6 s
 make check-models    compares the rows of the tests with the models that wrote them about 2 min
 tools/prove FILE:LINE  proves the function at that line, with --only               10 s or more
-make test            the gate: lint, quick models, every proof, test and program    51 to 75 min
+make test            the gate: lint, quick models, every proof, test and program    57 to 65 min from nothing
 make quiet           like make test, but into a log, and prints its last line
 make install-program the program scram, under PREFIX and DESTDIR
 
 The library for C, Rust and Python (bindings/callers.mk):
-make lib             proves and builds build/libfe2o3_sasl.a and .so                12 to 17 min from nothing
+make lib             proves and builds build/libfe2o3_sasl.a and .so                20 to 30 min from nothing
 make header          writes the C header, and the declarations for Rust and Python  1 s
 make header-check    compares them with the sources                                 1 s
 make callers         builds and runs the programs of bindings/c
@@ -104,17 +105,26 @@ export HELP
 help:
 	@echo "$$HELP"
 
-# The program `scram` with its page and the licences, under PREFIX and DESTDIR; where there is none yet it is proved
-# and built.
+# The program `scram` with its page, the licences and the notices of what it links, under PREFIX and DESTDIR; where there
+# is none yet it is proved and built.
 PROVED_PROGRAM ?= crates/scram/out/scram
-install-program: $(PROVED_PROGRAM)
+install-program: $(PROVED_PROGRAM) build/notices/scram
 	install -d $(DESTDIR)$(PREFIX)/bin $(DESTDIR)$(PREFIX)/share/man/man1 $(DESTDIR)$(PREFIX)/share/doc/scram
 	install -m 755 $(PROVED_PROGRAM) $(DESTDIR)$(PREFIX)/bin/scram
 	$(PROVED_PROGRAM) man > $(DESTDIR)$(PREFIX)/share/man/man1/scram.1
 	install -m 644 LICENSE-APACHE LICENSE-MIT $(DESTDIR)$(PREFIX)/share/doc/scram/
+	install -m 644 build/notices/scram $(DESTDIR)$(PREFIX)/share/doc/scram/NOTICES
 
 crates/scram/out/scram:
+	@$(NEEDS_KIT)
 	cd crates/scram && rt run -- --version
+
+# One line where the kit is missing, in place of what the tools say without it. (No prerequisite of files, since what is
+# built can be installed without the kit.)
+NEEDS_KIT = command -v rt > /dev/null || { \
+    echo 'rt is not on the PATH. This target needs the Rattle kit: README.md, Requirements' >&2; exit 1; }
+kit:
+	@$(NEEDS_KIT)
 
 # The library for callers in C and in Rust: lib, header, callers, install, dist.
 include bindings/callers.mk

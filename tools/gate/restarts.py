@@ -5,13 +5,19 @@
                                 `make test` builds
 
 An unknown user has to get the salt that the secret beside the records gives, at each start and from processes that start
-at the same time. Challenge and outcome have to be those of a known user except for the salt. It prints nothing if all is
-well.
+at the same time. Challenge and outcome have to be those of a known user except for the salt. A file that is no secret or
+cannot be read has to stop them. A new secret or database is for its owner only, from the first. It prints nothing if all
+is well.
 """
 import base64
+import ctypes
 import hashlib
 import hmac
 import io
+import os
+import shutil
+import signal
+import struct
 import subprocess
 import sys
 import tempfile
@@ -30,11 +36,34 @@ NONCE, PROOF = base64.b64encode(b"\1" * 32), {"SCRAM-SHA-256": 32, "SCRAM-SHA-51
 SECONDS = 20
 
 
+# The commands that read a secret, and their exit status if they cannot.
+READERS = ([BROKER, "records.txt"], 1), ([SCRAM, "server", "SCRAM-SHA-256", "records.txt"], 4)
+
+# The number of the system call fchmod, by which a file gets another mode (Linux, x86-64).
+FCHMOD = 91
+
+
 spelled = rows.model.spelled
 
 
-def start(command, folder):
-    return subprocess.Popen(command, cwd=folder, stdin=subprocess.PIPE, stdout=subprocess.PIPE, stderr=subprocess.PIPE)
+def start(command, folder, **options):
+    return subprocess.Popen(command, cwd=folder, stdin=subprocess.PIPE, stdout=subprocess.PIPE, stderr=subprocess.PIPE,
+                            **options)
+
+
+def stopped_at(call):
+    """What a child has to run before its program, so that the system kills it at this system call (seccomp(2))."""
+    def limit():
+        # Load the call's number; if it is `call`, kill the process; otherwise allow it.
+        steps = b"".join(struct.pack("HBBI", *step) for step in (
+            (0x20, 0, 0, 0), (0x15, 0, 1, call), (0x06, 0, 0, 0x80000000), (0x06, 0, 0, 0x7FFF0000)))
+        kept = ctypes.create_string_buffer(steps)
+        program = struct.pack("HxxxxxxP", len(steps) // 8, ctypes.addressof(kept))
+        libc = ctypes.CDLL(None, use_errno=True)
+        no_new_privileges, seccomp, filter_mode = 38, 22, 2
+        if libc.prctl(no_new_privileges, 1, 0, 0, 0) or libc.prctl(seccomp, filter_mode, ctypes.c_char_p(program), 0, 0):
+            raise OSError(ctypes.get_errno(), "seccomp")
+    return limit
 
 
 def ask(process, data):
@@ -109,19 +138,73 @@ class Restarts(unittest.TestCase):
         self.assertEqual(salts, {mock_salt(self.folder, "SCRAM-SHA-256", UNKNOWN, 16)})
         self.assertEqual(len(list(self.folder.iterdir())), 2)
 
+    def is_refused(self, command, status, why, **options):
+        """A program has to end with a status and an error, before it prints anything."""
+        process = start(command, self.folder, **options)
+        self.addCleanup(process.kill)
+        printed, said = process.communicate(b"", timeout=SECONDS)
+        self.assertEqual((printed, process.returncode), (b"", status), said)
+        self.assertIn(why, said)
+        self.assertIn(b".secret", said)
+
     def test_rejected_secrets(self):
         secret = self.folder / "records.txt.secret"
-        for content, mode, why in ((b"7" * 31, 0o600, b"exactly 32 bytes"), (b"7" * 32, 0o640, b"access to its group or to others"),
-                                   (None, 0o700, b"not a regular file")):
-            secret.mkdir() if content is None else secret.write_bytes(content)
+        for content, mode, why in ((b"7" * 31, 0o600, b"exactly 32 bytes"), (b"7" * 33, 0o600, b"exactly 32 bytes"),
+                                   (b"7" * 32, 0o640, b"access to its group or to others"),
+                                   (b"7" * 32, 0o604, b"access to its group or to others")):
+            secret.write_bytes(content)
             secret.chmod(mode)
-            for command, status in (([BROKER, "records.txt"], 1), ([SCRAM, "server", "SCRAM-SHA-256", "records.txt"], 4)):
-                process = start(command, self.folder)
-                printed, said = process.communicate(b"", timeout=SECONDS)
-                self.assertEqual((printed, process.returncode), (b"", status))
-                self.assertIn(why, said)
-                self.assertIn(b".secret", said)
-            secret.rmdir() if content is None else secret.unlink()
+            for command, status in READERS:
+                self.is_refused(command, status, why)
+            secret.unlink()
+
+    def test_no_file(self):
+        secret = self.folder / "records.txt.secret"
+        for make, remove in ((secret.mkdir, secret.rmdir), (lambda: os.mkfifo(secret, 0o600), secret.unlink)):
+            make()
+            for command, status in READERS:
+                self.is_refused(command, status, b"not a regular file")
+            remove()
+
+    def test_unreadable_secrets(self):
+        """No metadata, by a link to itself; bytes that cannot be read; and no right to open the file."""
+        secret = self.folder / "records.txt.secret"
+        for target in (secret.name, "/proc/self/mem"):
+            secret.symlink_to(target)
+            for command, status in READERS:
+                self.is_refused(command, status, b"cannot be read")
+            secret.unlink()
+        secret.write_bytes(b"7" * 32)
+        secret.chmod(0o600 if os.geteuid() == 0 else 0)
+        self.folder.chmod(0o755)
+        for (program, *words), status in READERS:
+            copy = shutil.copy(program, self.folder)
+            self.is_refused([copy, *words], status, b"cannot be read", **({"user": 65534} if os.geteuid() == 0 else {}))
+
+    def test_a_new_secret_is_never_open_to_others(self):
+        """Each process is killed before it can change the mode that it made the file with."""
+        for command, _ in READERS:
+            process = start(command, self.folder, umask=0, preexec_fn=stopped_at(FCHMOD))
+            process.communicate(b"", timeout=SECONDS)
+            self.assertEqual(process.returncode, -signal.SIGSYS)
+            new, = self.folder.glob("records.txt.secret.*")
+            self.assertEqual((new.stat().st_mode & 0o7777, new.stat().st_size), (0o600, 0))
+            new.unlink()
+
+    def test_a_new_database_is_never_open_to_others(self):
+        """A file that is there keeps its mode."""
+        add = [SCRAM, "users", "add", "--db", "users.db", "alice", "--iterations", "1"]
+        process = start(add, self.folder, umask=0, preexec_fn=stopped_at(FCHMOD))
+        process.communicate(b"pencil\n", timeout=SECONDS)
+        self.assertEqual(process.returncode, -signal.SIGSYS)
+        self.assertEqual((self.folder / "users.db.new").stat().st_mode & 0o7777, 0o600)
+        database = self.folder / "users.db"
+        for mode in (0o600, 0o640):
+            process = start(add, self.folder, umask=0)
+            process.communicate(b"pencil\n", timeout=SECONDS)
+            self.assertEqual((process.returncode, database.stat().st_mode & 0o7777), (0, mode))
+            database.write_bytes(b"")
+            database.chmod(0o640)
 
     def test_a_server_of_lines_that_starts_again(self):
         for mechanism in PROOF:

@@ -31,7 +31,7 @@ SECTIONS = [  # in the order of use: a title, the structs, and the functions aft
     ("Passwords", "", "saslprep"),
     ("Records, which a server stores in place of passwords", "ScramRecord",
      "scram_record_make scram_record_from_fields scram_record_mock scram_record_parse scram_record_text"
-     " scram_record_verify scram_record_of_salted scram_record_verify_salted scram_lines_find scram_line"),
+     " scram_record_verify scram_record_of_salted scram_record_verify_salted scram_lines_find scram_lines_all_have scram_line"),
     ("Keys, which a client can cache in place of a password", "ScramKeys", "scram_keys_make scram_keys_of_salted"),
     ("A SCRAM client, over messages", "Login ScramClient",
      "scram_client_first scram_client_final scram_client_verify scram_client_get_keys"),
@@ -308,8 +308,26 @@ def called(head, parts, tail, indent=""):
     return line if len(line) <= WIDTH else f"{indent}{head}({rows}){tail}\n"
 
 
+#: The constants of new records and of mock records: a name in C and Rust, one in Python, the constant of the sources, its
+#: type in Rust, and what it is.
+DEFAULTS = [
+    ("DEFAULT_SALT_LEN", "DEFAULT_SALT_LENGTH", "DEFAULT_SALT_LEN", "usize",
+     "The length in bytes of the salt of a new record and of a mock record, unless you choose another one."),
+    ("DEFAULT_ITERATIONS", "DEFAULT_ITERATIONS", "DEFAULT_SCRAM_ITERATIONS", "u32",
+     "The iteration count of a new record and of a mock record, unless you choose another one."),
+]
+
+
+def default(name):
+    """The number of a constant of the Rattle sources, which all languages share."""
+    text = (ROOT / "crates/fe2o3_scram/src/credentials.rt").read_text(encoding="utf-8")
+    return re.search(rf"^pub const {name}: \w+ = (\d+);$", text, re.M)[1]
+
+
 def c_header(reader):
     out = [reader.preamble]
+    for name, _, source, _, doc in DEFAULTS:
+        out.append(f"\n{comment([doc])}#define FE2O3_{name} {default(source)}\n")
     rows = ",\n".join(f"    FE2O3_SIZE_OF_{snake(name).upper()} = {at}" for at, name in enumerate(reader.sized))
     out.append(f"\n/* The structs, for fe2o3_size. */\nenum fe2o3_size_of {{\n{rows}\n}};\n")
     rows = ",\n".join(f"{comment(doc, '    ')}    FE2O3_{name} = {number}" for doc, name, number in reader.statuses)
@@ -331,8 +349,8 @@ def c_header(reader):
 
 
 WRAPPERS = """\
-/* The exports of the library. Each calls the proved function, and then clears the stack that it used. Written by
- * tools/generate/header.py.
+/* The exports of the library. Each calls the proved function below a pad, and then clears the stack that it used. Written
+ * by tools/generate/header.py.
  *
  * The linker gives each proved function its name with `proved_` (bindings/callers.mk). */
 #include "../c/fe2o3_sasl.h"
@@ -350,9 +368,9 @@ def c_wrappers(reader):
         if name == WIPE.name:
             continue
         kind, given = C_NUMBERS.get(answer, "void"), ", ".join(c_part(part).replace(" ", "~") for part in parts) or "void"
-        passed = f"proved_{name}({', '.join(part.name for part in parts)});"
+        passed = f"BELOW_PAD({'answer = ' if answer else ''}proved_{name}({', '.join(part.name for part in parts)}));"
         out += ["\n", fill(f"{kind} proved_{name}({given});"), fill(f"{kind} {name}({given})"), "{\n",
-                fill(f"{kind} answer = {passed}" if answer else passed, "    "),
+                f"    {kind} answer;\n" if answer else "", fill(passed, "    "),
                 f"    clear_stack(depth_{name.removeprefix('fe2o3_')});\n", "    return answer;\n" if answer else "", "}\n"]
     return "".join(out)
 
@@ -365,6 +383,8 @@ def in_rust(doc):
 def rust_block(reader):
     out = ["//! What the library exports, as its C header declares it. Written by tools/generate/header.py.\n"]
     out += [f"\n{rust_doc(in_rust(doc))}pub const {name}: u32 = {number};\n" for doc, name, number in reader.statuses]
+    for name, _, source, kind, doc in DEFAULTS:
+        out.append(f"\n{rust_doc([doc])}pub const {name}: {kind} = {default(source)};\n")
     for one in reader.enums:
         out += [f"\n{rust_doc([f'`{one.name}`: ' + in_rust(doc)[0]])}pub const {name}: u32 = {number};\n"
                 for doc, name, number in one.values]
@@ -407,6 +427,7 @@ def python_block(reader):
     out = []
     enums = {one.name: one for one in reader.enums}
     out += [f"\n{one.name} = {one.number}" for one in enums["scram_version"].values] + ["\n"]
+    out += [f"\n#: {doc}\n{name} = {default(source)}\n" for _, name, source, _, doc in DEFAULTS]
     out.append(python_class("IntEnum", "Status", "What a call of the library returns. The header says what each means.",
                             [(one.name, one.number) for one in reader.statuses]))
     out.append(python_class("IntEnum", "Progress", "How far a login on a connection is.",
@@ -419,7 +440,9 @@ def python_block(reader):
                             " signature in a challenge, and the outcome follows the client's empty\n    response."
                             " INITIAL_RESPONSE_BY_CHALLENGE: SCRAM and PLAIN answer an init without an initial response by"
                             " an\n    empty challenge, and the client's response is then the initial response. STRICT: SCRAM"
-                            " reads messages by\n    the grammar of RFC 5802, section 7, like a `Server` with `strict`.",
+                            " reads messages by\n    the grammar of RFC 5802, section 7, like a `Server` with `strict`."
+                            " REJECT_MISPLACED: SCRAM rejects what is no\n    extension in the place of one, and nothing more,"
+                            " like a `Server` with `reject_misplaced`. A server with channels\n    does so in any case.",
                             [(one.name.replace("OFFER_", ""), one.number) for one in enums["offer"].values]))
     out.append(python_class("IntEnum", "PlainPasswords", "Which password `plain_verify` tests for the one of a message."
                             " TYPED: the password as typed, which has to be\n    printable ASCII. PREPARED: the password as"

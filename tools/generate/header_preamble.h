@@ -25,7 +25,8 @@
  *
  * What the calls promise:
  *
- * - A call that fails changes nothing, except that with FE2O3_ROOM_TOO_SMALL `out_len` says how many bytes suffice.
+ * - A call that fails changes nothing, with two exceptions: with FE2O3_ROOM_TOO_SMALL `out_len` says how many bytes
+ *   suffice, and `fe2o3_scram_lines_find` and `fe2o3_scram_lines_all_have` write `line`.
  * - A call that succeeds writes its text to the beginning of `out`, and the text's length to `out_len`. The rest of `out`
  *   stays as it was. There is no zero at the end of the text.
  * - Each call returns, never aborts, and keeps no pointer. It allocates by malloc and frees all of it. If an allocation
@@ -84,7 +85,8 @@ enum fe2o3_secret {
     FE2O3_BY_PASSWORD = 0,
     /* The keys. */
     FE2O3_BY_KEYS = 1,
-    /* The keys if they are of the server's salt and iteration count, otherwise the password. */
+    /* The keys if they are of the server's salt and iteration count, otherwise the password. The login has to have both:
+     * without keys the calls return FE2O3_NO_KEYS. */
     FE2O3_BY_PASSWORD_AND_KEYS = 2
 };
 
@@ -100,8 +102,10 @@ enum fe2o3_password_form {
 enum fe2o3_channel_use {
     /* The client does not support channel binding, or has no channel: its GS2 header is `n,,`. */
     FE2O3_CHANNEL_ABSENT = 0,
-    /* The client has a channel, but was offered no mechanism with `-PLUS`: its GS2 header is `y,,`. A server that offered
-     * one rejects it, so that nobody on the way can remove the mechanism from the offer. */
+    /* The client has a channel, but was offered no mechanism with `-PLUS`: its GS2 header is `y,,`. The client rejects
+     * what is no extension in the place of one, and a server that offers `-PLUS` has to reject `y,,`, as the servers here
+     * do. Nobody on the way can then remove `-PLUS` from the offer unnoticed. A server that offers `-PLUS` and accepts
+     * `y,,` does not protect against that: log in to it by FE2O3_CHANNEL_BOUND only. */
     FE2O3_CHANNEL_NOT_OFFERED = 1,
     /* The client binds its channel, by a mechanism with `-PLUS`: its GS2 header is `p=` and the kind. */
     FE2O3_CHANNEL_BOUND = 2
@@ -168,7 +172,10 @@ enum fe2o3_offer {
     FE2O3_SIGNATURE_BY_CHALLENGE = 1024,
     /* No mechanism: SCRAM is strict. It reads messages by the grammar of RFC 5802, section 7: see the field `strict` of
      * struct fe2o3_scram_rules. */
-    FE2O3_STRICT = 2048
+    FE2O3_STRICT = 2048,
+    /* No mechanism: SCRAM rejects what is no extension in the place of one, and nothing more: see the field
+     * `reject_misplaced` of struct fe2o3_scram_rules. A server with `channels` does so in any case. */
+    FE2O3_REJECT_MISPLACED = 4096
 };
 
 /* How far a login on a connection is. */
@@ -233,11 +240,11 @@ enum fe2o3_scram_server_state {
     FE2O3_SCRAM_SERVER_INITIAL_RESPONSE_ASKED = 5,
     /* Like FE2O3_SCRAM_SERVER_INITIAL_RESPONSE_ASKED, but the init had a hostname: `bare`. */
     FE2O3_SCRAM_SERVER_INITIAL_RESPONSE_ASKED_WITH_HOSTNAME = 6,
-    /* A challenge is open, to a client that binds the channel by `tls-unique`. Only over messages. */
+    /* A challenge is open, to a client that binds the channel by `tls-unique`. */
     FE2O3_SCRAM_SERVER_CHALLENGE_OPEN_TLS_UNIQUE = 7,
-    /* A challenge is open, to a client that binds the channel by `tls-server-end-point`. Only over messages. */
+    /* A challenge is open, to a client that binds the channel by `tls-server-end-point`. */
     FE2O3_SCRAM_SERVER_CHALLENGE_OPEN_TLS_SERVER_END_POINT = 8,
-    /* A challenge is open, to a client that binds the channel by `tls-exporter`. Only over messages. */
+    /* A challenge is open, to a client that binds the channel by `tls-exporter`. */
     FE2O3_SCRAM_SERVER_CHALLENGE_OPEN_TLS_EXPORTER = 9
 };
 
@@ -265,7 +272,7 @@ enum fe2o3_server_error {
     FE2O3_SERVER_ERROR_INVALID_USERNAME_ENCODING = 9,
     /* `no-resources`. */
     FE2O3_SERVER_ERROR_NO_RESOURCES = 10,
-    /* `other-error`, and every value that RFC 5802 does not name. */
+    /* `other-error`, and every value that RFC 5802 does not name, also the empty one. */
     FE2O3_SERVER_ERROR_OTHER_ERROR = 11
 };
 

@@ -1,15 +1,15 @@
 #!/usr/bin/env python3
 """Writes docs/PROMISES.md from the sources: what each public call promises, clause by clause, and the wrong bodies.
 
-    tools/generate/promises.py write     writes the page
-    tools/generate/promises.py check     writes nothing; ends with status 1 if the page is stale, or if a page for
-                                         auditors has a name in backticks that no source has
+    tools/generate/promises.py write     writes the page, and the counts in README.md
+    tools/generate/promises.py check     writes nothing; ends with status 1 if the page or a count of README.md is stale,
+                                         or if a page for auditors has a name in backticks that no source has
 
 A call is a public function, a public method of a public type, a function of a public trait, or an exported function
 of the C library. Its row has the first sentence of its comment, the names of its clauses, the definitions of specs/
 that each clause cites, and the wrong bodies that are planted in it. A table for each crate lists all its wrong bodies:
 the first sentence of the edit, the function that it turns, and the clause that refuses it. Last come the definitions
-that the headline theorem rests on, as tools/believed.py counts them.
+that the headline theorem rests on, as tools/believed.py counts them. README.md quotes three of these counts.
 """
 import re
 import sys
@@ -28,6 +28,7 @@ signatures.ITEM = re.compile(signatures.ITEM.pattern.replace("(?:const )?", '(?:
 
 CRATES = signatures.CRATES
 PAGE = CRATES.parent / "docs" / "PROMISES.md"
+README = CRATES.parent / "README.md"
 # The crates whose calls are listed, with those that a program or a proof calls first.
 WITH_CALLS = ("fe2o3_sasl_negotiation", "fe2o3_sasl_core", "fe2o3_scram", "fe2o3_sasl", "connection_laws",
               "fe2o3_sasl_wire", "saslprep", "sasl_c")
@@ -255,6 +256,26 @@ def definitions():
     return out
 
 
+# What README.md says of the lines of these definitions.
+QUOTED = re.compile(r"[\d,]+ lines for the theorem over frames, [\d,]+ over bytes, and [\d,]+ with the arguments of the laws")
+
+
+def quoted_counts():
+    """The words of README.md on the lines of the definitions: over frames, over bytes, and these with the arguments."""
+    starts, arguments = believed.statements(LAWS[:2])
+    counts = (believed.reached_from(believed.HEADLINE), believed.rest_on(starts), believed.rest_on(starts + arguments))
+    frames, stream, more = (f"{believed.lines_of(reached):,}" for reached in counts)
+    return f"{frames} lines for the theorem over frames, {stream} over bytes, and {more} with the arguments of the laws"
+
+
+def counts_fault(text, counts):
+    """What is wrong with the counts in the text of README.md, or None: it has to have these words once."""
+    found = QUOTED.findall(text)
+    if len(found) != 1:
+        return f"README.md has {len(found)} places that say the lines of the definitions, and needs one: {counts}"
+    return None if found[0] == counts else f"README.md is stale: is '{found[0]}', and has to be '{counts}'"
+
+
 def page():
     others = sorted({path.parent.parent.name for path in CRATES.glob("*/wrong-bodies/*.edit")} - set(WITH_CALLS))
     out = [INTRODUCTION]
@@ -283,18 +304,24 @@ def unknown_names():
 def main():
     if sys.argv[1:] not in (["write"], ["check"]):
         sys.exit(__doc__)
-    text, wrong = page(), []
+    text, wrong, counts = page(), [], quoted_counts()
+    readme = README.read_text(encoding="utf-8")
     if sys.argv[1] == "write":
         PAGE.write_text(text, encoding="utf-8")
+        readme = QUOTED.sub(counts, readme)
+        README.write_text(readme, encoding="utf-8")
     else:
         wrong += unknown_names()
         if not PAGE.exists() or PAGE.read_text(encoding="utf-8") != text:
             wrong.append("docs/PROMISES.md is stale: tools/generate/promises.py write")
+    if fault := counts_fault(readme, counts):
+        wrong.append(fault)
     wrong += [f"{len(line)} characters: {line[:80]} .." for line in text.splitlines() if len(line) > WIDTH]
     for line in wrong:
         print(f"promises: {line}", file=sys.stderr)
     if not wrong and sys.argv[1] == "check":
-        print("promises: docs/PROMISES.md is as the sources say, and every name of the pages for auditors exists")
+        print("promises: docs/PROMISES.md and the counts of README.md are as the sources say, and every name of the pages"
+              " for auditors exists")
     sys.exit(1 if wrong else 0)
 
 

@@ -116,12 +116,12 @@ class Meters(unittest.TestCase):
 
     def test_an_acceptor_that_stretches_before_each_challenge(self):
         old = "let Some(client_first) = &init.initial_response else {"
-        self.refused(["on_init_metered: Meter::new", "on_init_metered: h_i_metered"], RUNS + "sasl_acceptor.rt", first(
+        self.refused(["answer_init: Meter::new", "answer_init: h_i_metered"], RUNS + "scram_acceptor.rt", first(
             old, 'let _ = ScramVersion::Sha256.h_i_metered(alloc, b"", b"", 4294967295, &mut Meter::new());\n        '))
 
     def test_an_acceptor_that_stretches_by_a_plain_call(self):
         old = "let Some(client_first) = &init.initial_response else {"
-        self.refused(["on_init_metered: h_i"], RUNS + "sasl_acceptor.rt", first(
+        self.refused(["answer_init: h_i"], RUNS + "scram_acceptor.rt", first(
             old, 'let _ = ScramVersion::Sha256.h_i(alloc, b"", b"", 4294967295);\n        '))
 
     def test_each_form_of_a_call(self):

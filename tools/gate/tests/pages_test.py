@@ -45,7 +45,7 @@ class Pages(unittest.TestCase):
     def test_budgets(self):
         found = pages.budgets()
         self.assertIn("README.md", found)
-        self.assertEqual(found["pages"], (2000, 30000))
+        self.assertEqual(found["pages"], (2060, 32400))
 
 
 if __name__ == "__main__":
