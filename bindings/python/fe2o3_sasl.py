@@ -347,6 +347,40 @@ class ChannelKind(enum.IntEnum):
     TLS_EXPORTER = 3
 
 
+class Rejection(enum.IntEnum):
+    """Why a server answered a frame by the outcome Auth, for its log only: the peer receives that outcome for each of
+    them. Those that begin with SERVER are errors of a SCRAM message, with the numbers of `Status`."""
+
+    MECHANISM_NOT_OFFERED = 101
+    NO_INITIAL_RESPONSE = 102
+    INVALID_MESSAGE = 103
+    CHANNEL = 104
+    UNKNOWN_USER = 105
+    NO_RECORD_FOR_HASH = 106
+    NO_RIGHT = 107
+    WRONG_PROOF = 108
+    WRONG_PASSWORD = 109
+    OTHER_IDENTITY = 110
+    UNEXPECTED_INIT = 111
+    UNEXPECTED_RESPONSE = 112
+    OTHER = 113
+    SERVER_UTF8_ERROR = 40
+    SERVER_CANNOT_PARSE_GS2_HEADER = 41
+    SERVER_CANNOT_PARSE_USERNAME = 42
+    SERVER_CANNOT_PARSE_CLIENT_NONCE = 43
+    SERVER_HMAC_ERROR_INVALID_LENGTH = 44
+    SERVER_XOR_LENGTH_MISMATCH = 45
+    SERVER_NORMALIZE_ERROR = 46
+    SERVER_CANNOT_PARSE_CLIENT_FINAL_MESSAGE = 47
+    SERVER_INVALID_CHANNEL_BINDING = 48
+    SERVER_BASE64_DECODE_ERROR = 49
+    SERVER_INCORRECT_CLIENT_FINAL_NONCE = 50
+    SERVER_PROOF_NOT_FOUND_IN_CLIENT_FINAL = 51
+    SERVER_AUTHENTICATION_FAILED = 52
+    SERVER_ILLEGAL_AUTHENTICATOR_STATE = 53
+    SERVER_MISPLACED_ATTRIBUTE = 54
+
+
 class _Mechanism(enum.IntEnum):
     """The mechanism of a client on a connection."""
 
@@ -474,6 +508,7 @@ class _ScramServerStruct(ctypes.Structure):
         ("nonce_len", ctypes.c_uint32),
         ("first_len", ctypes.c_uint32),
         ("acts_for_len", ctypes.c_uint32),
+        ("rejection", ctypes.c_uint32),
         ("user", ctypes.c_uint8 * 256),
         ("bare", ctypes.c_uint8 * 1024),
         ("nonce", ctypes.c_uint8 * 512),

@@ -455,6 +455,12 @@ def python_block(reader):
                             " section 4) for every version. TLS_EXPORTER (RFC 9266) is for TLS 1.3 and,\n    with the"
                             " extended master secret, for TLS 1.2.",
                             [(one.name, one.number) for one in enums["channel_kind"].values]))
+    errors = [(one.name, one.number) for one in reader.statuses if one.name.startswith("SERVER_") and one.number < 60]
+    out.append(python_class("IntEnum", "Rejection", "Why a server answered a frame by the outcome Auth, for its log only:"
+                            " the peer receives that outcome for each of\n    them. Those that begin with SERVER are errors of"
+                            " a SCRAM message, with the numbers of `Status`.",
+                            [(one.name.replace("REJECTION_", ""), one.number)
+                             for one in enums["rejection"].values if one.number] + errors))
     for name, title, prefix in [("mechanism", "_Mechanism", ""), ("secret", "_Secret", ""), ("password_form", "_Form", ""),
                                 ("channel_use", "_ChannelUse", "CHANNEL_"), ("unassigned", "_Unassigned", "UNASSIGNED_"),
                                 ("scram_server_state", "_ServerState", "SCRAM_SERVER_")]:

@@ -248,6 +248,41 @@ enum fe2o3_scram_server_state {
     FE2O3_SCRAM_SERVER_CHALLENGE_OPEN_TLS_EXPORTER = 9
 };
 
+/* Why a server answered a frame by the outcome Auth, for its log only: the peer receives that outcome, without data, for
+ * each of them. Where SCRAM rejects the text of a message for another reason, the number is the status of that error:
+ * FE2O3_SERVER_UTF8_ERROR and those after it. */
+enum fe2o3_rejection {
+    /* The last frame was not answered by Auth. */
+    FE2O3_REJECTION_NONE = 0,
+    /* The init names a mechanism that the server does not offer. */
+    FE2O3_REJECTION_MECHANISM_NOT_OFFERED = 101,
+    /* The init of a mechanism that needs an initial response has none. */
+    FE2O3_REJECTION_NO_INITIAL_RESPONSE = 102,
+    /* The initial response is no message of PLAIN that is accepted for a test of its password. */
+    FE2O3_REJECTION_INVALID_MESSAGE = 103,
+    /* The client's channel binding is not one that the server accepts (RFC 5802, section 6): someone may be between the
+     * two. */
+    FE2O3_REJECTION_CHANNEL = 104,
+    /* No record of the user was passed, for any hash. */
+    FE2O3_REJECTION_UNKNOWN_USER = 105,
+    /* No record of the user was passed for the hash of the exchange, and one for another hash was. */
+    FE2O3_REJECTION_NO_RECORD_FOR_HASH = 106,
+    /* The user may not act for the identity that the client names, whatever its proof is (RFC 4422, section 2). */
+    FE2O3_REJECTION_NO_RIGHT = 107,
+    /* The proof of SCRAM does not meet the record: the password is wrong, or the record is a mock record. */
+    FE2O3_REJECTION_WRONG_PROOF = 108,
+    /* No record has the password of the message of PLAIN, or none was passed. */
+    FE2O3_REJECTION_WRONG_PASSWORD = 109,
+    /* The init of EXTERNAL asks for another name than the one that the transport authenticated. */
+    FE2O3_REJECTION_OTHER_IDENTITY = 110,
+    /* An init arrives where the server waits for the response that completes the init before it. */
+    FE2O3_REJECTION_UNEXPECTED_INIT = 111,
+    /* A response arrives where no mechanism waits for one, or it is not empty where only an empty one is expected. */
+    FE2O3_REJECTION_UNEXPECTED_RESPONSE = 112,
+    /* None of the others. No call writes it. */
+    FE2O3_REJECTION_OTHER = 113
+};
+
 /* The error that a server sends in the place of a message (RFC 5802, section 7, `server-error-value`). */
 enum fe2o3_server_error {
     /* The message is no error. */

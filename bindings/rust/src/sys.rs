@@ -467,6 +467,51 @@ pub const SCRAM_SERVER_CHALLENGE_OPEN_TLS_SERVER_END_POINT: u32 = 8;
 /// `scram_server_state`: A challenge is open, to a client that binds the channel by `tls-exporter`.
 pub const SCRAM_SERVER_CHALLENGE_OPEN_TLS_EXPORTER: u32 = 9;
 
+/// `rejection`: The last frame was not answered by Auth.
+pub const REJECTION_NONE: u32 = 0;
+
+/// `rejection`: The init names a mechanism that the server does not offer.
+pub const REJECTION_MECHANISM_NOT_OFFERED: u32 = 101;
+
+/// `rejection`: The init of a mechanism that needs an initial response has none.
+pub const REJECTION_NO_INITIAL_RESPONSE: u32 = 102;
+
+/// `rejection`: The initial response is no message of PLAIN that is accepted for a test of its password.
+pub const REJECTION_INVALID_MESSAGE: u32 = 103;
+
+/// `rejection`: The client's channel binding is not one that the server accepts (RFC 5802, section 6): someone may be
+/// between the two.
+pub const REJECTION_CHANNEL: u32 = 104;
+
+/// `rejection`: No record of the user was passed, for any hash.
+pub const REJECTION_UNKNOWN_USER: u32 = 105;
+
+/// `rejection`: No record of the user was passed for the hash of the exchange, and one for another hash was.
+pub const REJECTION_NO_RECORD_FOR_HASH: u32 = 106;
+
+/// `rejection`: The user may not act for the identity that the client names, whatever its proof is (RFC 4422, section
+/// 2).
+pub const REJECTION_NO_RIGHT: u32 = 107;
+
+/// `rejection`: The proof of SCRAM does not meet the record: the password is wrong, or the record is a mock record.
+pub const REJECTION_WRONG_PROOF: u32 = 108;
+
+/// `rejection`: No record has the password of the message of PLAIN, or none was passed.
+pub const REJECTION_WRONG_PASSWORD: u32 = 109;
+
+/// `rejection`: The init of EXTERNAL asks for another name than the one that the transport authenticated.
+pub const REJECTION_OTHER_IDENTITY: u32 = 110;
+
+/// `rejection`: An init arrives where the server waits for the response that completes the init before it.
+pub const REJECTION_UNEXPECTED_INIT: u32 = 111;
+
+/// `rejection`: A response arrives where no mechanism waits for one, or it is not empty where only an empty one is
+/// expected.
+pub const REJECTION_UNEXPECTED_RESPONSE: u32 = 112;
+
+/// `rejection`: None of the others. No call writes it.
+pub const REJECTION_OTHER: u32 = 113;
+
 /// `server_error`: The message is no error.
 pub const SERVER_ERROR_NONE: u32 = 0;
 
@@ -676,6 +721,10 @@ pub struct ScramServer {
     pub first_len: u32,
     /// The number of bytes of `acts_for` in use, or 0 if the client acts for itself.
     pub acts_for_len: u32,
+    /// Why the last frame was answered by the outcome Auth, for the server's log only: one of the `rejection`
+    /// constants, or the error of a SCRAM message, one of the `status` constants. Written by
+    /// `fe2o3_sasl_server_receive` and `fe2o3_sasl_server_step`.
+    pub rejection: u32,
     /// The user name, without escapes. While a challenge is open the client only claims it; afterwards it is
     /// authenticated.
     pub user: [u8; 256],

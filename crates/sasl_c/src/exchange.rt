@@ -243,6 +243,7 @@ impl ScramServer {
             nonce_len: 32,
             first_len: init.mechanism.len() as u32,
             acts_for_len: 0,
+            rejection: 0,
             user: [0; 256],
             bare,
             nonce,

@@ -42,6 +42,11 @@ pub struct ScramServer {
     /// The number of bytes of `acts_for` in use, or 0 if the client acts for itself.
     pub acts_for_len: u32,
 
+    /// Why the last frame was answered by the outcome Auth, for the server's log only: one of enum fe2o3_rejection, or the
+    /// error of a SCRAM message, one of enum fe2o3_status. Written by `fe2o3_sasl_server_receive` and
+    /// `fe2o3_sasl_server_step`.
+    pub rejection: u32,
+
     /// The user name, without escapes. While a challenge is open the client only claims it; afterwards it is
     /// authenticated.
     pub user: [u8; 256],
@@ -74,6 +79,7 @@ impl ScramServer {
             nonce_len: 0,
             first_len: 0,
             acts_for_len: 0,
+            rejection: 0,
             user: [0; 256],
             bare: [0; 1024],
             nonce: [0; 512],
@@ -101,6 +107,7 @@ impl ScramServer {
             nonce_len: 0,
             first_len: 0,
             acts_for_len,
+            rejection: 0,
             user,
             bare: [0; 1024],
             nonce: [0; 512],
