@@ -31,12 +31,11 @@ use Rattle.sasl_c.specs.declared.status.Status.{Status}
 use Rattle.sasl_c.specs.declared.status.Status.TheVariants as statuses
 use Rattle.sasl_c.specs.Records.{ShowsRecord, SpellsStruct}
 use Rattle.sasl_c.specs.Rules.{HasLongData}
-use Rattle.sasl_c.specs.SaslServer.{AddsRecord, AreFresh, HasNoServerWords, HasNone, HasNoStruct, HasRecords, IsNoConfig, IsOf, IsServer, NoRecordIsUnmet, ServerIsReached, ShowRecords, ShowsBy, ShowsProgress, ShowsSide, ShowsState, Stands, State, config_tests, extra_for, kept_exchange, mechanisms_sum, version_of_first, no_record as record_without_keys, one_where, passwords_number, record_for, saved_for, settings_for, side_in, side_struct, state_of, state_struct, struct_by, sum_of}
+use Rattle.sasl_c.specs.SaslServer.{AddsRecord, AreFresh, HasNoServerWords, HasNone, HasNoStruct, HasRecords, IsNoConfig, IsOf, IsServer, NoRecordIsUnmet, Replying, ServerIsReached, ShowRecords, ShowsBy, ShowsProgress, ShowsSide, ShowsState, Stands, State, config_tests, extra_for, kept_exchange, mechanisms_sum, version_of_first, no_record as record_without_keys, one_where, passwords_number, record_for, saved_for, settings_for, side_in, side_struct, state_of, state_struct, struct_by, sum_of}
 use Rattle.fe2o3_sasl_core.specs.ExtraChallenges.{Phase}
 use Rattle.fe2o3_sasl_core.specs.declared.extra_challenges.ExtraChallenges.{ExtraChallenges}
-use Rattle.fe2o3_sasl_core.specs.declared.extra_challenges.WithExtraChallenges.{WithExtraChallenges}
-use Rattle.fe2o3_sasl_core.specs.PasswordServer.{PasswordState, SavedExchange, ScramsAt, exchange_with, part_asked, password_acting, password_names, password_open, password_server, password_server_in, password_user, scrams_at}
-use Rattle.fe2o3_sasl_core.specs.declared.password_server.PasswordServer.{PasswordServer}
+use Rattle.fe2o3_sasl_core.specs.PasswordServer.{PasswordState, SavedExchange, ScramsAt, exchange_with, part_asked, password_acting, password_known_for, password_names, password_open, password_server, password_server_in, password_user, scrams_at}
+use Rattle.sasl_c.specs.declared.rejections.LoggedServer.{LoggedServer}
 use Rattle.sasl_c.specs.Server.{KeptExchange, NothingKept, ChallengeOpen, SignatureSent, InitialResponseAsked, IdentityHasRoom, IsLoggedIn, IsPhaseOf, ShowsExchange, open_exchange, phase_for, signed_exchange}
 use Rattle.sasl_c.specs.Status.{version_number}
 use Rattle.sasl_c.proofs.ExchangeLemmas.{short}
@@ -258,7 +257,7 @@ module _ (config : Config) (choice : Choice) (records : MultiRecords) (signed : 
   served exchange = password_server (settings_for config choice records (saved exchange))
 
   -- with the phase of what was kept
-  abbrev extended : KeptExchange → State
+  abbrev extended : KeptExchange → Replying
   extended exchange = record { inner = served exchange; extra = extra_for choice; phase = phase_for exchange }
 
   -- SCRAM in an exchange, with -PLUS or without it
@@ -359,24 +358,32 @@ module _ (config : Config) (choice : Choice) (records : MultiRecords) (signed : 
 
   extended_so : (exchange : KeptExchange) (inner : PasswordState) (extra : ExtraChallenges) (phase : Phase)
       → inner ≡ served exchange → extra ≡ extra_for choice → phase ≡ phase_for exchange
-      → ◌≡◌ {A = State} (record { inner = inner; extra = extra; phase = phase }) (extended exchange)
+      → ◌≡◌ {A = Replying} (record { inner = inner; extra = extra; phase = phase }) (extended exchange)
   extended_so exchange inner extra phase is own at =
       ap (λ (i : PasswordState). with_parts i extra phase) is
       ∙ (ap (λ (e : ExtraChallenges). with_parts (served exchange) e phase) own
       ∙ ap (λ (p : Phase). with_parts (served exchange) (extra_for choice) p) at)
     where
-      with_parts : PasswordState → ExtraChallenges → Phase → State
+      with_parts : PasswordState → ExtraChallenges → Phase → Replying
       with_parts i e p = record { inner = i; extra = e; phase = p }
 
-  pub made : (scram : ScramStruct) (exchange : KeptExchange) (server : State) (inner : PasswordState)
+  pub made : (scram : ScramStruct) (exchange : KeptExchange) (logged : State) (inner : PasswordState)
       (extra : ExtraChallenges) (phase : Phase) → sum_of choice ≡ config.mechanisms
       → HasRecords config records → ShowsExchange scram exchange → inner ≡ served exchange → extra ≡ extra_for choice
-      → phase ≡ phase_for exchange → server ≡ record { inner = inner; extra = extra; phase = phase }
-      → ServerIsReached config InProgress server × ShowsState scram InProgress server
-  made scram exchange server inner extra phase sum has shows is own at given =
-      let same : server ≡ extended exchange = given ∙ extended_so exchange inner extra phase is own at in (
-        (exchange, carried (IsOf config exchange) (extended exchange) server (sym same) (is_of exchange sum has)),
-        carried (ShowsExchange scram) exchange (kept_exchange server) (sym (ap kept_exchange same ∙ keeps exchange)) shows,
+      → phase ≡ phase_for exchange → logged.server ≡ record { inner = inner; extra = extra; phase = phase }
+      → logged.known ≡ password_known_for records
+      → ServerIsReached config InProgress logged × ShowsState scram InProgress logged
+  made scram exchange logged inner extra phase sum has shows is own at given known =
+      let same : logged.server ≡ extended exchange = given ∙ extended_so exchange inner extra phase is own at in (
+        (
+          (
+            exchange,
+            carried (IsOf config exchange) (extended exchange) logged.server (sym same) (is_of exchange sum has),
+          ),
+          (records, has, known),
+        ),
+        carried (ShowsExchange scram) exchange (kept_exchange logged.server)
+            (sym (ap kept_exchange same ∙ keeps exchange)) shows,
       )
 
 -- why there is none
@@ -486,7 +493,7 @@ pub ruleset shown = (shows_exchange, shows_user, shows_no_user, no_user_room, sh
 
 -- the library's server of a configuration
 abbrev pub Served : Type 0
-Served = WithExtraChallenges PasswordServer
+Served = LoggedServer
 
 -- what a struct of SCRAM shows of it
 abbrev pub Shown : ScramStruct → Progress → Served → Type 0

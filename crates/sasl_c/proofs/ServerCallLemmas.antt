@@ -32,7 +32,7 @@ use Rattle.sasl_c.specs.declared.sasl_server.SaslServer.{SaslServer as Struct}
 use Rattle.sasl_c.specs.declared.status.Status.{Status}
 use Rattle.sasl_c.specs.declared.status.Status.TheVariants as statuses
 use Rattle.sasl_c.specs.Connection.{Keeps, KeepsNoPart, accepts_extended, side_tests, KeepsNoPartOf}
-use Rattle.sasl_c.specs.SaslServer.{HasNone, IsNoConfig, IsNoServer, IsServer, NotReceived, Received, ServerIsReached, ServerTakes, ShowsBy, ShowsSide, ShowsState, State, server_machine, server_names, side_in, side_struct, state_of, struct_by}
+use Rattle.sasl_c.specs.SaslServer.{HasNone, IsNoConfig, IsNoServer, IsServer, KnowsOf, NotReceived, Received, ServerIsReached, ServerTakes, ShowsBy, ShowsSide, ShowsState, State, server_machine, server_names, side_in, side_struct, state_of, struct_by}
 use Rattle.sasl_c.proofs.ClientReplyLemmas.{answers_read, part_short}
 use Rattle.sasl_c.proofs.SaslClientLemmas.{one_due, tests_without_memory}
 use Rattle.sasl_c.proofs.SaslServerLemmas.{Served, Shown, is_server, no_server, shows_nothing, shows_side, writes_side, written_for}
@@ -51,14 +51,25 @@ ends_concluded body reply sent (code, more, is) same =
     absurd (cc)
 
 carried_comes : (config : Config) (server moved next : State) (body : List ℕ) (reply : SaslFrame)
-    (sent : Option (List ℕ)) → Goes config reply moved
+    (sent : Option (List ℕ)) → Goes config reply moved.server → KnowsOf config moved.known
     → Challenged body ≡ sent_or_not (Failed faults.TooLarge) (server_says reply) sent
     → next ≡ sent_or_not server (λ _. moved) sent → ServerIsReached config InProgress next
-carried_comes config server moved next body reply None goes says is = absurd (not_failed body faults.TooLarge says)
-carried_comes config server moved next body reply (Some sent) (inl ends) says is =
+carried_comes config server moved next body reply None goes knows says is =
+    absurd (not_failed body faults.TooLarge says)
+carried_comes config server moved next body reply (Some sent) (inl ends) knows says is =
     absurd (ends_concluded body reply sent ends says)
-carried_comes config server moved next body reply (Some sent) (inr comes) says is =
-    carried (ServerIsReached config InProgress) moved next (sym is) comes
+carried_comes config server moved next body reply (Some sent) (inr comes) knows says is =
+    carried (ServerIsReached config InProgress) moved next (sym is) (comes, knows)
+
+-- a reply of a server that the configuration reaches, which knows the same after it
+replies_comes : (config : Config) (server moved next : State) (nonce body : List ℕ) (frame reply : SaslFrame)
+    → ServerIsReached config InProgress server → server_machine server nonce frame reply moved
+    → Challenged body ≡ sent_or_not (Failed faults.TooLarge) (server_says reply) (canonical reply)
+    → next ≡ sent_or_not server (λ _. moved) (canonical reply) → ServerIsReached config InProgress next
+replies_comes config server moved next nonce body frame reply comes held says is =
+    carried_comes config server moved next body reply (canonical reply)
+    (comes_goes config server.server moved.server nonce frame reply comes.0 held.0)
+    (carried (KnowsOf config) server.known moved.known (sym held.1) comes.1) says is
 
 pub gives_comes : (config : Config) (server next : State) (event : Given) (spelled : Result SaslFrame Error)
     (body : List ℕ) → ServerIsReached config InProgress server
@@ -74,14 +85,12 @@ gives_comes config server next event (Ok (frames.Init mechanism response hostnam
     absurd (not_failed body faults.OutOfMemory failed.0)
 gives_comes config server next event (Ok (frames.Init mechanism response hostname)) body comes
     (inr (reply, moved, held, sends)) =
-    carried_comes config server moved next body reply (canonical reply)
-    (comes_goes config server moved event.nonce (frames.Init mechanism response hostname) reply comes held) sends.0
-    sends.1
+    replies_comes config server moved next event.nonce body (frames.Init mechanism response hostname) reply comes held
+    sends.0 sends.1
 gives_comes config server next event (Ok (frames.Response text)) body comes (inl failed) =
     absurd (not_failed body faults.OutOfMemory failed.0)
 gives_comes config server next event (Ok (frames.Response text)) body comes (inr (reply, moved, held, sends)) =
-    carried_comes config server moved next body reply (canonical reply)
-    (comes_goes config server moved event.nonce (frames.Response text) reply comes held) sends.0 sends.1
+    replies_comes config server moved next event.nonce body (frames.Response text) reply comes held sends.0 sends.1
 
 -- ---- what is behind an answer: a server that the configuration comes to, and at most 520 bytes sent (part 5, section 5.3.1)
 
@@ -335,7 +344,7 @@ pub not_kept : (config : Config) (bytes nonce : List ℕ) (before : Struct) (kep
 unfolding NotReceived IsNoServer
 not_kept config bytes nonce before kept state status keeps wants limit mock comes (is, wrong) = inl (inr (
   none_holds before.connection kept keeps wants,
-  inr (is, keeps_no_server before.connection kept keeps wants limit mock wrong, (comes.0, state, comes.1)),
+  inr (is, keeps_no_server before.connection kept keeps wants limit mock wrong, (comes.0.0, state.server, comes.0.1)),
 ))
 
 -- what comes of a side that was taken up

@@ -16,10 +16,9 @@ use Rattle.fe2o3_sasl_core.specs.declared.any_mechanism.Selected.TheVariants.{Fi
 use Rattle.fe2o3_sasl_core.specs.ExtraChallenges.{Phase, Idle, Asking, Signing, Unconfirmed, AsksOrPasses, Confirms, PassesFrame, RepliesIn, is_asked, phase_after, sent_for}
 use Rattle.fe2o3_sasl_core.specs.declared.extra_challenges.ExtraChallenges.{ExtraChallenges}
 use Rattle.fe2o3_sasl_core.specs.SaslAcceptor.{ends_with}
-use Rattle.fe2o3_sasl_negotiation.specs.declared.progress.Progress.TheVariants.{InProgress}
 use Rattle.sasl_c.specs.declared.sasl_server.Choice.{Choice}
 use Rattle.sasl_c.specs.declared.sasl_server.SaslServerConfig.{SaslServerConfig as Config}
-use Rattle.sasl_c.specs.SaslServer.{AreIn, HasRecords, IsOf, ServerIsReached, Stands, State, extra_for, record_for, saved_for, scrams_with, server_machine, settings_for, sum_of}
+use Rattle.sasl_c.specs.SaslServer.{AreIn, HasRecords, IsOf, IsReached, Replying, Stands, extra_for, record_for, replying_machine, saved_for, scrams_with, settings_for, sum_of}
 use Rattle.sasl_c.specs.Server.{KeptExchange, NothingKept, ChallengeOpen, SignatureSent, InitialResponseAsked, PendingInit, IsAsking, IsPhaseOf}
 use Rattle.fe2o3_sasl_core.specs.PasswordServer.{SavedExchange, ScramsAt, PasswordState, part_where, password_machine, password_names, password_server_in}
 use Rattle.sasl_c.proofs.StatusLemmas.{carried}
@@ -31,8 +30,8 @@ use Rattle.sasl_c.proofs.PasswordReplyLemmas.{Reaches, Then, password_goes}
 abbrev pub Closes : SaslFrame → Type 0
 Closes reply = (code : SaslCode) × (more : Option (List ℕ)) × (reply ≡ frames.Outcome code more)
 
-abbrev pub Goes : Config → SaslFrame → State → Type 0
-Goes config reply next = Closes reply ⊎ ServerIsReached config InProgress next
+abbrev pub Goes : Config → SaslFrame → Replying → Type 0
+Goes config reply next = Closes reply ⊎ IsReached config next
 
 closes_so : (reply : SaslFrame) (code : SaslCode) → reply ≡ ends_with code → Closes reply
 closes_so reply code same = (code, None, same)
@@ -76,7 +75,7 @@ record Behind (config : Config) (choice : Choice) (records : MultiRecords) (vers
 
 module _ (config : Config) (choice : Choice) (records : MultiRecords) (sum : sum_of choice ≡ config.mechanisms)
     (has : HasRecords config records) where
-  abbrev moved_to : PasswordState → Phase → State
+  abbrev moved_to : PasswordState → Phase → Replying
   moved_to moved phase = record { inner = moved; extra = extra_for choice; phase = phase }
 
   -- the server is in this exchange
@@ -104,7 +103,7 @@ module _ (config : Config) (choice : Choice) (records : MultiRecords) (sum : sum
       (moved : PasswordState) (phase : Phase)
       → state ≡ ServerFirstSent challenge (record_for records version challenge.user)
       → is_required challenge.header.flag ≡ plus → OfChallenge phase → Behind config choice records version plus state moved
-      → ServerIsReached config InProgress (moved_to moved phase)
+      → IsReached config (moved_to moved phase)
   unfolding IsOf
   reached_open version plus challenge state moved phase same binds in_phase behind =
       go (in_exchange version plus state moved _ behind (saved_so version plus _ state _ (sym binds) same))
@@ -113,7 +112,7 @@ module _ (config : Config) (choice : Choice) (records : MultiRecords) (sum : sum
         version = version;
         plus = is_required challenge.header.flag;
         state = ServerFirstSent challenge (record_for records version challenge.user);
-      }) moved → ServerIsReached config InProgress (moved_to moved phase)
+      }) moved → IsReached config (moved_to moved phase)
       go (bound, plain, selected, stands, is) = (
         ChallengeOpen version challenge,
         (choice, records, version, plus, bound, plain, selected, sum, has, stands, in_phase, refl, is),
@@ -122,13 +121,13 @@ module _ (config : Config) (choice : Choice) (records : MultiRecords) (sum : sum
   reached_signed : (version : ScramVersion) (plus : Bool) (user : List ℕ) (acts_for : Option (List ℕ))
       (state : ServerState) (moved : PasswordState)
       → state ≡ ServerFinalSent user acts_for → Behind config choice records version plus state moved
-      → ServerIsReached config InProgress (moved_to moved Signing)
+      → IsReached config (moved_to moved Signing)
   unfolding IsOf
   reached_signed version plus user acts_for state moved same behind =
       go (in_exchange version plus state moved _ behind (saved_so version plus plus state _ refl same))
     where
       go : InExchange (record { version = version; plus = plus; state = ServerFinalSent user acts_for }) moved
-          → ServerIsReached config InProgress (moved_to moved Signing)
+          → IsReached config (moved_to moved Signing)
       go (bound, plain, selected, stands, is) = (
         SignatureSent user acts_for,
         (choice, records, version, plus, bound, plain, selected, sum, has, stands, inl refl, refl, is),
@@ -140,18 +139,18 @@ module _ (config : Config) (choice : Choice) (records : MultiRecords) (sum : sum
       → Behind config choice records version plus state moved → reply ≡ sent_for signature answer
       → Goes config reply (moved_to moved (phase_after signature phase answer))
   sends signature version plus state answer reply moved phase (inl (challenge, text, same, is, binds)) behind sent = inr
-      (carried (λ (a : SaslFrame). ServerIsReached config InProgress (moved_to moved (phase_after signature phase a)))
+      (carried (λ (a : SaslFrame). IsReached config (moved_to moved (phase_after signature phase a)))
       (frames.Challenge text) answer (sym same)
       (reached_open version plus challenge state moved (phase_after signature phase (frames.Challenge text)) is binds
       (phase_behind signature phase text) behind))
   sends true version plus state answer reply moved phase (inr (user, acts_for, text, same, is)) behind sent = inr
-      (carried (λ (a : SaslFrame). ServerIsReached config InProgress (moved_to moved (phase_after true phase a)))
+      (carried (λ (a : SaslFrame). IsReached config (moved_to moved (phase_after true phase a)))
       (frames.Outcome outcomes.Ok (Some text)) answer (sym same)
       (reached_signed version plus user acts_for state moved is behind))
   sends false version plus state answer reply moved phase (inr (user, acts_for, text, same, is)) behind sent =
       inl (outcomes.Ok, Some text, sent ∙ ap (sent_for false) same)
 
-  passes : (server next : State) (bound plain : ScramsAt) (selected at : Option Selected) (nonce : List ℕ)
+  passes : (server next : Replying) (bound plain : ScramsAt) (selected at : Option Selected) (nonce : List ℕ)
       (frame reply : SaslFrame) → server.extra ≡ extra_for choice
       → server.inner ≡ password_server_in (settings_for config choice records None) bound plain selected at
       → PassesFrame password_machine server nonce frame reply next → Goes config reply next
@@ -184,12 +183,12 @@ module _ (config : Config) (choice : Choice) (records : MultiRecords) (sum : sum
 
   -- a server that keeps this of SCRAM is reached in each phase that fits
   reached_in : (exchange : KeptExchange) (signed : ScramVersion) (by : Bool) (bound plain : ScramsAt)
-      (selected : Option Selected) (server : State) (phase : Phase)
+      (selected : Option Selected) (server : Replying) (phase : Phase)
       → Stands (saved_for records signed by exchange) bound plain selected → IsPhaseOf exchange phase
       → server.extra ≡ extra_for choice
       → server.inner ≡ password_server_in (settings_for config choice records None) bound plain selected
       (option_map (λ (saved : SavedExchange). First) (saved_for records signed by exchange))
-      → ServerIsReached config InProgress (record server { phase = phase })
+      → IsReached config (record server { phase = phase })
   unfolding IsOf
   reached_in exchange signed by bound plain selected server phase stands in_phase extra inner = (
     exchange,
@@ -198,11 +197,11 @@ module _ (config : Config) (choice : Choice) (records : MultiRecords) (sum : sum
 
   -- where an init is asked, what is kept of SCRAM stays
   reached_asking : (exchange : KeptExchange) (signed : ScramVersion) (by : Bool) (bound plain : ScramsAt)
-      (selected : Option Selected) (server : State) (init : PendingInit)
+      (selected : Option Selected) (server : Replying) (init : PendingInit)
       → Stands (saved_for records signed by exchange) bound plain selected → server.extra ≡ extra_for choice
       → server.inner ≡ password_server_in (settings_for config choice records None) bound plain selected
       (option_map (λ (saved : SavedExchange). First) (saved_for records signed by exchange))
-      → ServerIsReached config InProgress (record server { phase = Asking init.mechanism init.hostname init.nonce })
+      → IsReached config (record server { phase = Asking init.mechanism init.hostname init.nonce })
   reached_asking NothingKept signed by bound plain selected server init stands extra inner =
       reached_in NothingKept signed by bound plain selected server _ stands (inr (inr (init, refl))) extra inner
   reached_asking (ChallengeOpen version challenge) signed by bound plain selected server init stands extra inner =
@@ -214,14 +213,14 @@ module _ (config : Config) (choice : Choice) (records : MultiRecords) (sum : sum
       reached_in (InitialResponseAsked init) signed by bound plain selected server _ stands refl extra inner
 
   asks_or_passes : (exchange : KeptExchange) (signed : ScramVersion) (by : Bool) (bound plain : ScramsAt)
-      (selected : Option Selected) (server next : State) (asked : Bool) (nonce : List ℕ) (frame reply : SaslFrame)
+      (selected : Option Selected) (server next : Replying) (asked : Bool) (nonce : List ℕ) (frame reply : SaslFrame)
       → Stands (saved_for records signed by exchange) bound plain selected → server.extra ≡ extra_for choice
       → server.inner ≡ password_server_in (settings_for config choice records None) bound plain selected
       (option_map (λ (saved : SavedExchange). First) (saved_for records signed by exchange))
       → AsksOrPasses password_machine server asked nonce frame reply next → Goes config reply next
   asks_or_passes exchange signed by bound plain selected server next true nonce
       (frames.Init mechanism response hostname) reply stands extra inner (same, then) = inr
-      (carried (ServerIsReached config InProgress) _ next (sym then)
+      (carried (IsReached config) _ next (sym then)
       (reached_asking exchange signed by bound plain selected server
       (record { mechanism = mechanism; hostname = hostname; nonce = nonce }) stands extra inner))
   asks_or_passes exchange signed by bound plain selected server next true nonce (frames.Response text) reply stands
@@ -239,13 +238,13 @@ module _ (config : Config) (choice : Choice) (records : MultiRecords) (sum : sum
   asks_or_passes exchange signed by bound plain selected server next false nonce frame reply stands extra inner held =
       passes server next bound plain selected _ nonce frame reply extra inner held
 
-confirms : (config : Config) (server next : State) (text : List ℕ) (reply : SaslFrame)
+confirms : (config : Config) (server next : Replying) (text : List ℕ) (reply : SaslFrame)
     → Confirms server text reply next → Goes config reply next
 confirms config server next [] reply (same, then) = inl (closes_so reply outcomes.Ok same)
 confirms config server next (byte ∷ text) reply (same, then) = inl (closes_so reply outcomes.Auth same)
 
-pub comes_goes : (config : Config) (server next : State) (nonce : List ℕ) (frame reply : SaslFrame)
-    → ServerIsReached config InProgress server → server_machine server nonce frame reply next → Goes config reply next
+pub comes_goes : (config : Config) (server next : Replying) (nonce : List ℕ) (frame reply : SaslFrame)
+    → IsReached config server → replying_machine server nonce frame reply next → Goes config reply next
 unfolding IsOf
 comes_goes config server next nonce frame reply
     (exchange, (choice, records, signed, by, bound, plain, selected, sum, has, stands, in_phase, extra, inner))

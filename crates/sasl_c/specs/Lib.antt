@@ -2,6 +2,7 @@ pub mod Status
 pub mod Passwords
 pub mod Channels
 pub mod Records
+pub mod Rejections
 pub mod RecordFields
 pub mod Keys
 pub mod Salted

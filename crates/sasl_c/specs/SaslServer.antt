@@ -18,10 +18,11 @@ use Rattle.fe2o3_scram.specs.ScramServer.{ConcludesFrom, ServerState, Initial, S
 use Rattle.fe2o3_scram.specs.ServerFirst.{ServerChallenge}
 use Rattle.fe2o3_sasl_core.specs.Bodies.{SpellsBody}
 use Rattle.fe2o3_sasl_core.specs.LoginAttempts.{ClaimAllocates, ClaimIn, ClaimsUser}
-use Rattle.fe2o3_sasl_core.specs.ExtraChallenges.{Extended, extended_machine, extended_of, extended_user}
+use Rattle.fe2o3_sasl_core.specs.ExtraChallenges.{Extended, extended_machine, extended_of, extended_reasons, extended_user}
 use Rattle.fe2o3_sasl_core.specs.declared.extra_challenges.ExtraChallenges.{ExtraChallenges}
 use Rattle.fe2o3_sasl_core.specs.declared.extra_challenges.WithExtraChallenges.{WithExtraChallenges}
-use Rattle.fe2o3_sasl_core.specs.PasswordServer.{PasswordSettings, PasswordState, SavedExchange, ScramsAt, name_where, part_where, password_acting, password_machine, password_names, password_open, password_server_in, password_state, password_user}
+use Rattle.fe2o3_sasl_core.specs.PasswordServer.{PasswordKnown, PasswordSettings, PasswordState, SavedExchange, ScramsAt, name_where, part_where, password_acting, password_known, password_known_for, password_machine, password_names, password_open, password_reasons, password_server_in, password_state, password_user}
+use Rattle.fe2o3_sasl_core.specs.declared.rejection.Rejection.{Rejection}
 use Rattle.fe2o3_sasl_core.specs.declared.password_server.PasswordServer.{PasswordServer}
 use Rattle.fe2o3_sasl_core.specs.declared.plain_server.passwords.PlainPasswords.{PlainPasswords}
 use Rattle.fe2o3_sasl_core.specs.declared.plain_server.passwords.PlainPasswords.TheVariants as forms
@@ -45,34 +46,48 @@ use Rattle.sasl_c.specs.Client.{is_set}
 use Rattle.sasl_c.specs.Connection.{IsSideOf, Keeps, KeepsNoPart, accepts_extended, side_tests, connection_struct, KeepsNoPartOf}
 use Rattle.sasl_c.specs.Peeks.{AnySide}
 use Rattle.sasl_c.specs.Records.{ShowsRecord}
+use Rattle.sasl_c.specs.Rejections.{Logged, logged_machine, rejection_number}
+use Rattle.sasl_c.specs.declared.rejections.LoggedServer.{LoggedServer}
 use Rattle.sasl_c.specs.Rules.{HasLongData, channels_of}
 use Rattle.sasl_c.specs.declared.records.ScramRecord.{ScramRecord as Kept}
-use Rattle.sasl_c.specs.Server.{KeptExchange, NothingKept, ChallengeOpen, SignatureSent, InitialResponseAsked, PendingInit, HasAsked, IsLoggedIn, IsOpen, IsPhaseOf, ShowsExchange, authenticated_struct, exchange_in, exchange_struct, fresh_server_struct}
+use Rattle.sasl_c.specs.Server.{KeptExchange, NothingKept, ChallengeOpen, SignatureSent, InitialResponseAsked, PendingInit, HasAsked, IsLoggedIn, IsOpen, IsPhaseOf, ShowsExchange, authenticated_struct, exchange_in, exchange_struct, fresh_server_struct, rejected_struct}
 
 -- ---- the server of a configuration
 
--- its state: that of the library's server of these mechanisms, which may send its signature in a challenge
+-- the state of the library's server of these mechanisms, which may send its signature in a challenge
+abbrev pub Replying : Type 0
+Replying = Extended PasswordState
+
+-- its state, with what it knows of users and why its last reply rejects the login
 abbrev pub State : Type 0
-State = Extended PasswordState
+State = Logged PasswordKnown Replying
 
 -- the names of its mechanisms
 abbrev pub server_names : State → List (List ℕ)
-server_names = λ server. password_names server.inner
+server_names = λ logged. password_names logged.server.inner
 
 -- what it replies
+abbrev pub replying_machine : Replying → List ℕ → SaslFrame → SaslFrame → Replying → Type 0
+replying_machine = extended_machine password_names password_machine
+
+-- why it rejects a frame
+abbrev pub replying_reasons : PasswordKnown → Replying → SaslFrame → Rejection → Type 0
+replying_reasons known = extended_reasons password_names (password_reasons known)
+
+-- what it replies, and the reason that it keeps
 abbrev pub server_machine : State → List ℕ → SaslFrame → SaslFrame → State → Type 0
-server_machine = extended_machine password_names password_machine
+server_machine = logged_machine replying_machine replying_reasons
 
 -- the user that it names
-abbrev pub server_user : State → Option (List ℕ)
+abbrev pub server_user : Replying → Option (List ℕ)
 server_user server = extended_user server.phase (password_user server.inner)
 
 -- the identity that this user acts for
-abbrev pub server_acting : State → Option (List ℕ)
+abbrev pub server_acting : Replying → Option (List ℕ)
 server_acting server = extended_user server.phase (password_acting server.inner)
 
 -- what it keeps of a login that is not complete
-abbrev pub kept_exchange : State → KeptExchange
+abbrev pub kept_exchange : Replying → KeptExchange
 kept_exchange server = exchange_in server.phase (password_open server.inner) (password_user server.inner)
     (password_acting server.inner)
 
@@ -220,7 +235,7 @@ Stands (Some saved) plus plain selected = AreIn saved (scrams_with saved.plus pl
     × (selected ≡ Some (part_where saved.plus))
 
 -- the server is that of a configuration, and keeps this. By which mechanism a signature was sent plays no part
-unfoldable pub IsOf : Config → KeptExchange → State → Type 0
+unfoldable pub IsOf : Config → KeptExchange → Replying → Type 0
 IsOf config exchange server = (choice : Choice) × (records : MultiRecords) × (signed : ScramVersion) × (bound : Bool)
     × (plus plain : ScramsAt) × (selected : Option Selected) × (sum_of choice ≡ config.mechanisms)
     × HasRecords config records × Stands (saved_for records signed bound exchange) plus plain selected
@@ -230,8 +245,16 @@ IsOf config exchange server = (choice : Choice) × (records : MultiRecords) × (
 
 -- the servers that a configuration can reach while more bytes are expected: before the init, with an open challenge,
 -- and after the signature
+abbrev pub IsReached : Config → Replying → Type 0
+IsReached config server = (exchange : KeptExchange) × IsOf config exchange server
+
+-- what a server of a configuration knows of users: the records of the configuration, of which none is a mock record to it
+abbrev pub KnowsOf : Config → PasswordKnown → Type 0
+KnowsOf config known = (records : MultiRecords) × HasRecords config records × (known ≡ password_known_for records)
+
+-- these servers, with what they know
 abbrev pub ServerIsReached : Config → Progress → State → Type 0
-ServerIsReached config InProgress server = (exchange : KeptExchange) × IsOf config exchange server
+ServerIsReached config InProgress logged = IsReached config logged.server × KnowsOf config logged.known
 ServerIsReached config Authenticated server = Unit {0}
 ServerIsReached config (Failed why) server = Unit {0}
 
@@ -248,21 +271,21 @@ ShowsProgress scram Authenticated exchange user acts_for = ShowsUser scram user 
 ShowsProgress scram (Failed why) exchange user acts_for = scram.state ≡ 0
 
 -- the struct of SCRAM that a call writes for such a login
-abbrev pub progress_struct : Progress → KeptExchange → Option (List ℕ) → Option (List ℕ) → ScramStruct
-progress_struct InProgress exchange user acts_for = exchange_struct exchange
-progress_struct Authenticated exchange None acts_for = fresh_server_struct
-progress_struct Authenticated exchange (Some user) acts_for = authenticated_struct user acts_for
-progress_struct (Failed why) exchange user acts_for = fresh_server_struct
+abbrev pub progress_struct : Progress → KeptExchange → Option (List ℕ) → Option (List ℕ) → Option Rejection → ScramStruct
+progress_struct InProgress exchange user acts_for rejection = exchange_struct exchange
+progress_struct Authenticated exchange None acts_for rejection = fresh_server_struct
+progress_struct Authenticated exchange (Some user) acts_for rejection = authenticated_struct user acts_for
+progress_struct (Failed why) exchange user acts_for rejection = rejected_struct (rejection_number rejection)
 
 -- the struct of SCRAM holds what a server of this progress needs
 abbrev pub ShowsState : ScramStruct → Progress → State → Type 0
-ShowsState scram progress server =
+ShowsState scram progress logged = let server = logged.server in
     ShowsProgress scram progress (kept_exchange server) (server_user server) (server_acting server)
 
 -- the struct that a call writes for a server
 abbrev pub state_struct : Progress → State → ScramStruct
-state_struct progress server =
-    progress_struct progress (kept_exchange server) (server_user server) (server_acting server)
+state_struct progress logged = let server = logged.server in
+    progress_struct progress (kept_exchange server) (server_user server) (server_acting server) logged.rejection
 
 -- the structs show a side, where this says what the one of SCRAM shows of its acceptor
 abbrev pub ShowsBy : {A S : Type 0} → (A → S) → (ScramStruct → Progress → A → Type 0) → Struct → ServerConnectionSide A
@@ -320,7 +343,8 @@ config_tests config = (statuses.NoSuchMechanism, (choice : Choice) → sum_of ch
 unfoldable pub IsNoConfig : Config → Status → Type 0
 IsNoConfig config status = IsFirst (config_tests config) status
     ⊎ (NoneHolds (config_tests config) × (status ≡ statuses.NoSuchMechanism)
-    × ((exchange : KeptExchange) × (server : State) × IsOf config exchange server × (server_names server ≡ [])))
+    × ((exchange : KeptExchange) × (server : Replying) × IsOf config exchange server
+    × (password_names server.inner ≡ [])))
 
 -- why the structs are those of no side that expects more bytes: the tests of the connection, those of the configuration, and last
 -- that what was kept is a part of what is expected
@@ -328,7 +352,7 @@ unfoldable pub IsNoServer : Config → Struct → Status → Type 0
 IsNoServer config server status = IsFirst (side_tests server.connection) status
     ⊎ (NoneHolds (side_tests server.connection) × (IsNoConfig config status
     ⊎ ((status ≡ statuses.InvalidSnapshot) × KeepsNoPartOf server_due server.connection
-    × ((exchange : KeptExchange) × (kept : State) × IsOf config exchange kept))))
+    × ((exchange : KeptExchange) × (kept : Replying) × IsOf config exchange kept))))
 
 -- what a side of a server makes of bytes, by whether it accepts extended headers
 abbrev pub ServerTakes : {S : Type 0} → Bool → (S → List (List ℕ)) → (S → List ℕ → SaslFrame → SaslFrame → S → Type 0)
@@ -425,10 +449,18 @@ Names server bytes (Err status) = NotNamed server bytes status
 
 -- ---- the code's values
 
--- the state that an acceptor is
-abbrev pub state_of : WithExtraChallenges PasswordServer → State
-state_of = extended_of password_state
+-- what a value replies by
+abbrev pub replying_of : WithExtraChallenges PasswordServer → Replying
+replying_of = extended_of password_state
+
+-- the state that a value is
+abbrev pub state_of : LoggedServer → State
+state_of logged = record {
+  server = replying_of logged.server;
+  known = password_known logged.server.acceptor;
+  rejection = logged.rejection;
+}
 
 -- the side that a value is
-abbrev pub side_in : ServerConnectionSide (WithExtraChallenges PasswordServer) → Side State
+abbrev pub side_in : ServerConnectionSide LoggedServer → Side State
 side_in server = server_side state_of server

@@ -217,6 +217,10 @@ fresh_server_struct = record {
   acts_for = replicate 256 0;
 }
 
+-- of one that has rejected a login, for the reason of this number
+abbrev pub rejected_struct : ℕ → Struct
+rejected_struct number = record fresh_server_struct { rejection = number }
+
 -- of one whose challenge is open, by the hash of this number
 abbrev pub open_struct : ℕ → ServerChallenge → Struct
 open_struct version challenge = record {

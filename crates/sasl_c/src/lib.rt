@@ -36,6 +36,7 @@ mod plain_verify;
 mod preparation;
 mod record_fields;
 mod records;
+mod rejections;
 mod rules;
 mod salted;
 mod sasl_client;

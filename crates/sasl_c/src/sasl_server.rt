@@ -6,7 +6,7 @@ ghost use Rattle.fe2o3_scram.specs.Credentials.{kept};
 ghost use Rattle.fe2o3_scram.specs.Mixed.{MultiRecords};
 ghost use Rattle.fe2o3_scram.specs.Readings.{NoneHolds};
 ghost use Rattle.fe2o3_sasl_core.specs.ExtraChallenges.{phase_of};
-ghost use Rattle.fe2o3_sasl_core.specs.PasswordServer.{password_names, password_server, password_state};
+ghost use Rattle.fe2o3_sasl_core.specs.PasswordServer.{password_known, password_known_for, password_names, password_server, password_state};
 ghost use Rattle.fe2o3_sasl_core.specs.declared.password_server.builder.BuildError.TheVariants.{NoMechanism as BuildNoMechanism, SaltTooLong as BuildSaltTooLong};
 ghost use Rattle.fe2o3_sasl_negotiation.specs.declared.progress.Progress.TheVariants.{InProgress};
 ghost use Rattle.fe2o3_sasl_negotiation.specs.Snapshot.{IsServerKept, side_of};
@@ -27,6 +27,7 @@ use crate::connection::Connection;
 use crate::exchange::ScramExchange;
 use crate::flags::{is_set, split, split_passwords};
 use crate::records::ScramRecord;
+use crate::rejections::LoggedServer;
 use crate::rules::ServerChannels;
 use crate::server::ScramServer;
 use crate::shows::Shows;
@@ -243,9 +244,6 @@ fn add_record(
     }
 }
 
-/// The library's server of a configuration.
-type Acceptor = WithExtraChallenges<PasswordServer>;
-
 impl SaslServerConfig<'_> {
     /// The records of the configuration's user. `OutOfMemory` is the only error.
     #[tactic(auto, using(crate::proofs::SaslServerLemmas::store))]
@@ -292,6 +290,7 @@ impl SaslServerConfig<'_> {
         requires rights { rights.now.value ≡ rights_for self.now.username.now self.now.identities.now }
         ensures ok { IfOk result (λ server. password_state server
             ≡ password_server (settings_for self.now choice store.now (saved_for store.now version false (exchange_shown exchange.now)))) }
+        ensures known { IfOk result (λ server. password_known server ≡ password_known_for store.now) }
         ensures none { IfErr result (λ error. error ≡ BuildNoMechanism
             → password_names (password_server (settings_for self.now choice store.now
             (saved_for store.now version false (exchange_shown exchange.now)))) ≡ []) }
@@ -343,7 +342,7 @@ impl SaslServerConfig<'_> {
 
     /// The library's server, which continues what the struct of SCRAM keeps of a login.
     #[tactic(auto, using(crate::proofs::SaslServerLemmas::acceptor))]
-    pub fn acceptor(&self, alloc: Global, scram: &ScramServer) -> Result<Acceptor, Status>
+    pub fn acceptor(&self, alloc: Global, scram: &ScramServer) -> Result<LoggedServer, Status>
         ensures ok { IfOk result (λ acceptor. ServerIsReached self.now InProgress (state_of acceptor)
             × ShowsState scram.now InProgress (state_of acceptor)) }
         ensures tests { IfOk result (λ _. NoneHolds (config_tests self.now)) }
@@ -375,7 +374,10 @@ impl SaslServerConfig<'_> {
         match self.server(
             alloc, choice, &store, version, external, channels, &rights, &exchange,
         ) {
-            Ok(server) => Ok(WithExtraChallenges::with_phase(server, choice.extra(), phase)),
+            Ok(server) => {
+                let extended = WithExtraChallenges::with_phase(server, choice.extra(), phase);
+                Ok(LoggedServer::new(extended))
+            }
             Err(BuildError::NoMechanism) => Err(Status::NoSuchMechanism),
             Err(BuildError::SaltTooLong) => unreachable!(),
             Err(BuildError::OutOfMemory) => Err(Status::OutOfMemory),

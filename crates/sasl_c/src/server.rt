@@ -7,7 +7,7 @@ ghost use Rattle.fe2o3_scram.specs.ServerFirst.{ServerChallenge};
 ghost use Rattle.fe2o3_scram.specs.declared.hmac.ScramVersion.{ScramVersion as ScramVersions};
 ghost use Rattle.fe2o3_scram.specs.ScramServer.{challenge_kept};
 ghost use Rattle.fe2o3_scram.specs.declared.scram_messages.channel_binding_flag.ChannelBindingFlag.{ChannelBindingFlag as HeaderOf};
-ghost use Rattle.sasl_c.specs.Server.{ChallengeHasRoom, HoldsIdentity, IdentityHasRoom, IsLoggedIn, IsOpen, IsOpenBy, IsOpenFor, authenticated_struct, fresh_server_struct, identity_in, named_struct, open_number, open_struct, or_empty, user_struct};
+ghost use Rattle.sasl_c.specs.Server.{ChallengeHasRoom, HoldsIdentity, IdentityHasRoom, IsLoggedIn, IsOpen, IsOpenBy, IsOpenFor, authenticated_struct, fresh_server_struct, identity_in, named_struct, open_number, open_struct, or_empty, rejected_struct, user_struct};
 
 use crate::arrays::{cleared, fill, head, padded};
 use crate::rules::takes;
@@ -86,6 +86,16 @@ impl ScramServer {
             first: [0; 1024],
             acts_for: [0; 256],
         }
+    }
+
+    /// Returns the struct of a server that has rejected a login, for the reason of this number.
+    pub fn rejected(rejection: u32) -> ScramServer
+        ensures state { result.state ≡ 0 }
+        ensures writes { result ≡ rejected_struct rejection }
+    {
+        let mut server = ScramServer::fresh();
+        server.rejection = rejection;
+        server
     }
 
     /// Returns the struct of a server that keeps only a user and an identity, the first bytes of these arrays, in this

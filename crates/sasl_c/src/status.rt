@@ -280,7 +280,7 @@ fn client_number(why: ScramErrorKind) -> u32
 }
 
 /// Returns the number of an error of a server.
-fn server_number(why: ServerScramErrorKind) -> u32
+pub fn server_number(why: ServerScramErrorKind) -> u32
     ensures { result ≡ server_number why }
 {
     match why {
