@@ -205,7 +205,8 @@ static void attack(const struct hash *hash)
         challenge_moved(&pair) && pair.of_client.len == 0
             && is_at(&pair.client.connection, FE2O3_FAILED, FE2O3_CLIENT_MISPLACED_ATTRIBUTE));
     fe2o3_sasl_end_of_input(&pair.server.connection);
-    told(&pair, "nobody logs in", is_at(&pair.server.connection, FE2O3_FAILED, FE2O3_END_OF_INPUT));
+    told(&pair, "nobody logs in", is_at(&pair.server.connection, FE2O3_FAILED, FE2O3_END_OF_INPUT)
+            && pair.server.scram.rejection == FE2O3_REJECTION_NONE);
 }
 
 /* The attack on the client of another library. */
@@ -217,6 +218,8 @@ static void foreign(const struct hash *hash, const char *what, int binds, uint32
     told(&pair, what,
         offered(&pair, binds, "y,,") && init_moved(&pair) && response_moved(&pair, hash->final)
             && is_at(&pair.server.connection, progress, progress == FE2O3_FAILED ? FE2O3_REFUSED_AUTH : FE2O3_OK)
+            && pair.server.scram.rejection
+                == (progress == FE2O3_FAILED ? FE2O3_SERVER_MISPLACED_ATTRIBUTE : FE2O3_REJECTION_NONE)
             && view(&pair.of_server).code == (progress == FE2O3_FAILED ? FE2O3_CODE_AUTH : FE2O3_CODE_OK));
 }
 
@@ -230,7 +233,10 @@ static void unaltered(const struct hash *hash, const char *what, uint32_t use, u
     holds = fe2o3_sasl_client_open(ROOM(&pair.of_client)) == FE2O3_OK;
     while (holds && pair.client.connection.progress == FE2O3_IN_PROGRESS)
         holds = to_server(&pair, &pair.of_client) && to_client(&pair, &pair.of_server);
-    told(&pair, what, holds && pair.client.connection.progress == progress && pair.server.connection.progress == progress);
+    told(&pair, what,
+        holds && pair.client.connection.progress == progress && pair.server.connection.progress == progress
+            && pair.server.scram.rejection
+                == (progress == FE2O3_FAILED ? FE2O3_REJECTION_CHANNEL : FE2O3_REJECTION_NONE));
 }
 
 int main(void)

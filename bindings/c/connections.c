@@ -90,7 +90,7 @@ static int serves_init(const struct fe2o3_sasl_server_config *config, uint32_t a
         holds &= serves(config, &server, TEXT(SASL), &sent) == FE2O3_OK;
         for (size_t at = 0; at < last; at += piece)
             holds &= serves(config, &server, row->frame + at, piece, &sent) == FE2O3_OK
-                && server.connection.progress == FE2O3_IN_PROGRESS;
+                && server.connection.progress == FE2O3_IN_PROGRESS && server.scram.rejection == FE2O3_REJECTION_NONE;
         holds &= fe2o3_sasl_server_claimed_user(&server, row->frame + last, piece, ROOM(name))
             == (wanted == FE2O3_OK ? FE2O3_OK : FE2O3_NAMES_NO_USER);
         holds &= wanted != FE2O3_OK || spells(&name, TEXT("user"));
@@ -99,7 +99,8 @@ static int serves_init(const struct fe2o3_sasl_server_config *config, uint32_t a
         holds &= accepts != 0 || (body.len == row->len - 4 && memcmp(body.bytes, row->frame + 4, body.len) == 0);
         holds &= serves(config, &server, row->frame + last, piece, &sent) == FE2O3_OK;
         holds &= server.connection.progress == (wanted == FE2O3_OK ? FE2O3_AUTHENTICATED : FE2O3_FAILED)
-            && server.connection.why == wanted && server.connection.extended_headers == (accepts != 0);
+            && server.connection.why == wanted && server.connection.extended_headers == (accepts != 0)
+            && server.scram.rejection == FE2O3_REJECTION_NONE;
     }
     return holds;
 }

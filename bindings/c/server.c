@@ -8,7 +8,7 @@
  * answered by an empty challenge. With `for:` clients of SCRAM and PLAIN may name an identity to act for, and each user may
  * act for IDENTITY. USERS is a file of users, a line for each (fe2o3_scram_line writes one). It prints the port that it
  * listens on, serves so many connections, one after another, and says of each who has logged in, and for which identity, or
- * why nobody. */
+ * why nobody. On the standard error, as its log, it says more of why it rejected a login, which no peer may learn. */
 #define _POSIX_C_SOURCE 200112L
 #include "fe2o3_sasl.h"
 
@@ -181,6 +181,31 @@ static void hang_up(int channel)
     close(channel);
 }
 
+/* Logs why a login was rejected, by the header's name, or by the text of an error of a SCRAM message. A name without
+ * lines has mock records (fetch), so its reason is a wrong proof. */
+static void log_rejection(uint32_t rejection)
+{
+#define NAMED(number) {number, #number}
+    static const struct {
+        uint32_t number;
+        const char *name;
+    } known[] = {NAMED(FE2O3_REJECTION_MECHANISM_NOT_OFFERED), NAMED(FE2O3_REJECTION_NO_INITIAL_RESPONSE),
+        NAMED(FE2O3_REJECTION_INVALID_MESSAGE), NAMED(FE2O3_REJECTION_CHANNEL), NAMED(FE2O3_REJECTION_UNKNOWN_USER),
+        NAMED(FE2O3_REJECTION_NO_RECORD_FOR_HASH), NAMED(FE2O3_REJECTION_NO_RIGHT), NAMED(FE2O3_REJECTION_WRONG_PROOF),
+        NAMED(FE2O3_REJECTION_WRONG_PASSWORD), NAMED(FE2O3_REJECTION_OTHER_IDENTITY),
+        NAMED(FE2O3_REJECTION_UNEXPECTED_INIT), NAMED(FE2O3_REJECTION_UNEXPECTED_RESPONSE),
+        NAMED(FE2O3_REJECTION_OTHER)};
+    struct fe2o3_text text = FE2O3_TEXT_INIT;
+    const char *reason;
+    size_t i;
+    fe2o3_status_text(rejection, &text);
+    reason = (const char *)text.bytes;
+    for (i = 0; i < sizeof known / sizeof *known; i++)
+        if (known[i].number == rejection)
+            reason = known[i].name;
+    fprintf(stderr, "rejected: %s\n", reason);
+}
+
 static void told(int64_t answer, const struct fe2o3_sasl_server *server)
 {
     struct fe2o3_text text = FE2O3_TEXT_INIT;
@@ -195,6 +220,8 @@ static void told(int64_t answer, const struct fe2o3_sasl_server *server)
     } else if (answer < 0) {
         puts("no connection");
     } else {
+        if (answer == FE2O3_OK && server->connection.why == FE2O3_REFUSED_AUTH)
+            log_rejection(server->scram.rejection);
         fe2o3_status_text(answer == FE2O3_OK ? server->connection.why : (uint32_t)answer, &text);
         printf("not logged in: %s\n", (const char *)text.bytes);
     }

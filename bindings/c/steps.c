@@ -95,12 +95,21 @@ static int spells(const struct body *body, const uint8_t *bytes, size_t len)
 static int names(const struct fe2o3_scram_server *server, const uint8_t *name, size_t len)
 {
     struct body user;
-    return fe2o3_scram_server_authenticated_user(server, ROOM(user)) == FE2O3_OK && spells(&user, name, len);
+    return fe2o3_scram_server_authenticated_user(server, ROOM(user)) == FE2O3_OK && spells(&user, name, len)
+        && server->rejection == FE2O3_REJECTION_NONE;
 }
 
 static int names_no_user(const struct fe2o3_scram_server *server)
 {
     return memcmp(server, &fresh_server, sizeof fresh_server) == 0;
+}
+
+/* Whether a server has rejected the last body for this reason, and keeps nothing else. */
+static int rejects(const struct fe2o3_scram_server *server, uint32_t reason)
+{
+    struct fe2o3_scram_server rest = *server;
+    rest.rejection = FE2O3_REJECTION_NONE;
+    return server->rejection == reason && names_no_user(&rest);
 }
 
 /* A login of this mechanism, of SCRAM by the hash of this version. */
@@ -170,12 +179,14 @@ static uint32_t run(struct exchange *one, const struct fe2o3_sasl_login *login, 
     return number;
 }
 
-/* Whether a login ends so on both sides, and nothing is sent behind the outcome. */
+/* Whether a login ends so on both sides, nothing is sent behind the outcome, and the server has a reason if it rejects
+ * the login. */
 static int ends(const struct fe2o3_sasl_login *login, const struct fe2o3_sasl_server_config *config, uint32_t progress,
     struct exchange *one)
 {
     return run(one, login, config) == FE2O3_OK && one->client_progress == progress && one->server_progress == progress
-        && one->count < 6 && one->sent[one->count].len == 0;
+        && one->count < 6 && one->sent[one->count].len == 0
+        && (one->server.rejection == FE2O3_REJECTION_NONE) == (progress == FE2O3_AUTHENTICATED);
 }
 
 /* An init without its initial response, and the response that is its initial response. */
@@ -194,9 +205,11 @@ static void withhold(const struct body *init, struct body *late, struct body *re
     response->len = sizeof head + message;
 }
 
-/* Whether a login ends so on both sides if the client withholds its initial response until the server asks for it. */
-static int ends_late(const struct fe2o3_sasl_login *login, struct fe2o3_sasl_server_config config, uint32_t progress)
+/* Whether a login ends on both sides, rejected for this reason or without one complete, if the client withholds its
+ * initial response until the server asks for it. */
+static int ends_late(const struct fe2o3_sasl_login *login, struct fe2o3_sasl_server_config config, uint32_t reason)
 {
+    uint32_t progress = reason == FE2O3_REJECTION_NONE ? FE2O3_AUTHENTICATED : FE2O3_REFUSED_AUTH;
     struct exchange one;
     struct body init, late, body, asks;
     uint32_t number = FE2O3_OK;
@@ -215,7 +228,8 @@ static int ends_late(const struct fe2o3_sasl_login *login, struct fe2o3_sasl_ser
             ? served(&one, &config, &came, &body)
             : fe2o3_sasl_client_step(login, &one.client, GIVEN(came), client_nonce, &one.client_progress, ROOM(body));
     }
-    return number == FE2O3_OK && one.client_progress == progress && one.server_progress == progress;
+    return number == FE2O3_OK && one.client_progress == progress && one.server_progress == progress
+        && one.server.rejection == reason;
 }
 
 /* Each side with a room that is a byte too small, at a body that would bring it further. */
@@ -274,17 +288,19 @@ static void by_scram(const char *mechanism, uint32_t version)
             && memcmp(&keys, &made, sizeof keys) == 0);
     stranger.login.password_len--;
     told(mechanism, "a wrong password",
-        ends(&stranger, &config, FE2O3_REFUSED_AUTH, &one) && names_no_user(&one.server)
+        ends(&stranger, &config, FE2O3_REFUSED_AUTH, &one) && rejects(&one.server, FE2O3_REJECTION_WRONG_PROOF)
             && spells(&one.sent[4], TEXT(BARE_AUTH)) && fe2o3_scram_client_get_keys(&one.client, &keys) != FE2O3_OK);
     stranger = login;
     stranger.login.username_len--;
     told(mechanism, "an unknown user",
-        ends(&stranger, &config, FE2O3_REFUSED_AUTH, &one) && names_no_user(&one.server));
-    told(mechanism, "a login without an initial response", ends_late(&login, config, FE2O3_AUTHENTICATED));
-    told(mechanism, "an unknown user without an initial response", ends_late(&stranger, config, FE2O3_REFUSED_AUTH));
+        ends(&stranger, &config, FE2O3_REFUSED_AUTH, &one) && rejects(&one.server, FE2O3_REJECTION_UNKNOWN_USER));
+    told(mechanism, "a login without an initial response", ends_late(&login, config, FE2O3_REJECTION_NONE));
+    told(mechanism, "an unknown user without an initial response",
+        ends_late(&stranger, config, FE2O3_REJECTION_UNKNOWN_USER));
     stranger = login;
     stranger.login.password_len--;
-    told(mechanism, "a wrong password without an initial response", ends_late(&stranger, config, FE2O3_REFUSED_AUTH));
+    told(mechanism, "a wrong password without an initial response",
+        ends_late(&stranger, config, FE2O3_REJECTION_WRONG_PROOF));
     other.server_key[0] ^= 1;
     told(mechanism, "a server without the verifier is not believed",
         run(&one, &login, &without_verifier) == FE2O3_CLIENT_SERVER_SIGNATURE_MISMATCH && one.count == 5
@@ -314,17 +330,20 @@ static void by_several(void)
     told("several hashes", "a login with SCRAM-SHA-256",
         ends(&usual, &config, FE2O3_AUTHENTICATED, &one) && names(&one.server, TEXT("user")));
     told("several hashes", "a hash without a record",
-        ends(&weak, &config, FE2O3_REFUSED_AUTH, &one) && names_no_user(&one.server));
+        ends(&weak, &config, FE2O3_REFUSED_AUTH, &one) && rejects(&one.server, FE2O3_REJECTION_NO_RECORD_FOR_HASH));
     told("several hashes", "PLAIN", ends(&plain, &config, FE2O3_AUTHENTICATED, &one));
     told("several hashes", "the struct keeps the hash of the challenge",
         fe2o3_sasl_server_step(&config, &server, TEXT(INIT), server_nonce, &progress, ROOM(out)) == FE2O3_OK
-            && spells(&out, TEXT(CHALLENGE)) && server.version == FE2O3_SHA_256);
+            && spells(&out, TEXT(CHALLENGE)) && server.version == FE2O3_SHA_256
+            && server.rejection == FE2O3_REJECTION_NONE);
     server.version = 3;
     told("several hashes", "no challenge is open with another number",
         fe2o3_sasl_server_step(&config, &server, TEXT(RESPONSE), server_nonce, &progress, ROOM(out)) == FE2O3_OK
-            && progress == FE2O3_REFUSED_AUTH && spells(&out, TEXT(BARE_AUTH)));
+            && progress == FE2O3_REFUSED_AUTH && spells(&out, TEXT(BARE_AUTH))
+            && rejects(&server, FE2O3_REJECTION_UNEXPECTED_RESPONSE));
     config.records_count = 0;
-    told("several hashes", "no records", ends(&usual, &config, FE2O3_REFUSED_AUTH, &one));
+    told("several hashes", "no records",
+        ends(&usual, &config, FE2O3_REFUSED_AUTH, &one) && rejects(&one.server, FE2O3_REJECTION_UNKNOWN_USER));
 }
 
 /* Each body of a login, and the offer of one mechanism, byte for byte. */
@@ -359,7 +378,8 @@ static void without_peer(const struct fe2o3_sasl_login *external, struct fe2o3_s
     told("EXTERNAL", "an init without a peer",
         fe2o3_sasl_server_step(&config, &server, TEXT("\2\1\0\0\0\x53\x41\xc0\x12\3\xa3\10EXTERNAL\x40\xa1\4host"),
             server_nonce, &progress, ROOM(out)) == FE2O3_OK
-            && progress == FE2O3_REFUSED_AUTH && spells(&out, TEXT(BARE_AUTH)) && names_no_user(&server));
+            && progress == FE2O3_REFUSED_AUTH && spells(&out, TEXT(BARE_AUTH))
+            && rejects(&server, FE2O3_REJECTION_MECHANISM_NOT_OFFERED));
     config.mechanisms = FE2O3_OFFER_EXTERNAL;
     told("EXTERNAL", "nothing offered without a peer",
         fe2o3_sasl_server_offer(&config, ROOM(offer)) == FE2O3_NO_SUCH_MECHANISM);
@@ -379,10 +399,12 @@ static void by_others(void)
     told("PLAIN", "whom its init names",
         fe2o3_sasl_server_step_claimed_user(&fresh_server, GIVEN(one.sent[1]), ROOM(name)) == FE2O3_OK
             && spells(&name, TEXT("user")));
-    told("PLAIN", "a login without an initial response", ends_late(&plain, config, FE2O3_AUTHENTICATED));
+    told("PLAIN", "a login without an initial response", ends_late(&plain, config, FE2O3_REJECTION_NONE));
     plain.login.password_len--;
-    told("PLAIN", "a wrong password without an initial response", ends_late(&plain, config, FE2O3_REFUSED_AUTH));
-    told("PLAIN", "a wrong password", ends(&plain, &config, FE2O3_REFUSED_AUTH, &one) && names_no_user(&one.server));
+    told("PLAIN", "a wrong password without an initial response",
+        ends_late(&plain, config, FE2O3_REJECTION_WRONG_PASSWORD));
+    told("PLAIN", "a wrong password",
+        ends(&plain, &config, FE2O3_REFUSED_AUTH, &one) && rejects(&one.server, FE2O3_REJECTION_WRONG_PASSWORD));
     told("ANONYMOUS", "a login", ends(&anonymous, &config, FE2O3_AUTHENTICATED, &one) && names_no_user(&one.server)
             && spells(&one.sent[1], TEXT("\2\1\0\0\0\x53\x41\xc0\x13\3\xa3\11ANONYMOUS\x40\xa1\4host")));
     told("EXTERNAL", "a login", ends(&external, &config, FE2O3_AUTHENTICATED, &one) && names(&one.server, TEXT("peer"))
@@ -426,11 +448,13 @@ static void out_of_turn(void)
             == FE2O3_NO_SASL_FRAME && progress == 9);
     told("a server", "a response without a challenge is refused by an outcome",
         fe2o3_sasl_server_step(&config, &server, TEXT(RESPONSE), server_nonce, &progress, ROOM(out)) == FE2O3_OK
-            && progress == FE2O3_REFUSED_AUTH && spells(&out, TEXT(BARE_AUTH)) && names_no_user(&server));
+            && progress == FE2O3_REFUSED_AUTH && spells(&out, TEXT(BARE_AUTH))
+            && rejects(&server, FE2O3_REJECTION_UNEXPECTED_RESPONSE));
     config.mechanisms = FE2O3_OFFER_PLAIN;
     told("a server", "an init of a mechanism that it does not offer",
         fe2o3_sasl_server_step(&config, &server, TEXT(INIT), server_nonce, &progress, ROOM(out)) == FE2O3_OK
-            && progress == FE2O3_REFUSED_AUTH && spells(&out, TEXT(BARE_AUTH)) && names_no_user(&server));
+            && progress == FE2O3_REFUSED_AUTH && spells(&out, TEXT(BARE_AUTH))
+            && rejects(&server, FE2O3_REJECTION_MECHANISM_NOT_OFFERED));
 }
 
 /* A client that could bind a channel, at a server that takes it and at one that does not. */
@@ -443,7 +467,8 @@ static void cbind_flag_y(void)
     uint32_t progress = 9;
     told("SCRAM-SHA-256", "the header `y,,` is refused",
         fe2o3_sasl_server_step(&config, &server, TEXT(CBIND_FLAG_Y_INIT), server_nonce, &progress, ROOM(out)) == FE2O3_OK
-            && progress == FE2O3_REFUSED_AUTH && spells(&out, TEXT(BARE_AUTH)) && names_no_user(&server));
+            && progress == FE2O3_REFUSED_AUTH && spells(&out, TEXT(BARE_AUTH))
+            && rejects(&server, FE2O3_REJECTION_CHANNEL));
     config.mechanisms = FE2O3_OFFER_SCRAM_SHA_256 | FE2O3_ACCEPT_CBIND_FLAG_Y;
     told("SCRAM-SHA-256", "the header `y,,` is taken on wish",
         fe2o3_sasl_server_step(&config, &server, TEXT(CBIND_FLAG_Y_INIT), server_nonce, &progress, ROOM(out)) == FE2O3_OK
@@ -472,10 +497,12 @@ static void strict(void)
     server = fresh_server;
     told("SCRAM-SHA-256", "a strict server rejects it",
         fe2o3_sasl_server_step(&config, &server, TEXT(ATTRIBUTE_INIT), server_nonce, &progress, ROOM(out)) == FE2O3_OK
-            && progress == FE2O3_REFUSED_AUTH && spells(&out, TEXT(BARE_AUTH)) && names_no_user(&server));
+            && progress == FE2O3_REFUSED_AUTH && spells(&out, TEXT(BARE_AUTH))
+            && rejects(&server, FE2O3_SERVER_MISPLACED_ATTRIBUTE));
     told("SCRAM-SHA-256", "a strict server ignores an extension",
         fe2o3_sasl_server_step(&config, &server, TEXT(EXTENSION_INIT), server_nonce, &progress, ROOM(out)) == FE2O3_OK
-            && progress == FE2O3_IN_PROGRESS && spells(&out, TEXT(CHALLENGE)));
+            && progress == FE2O3_IN_PROGRESS && spells(&out, TEXT(CHALLENGE))
+            && server.rejection == FE2O3_REJECTION_NONE);
     config.mechanisms = FE2O3_STRICT;
     told("nothing", "offered, but to be strict",
         fe2o3_sasl_server_offer(&config, ROOM(out)) == FE2O3_NO_SUCH_MECHANISM);
@@ -495,7 +522,7 @@ static void signature_by_challenge(void)
             && spells(&out, TEXT(CHALLENGE))
             && fe2o3_sasl_server_step(&config, &server, TEXT(RESPONSE), server_nonce, &progress, ROOM(out)) == FE2O3_OK
             && progress == FE2O3_IN_PROGRESS && spells(&out, TEXT(SIGNED))
-            && server.state == FE2O3_SCRAM_SERVER_SIGNATURE_SENT
+            && server.state == FE2O3_SCRAM_SERVER_SIGNATURE_SENT && server.rejection == FE2O3_REJECTION_NONE
             && fe2o3_scram_server_authenticated_user(&server, ROOM(out)) == FE2O3_SERVER_ILLEGAL_AUTHENTICATOR_STATE);
     other = server;
     told("SCRAM-SHA-256", "the response to it names no user",
@@ -505,7 +532,8 @@ static void signature_by_challenge(void)
             && progress == FE2O3_AUTHENTICATED && spells(&out, TEXT(BARE_OK)) && names(&server, TEXT("user")));
     told("SCRAM-SHA-256", "any other response does not",
         fe2o3_sasl_server_step(&config, &other, TEXT(RESPONSE), server_nonce, &progress, ROOM(out)) == FE2O3_OK
-            && progress == FE2O3_REFUSED_AUTH && spells(&out, TEXT(BARE_AUTH)) && names_no_user(&other));
+            && progress == FE2O3_REFUSED_AUTH && spells(&out, TEXT(BARE_AUTH))
+            && rejects(&other, FE2O3_REJECTION_UNEXPECTED_RESPONSE));
 }
 
 /* A server that has asked for the initial response of SCRAM-SHA-256, with this hostname or without. */
@@ -532,7 +560,8 @@ static int answers(struct fe2o3_scram_server *server, const struct fe2o3_sasl_se
     struct body out;
     uint32_t progress = 9;
     return fe2o3_sasl_server_step(config, server, came, came_len, server_nonce, &progress, ROOM(out)) == FE2O3_OK
-        && progress == wanted && spells(&out, answer, answer_len);
+        && progress == wanted && spells(&out, answer, answer_len)
+        && (server->rejection == FE2O3_REJECTION_NONE) == (wanted != FE2O3_REFUSED_AUTH);
 }
 
 /* The end of a login whose initial response came in a response, at a server that was saved before it. */
@@ -561,15 +590,16 @@ static void after_an_empty_challenge(const struct fe2o3_sasl_server_config *conf
     told("SCRAM-SHA-256", "a second init after the empty challenge",
         fe2o3_sasl_server_step_claimed_user(&server, TEXT(LATE_INIT), ROOM(out)) == FE2O3_NAMES_NO_USER
             && answers(&server, config, TEXT(LATE_INIT), TEXT(BARE_AUTH), FE2O3_REFUSED_AUTH)
-            && names_no_user(&server));
+            && rejects(&server, FE2O3_REJECTION_UNEXPECTED_INIT));
     server = saved;
     told("SCRAM-SHA-256", "a second init with an initial response",
-        answers(&server, config, TEXT(INIT), TEXT(BARE_AUTH), FE2O3_REFUSED_AUTH) && names_no_user(&server));
+        answers(&server, config, TEXT(INIT), TEXT(BARE_AUTH), FE2O3_REFUSED_AUTH)
+            && rejects(&server, FE2O3_REJECTION_UNEXPECTED_INIT));
     server = saved;
     told("SCRAM-SHA-256", "an empty response to the empty challenge",
         fe2o3_sasl_server_step_claimed_user(&server, TEXT(EMPTY_RESPONSE), ROOM(out)) == FE2O3_NAMES_NO_USER
             && answers(&server, config, TEXT(EMPTY_RESPONSE), TEXT(BARE_AUTH), FE2O3_REFUSED_AUTH)
-            && names_no_user(&server));
+            && rejects(&server, FE2O3_SERVER_CANNOT_PARSE_GS2_HEADER));
 }
 
 /* A server that asks for the initial response of an init without one. */
@@ -580,7 +610,8 @@ static void initial_response_by_challenge(void)
     struct fe2o3_scram_server server = fresh_server, wanted = asked_with("host"), without_host = asked_with(NULL);
     struct body out;
     told("SCRAM-SHA-256", "no initial response, which is not asked for",
-        answers(&server, &config, TEXT(LATE_INIT), TEXT(BARE_AUTH), FE2O3_REFUSED_AUTH) && names_no_user(&server));
+        answers(&server, &config, TEXT(LATE_INIT), TEXT(BARE_AUTH), FE2O3_REFUSED_AUTH)
+            && rejects(&server, FE2O3_REJECTION_NO_INITIAL_RESPONSE));
     config.mechanisms |= FE2O3_INITIAL_RESPONSE_BY_CHALLENGE;
     told("SCRAM-SHA-256", "an init without an initial response",
         fe2o3_sasl_server_step_claimed_user(&server, TEXT(LATE_INIT), ROOM(out)) == FE2O3_NAMES_NO_USER
@@ -635,14 +666,18 @@ static void identities(const char *mechanism, uint32_t number)
     told(mechanism, "a user who may act for the identity",
         ends(&login, &config, FE2O3_AUTHENTICATED, &one) && names(&one.server, TEXT("user"))
             && acts_for(&one.server, TEXT("app,=x")));
-    told(mechanism, "the same without an initial response", ends_late(&login, config, FE2O3_AUTHENTICATED));
+    told(mechanism, "the same without an initial response", ends_late(&login, config, FE2O3_REJECTION_NONE));
     told(mechanism, "a user who acts for itself",
         ends(&itself, &config, FE2O3_AUTHENTICATED, &one) && acts_for(&one.server, FE2O3_NONE));
     told(mechanism, "a server that accepts no identities",
-        ends(&login, &no_identities, FE2O3_REFUSED_AUTH, &one) && names_no_user(&one.server));
+        ends(&login, &no_identities, FE2O3_REFUSED_AUTH, &one)
+            && rejects(&one.server, number == FE2O3_PLAIN ? FE2O3_REJECTION_INVALID_MESSAGE
+                                                          : FE2O3_SERVER_CANNOT_PARSE_GS2_HEADER));
     config.identities_len = sizeof "other" - 1;
     told(mechanism, "a user who may not act for it",
-        ends(&login, &config, FE2O3_REFUSED_AUTH, &one) && names_no_user(&one.server));
+        ends(&login, &config, FE2O3_REFUSED_AUTH, &one)
+            && rejects(&one.server,
+                number == FE2O3_PLAIN ? FE2O3_REJECTION_WRONG_PASSWORD : FE2O3_REJECTION_NO_RIGHT));
     memset(commas, ',', sizeof commas);
     login.login.acts_for = commas;
     login.login.acts_for_len = sizeof commas;
@@ -707,11 +742,14 @@ static void channels(const char *mechanism, uint32_t version)
     told(mechanism, "a client that binds the channel", ends(&login, &config, FE2O3_AUTHENTICATED, &one));
     told(mechanism, "one without a channel", ends(&unaware, &config, FE2O3_AUTHENTICATED, &one));
     login.login.channel_data[31]++;
-    told(mechanism, "other data of the channel", ends(&login, &config, FE2O3_REFUSED_AUTH, &one));
+    told(mechanism, "other data of the channel",
+        ends(&login, &config, FE2O3_REFUSED_AUTH, &one) && rejects(&one.server, FE2O3_REJECTION_CHANNEL));
     login.login.channel_kind = FE2O3_TLS_UNIQUE;
-    told(mechanism, "another kind of channel", ends(&login, &config, FE2O3_REFUSED_AUTH, &one));
+    told(mechanism, "another kind of channel",
+        ends(&login, &config, FE2O3_REFUSED_AUTH, &one) && rejects(&one.server, FE2O3_REJECTION_CHANNEL));
     login.login.channel_use = FE2O3_CHANNEL_NOT_OFFERED;
-    told(mechanism, "a client that has seen no -PLUS", ends(&login, &config, FE2O3_REFUSED_AUTH, &one));
+    told(mechanism, "a client that has seen no -PLUS",
+        ends(&login, &config, FE2O3_REFUSED_AUTH, &one) && rejects(&one.server, FE2O3_REJECTION_CHANNEL));
     config.channels.tls_exporter_len = 65;
     told(mechanism, "data of the channel that are too long",
         fe2o3_sasl_server_offer(&config, ROOM(offer)) == FE2O3_CHANNEL_DATA_LENGTH);

@@ -93,13 +93,15 @@ def by_peer(port, by, piece, late=False, unread=0):
 
 
 REFUSED = "not logged in: Connection: The login was rejected"
+#: What the log of server.c says of a wrong password.
+LOGGED = {"SCRAM-SHA-256": "rejected: FE2O3_REJECTION_WRONG_PROOF", "PLAIN": "rejected: FE2O3_REJECTION_WRONG_PASSWORD"}
 #: A name, a password, and what the server should say of them.
 WORDS = [*((name, word, f"logged in: {name}") for name, word in USERS.items()),
          ("user", "pencils", REFUSED), ("nobody", "pencil", REFUSED)]
 
 
 @contextlib.contextmanager
-def server_program(server, logins, *words):
+def server_program(server, logins, *words, log=None):
     """The program of server.c for that many logins, and its port."""
     lines = [
         name.replace("=", "=3D").replace(",", "=2C") + " " + Secret(SHA_256, word, b"a salt of bytes!", 4096).record_text()
@@ -108,7 +110,8 @@ def server_program(server, logins, *words):
     with tempfile.NamedTemporaryFile("w", suffix=".users") as file:
         file.write("".join(line + "\n" for line in lines))
         file.flush()
-        with subprocess.Popen([server, file.name, str(logins), *words], stdout=subprocess.PIPE, text=True) as program:
+        pipes = {"stdout": subprocess.PIPE, "stderr": log}
+        with subprocess.Popen([server, file.name, str(logins), *words], **pipes, text=True) as program:
             yield program, int(program.stdout.readline())
 
 
@@ -117,8 +120,8 @@ def peer_of(mechanism, name, word):
 
 
 def to_the_server(client, server):
-    """Logins to the program of server.c, each with what the server should say of it."""
-    with server_program(server, len(WORDS) * 8) as (program, port):
+    """Logins to the program of server.c, each with what the server should say of it, and at last what it should log."""
+    with server_program(server, len(WORDS) * 8, log=subprocess.PIPE) as (program, port):
         for name, word, wanted in WORDS:
             for mechanism in ("SCRAM-SHA-256", "PLAIN"):
                 done = subprocess.run(
@@ -135,6 +138,9 @@ def to_the_server(client, server):
                 logged_in = by_peer(port, peer_of(mechanism, name, word), 4096, unread=unread)
                 said = program.stdout.readline().strip()
                 yield f"{mechanism} with unread bytes, {name}", (logged_in, said), (wanted != REFUSED, wanted)
+        refused = [word for _, word, wanted in WORDS if wanted == REFUSED]
+        wanted = [LOGGED[mechanism] for _ in refused for mechanism in LOGGED for _ in range(4)]
+        yield "the log", (program.stderr.read().splitlines(),), (wanted,)
 
 
 def without_initial_response(server):

@@ -71,7 +71,7 @@ The client's side of a connection of AMQP 1.0, before its first frame of AMQP:
 The server's side, for the users of the file:
 
     side = ServerConnection(store.records, mechanisms=store.hashes(), mock=store.mock_settings(secret))
-    # the same loop; then the user is side.authenticated_user()
+    # the same loop; then the user is side.authenticated_user(), or side.rejection says for your log why there is none
 
 A client that selects the first of its allowed mechanisms that the server offers, here SCRAM with SHA-512 or SHA-256:
 
@@ -169,6 +169,7 @@ __all__ = [
     "RecordError",
     "RecordStore",
     "Refused",
+    "Rejection",
     "Server",
     "ServerConnection",
     "ServerError",
@@ -2334,6 +2335,8 @@ class LoginAttempt(NamedTuple):
 
 #: The kind of an init.
 _INIT = 0x41
+#: The reasons by their numbers.
+_REJECTIONS = {int(one): one for one in Rejection}
 
 
 class _Login(_Guarded):
@@ -2725,8 +2728,8 @@ class _ServerSide(_Login):
     """A server's login: what it offers, and its records."""
 
     __slots__ = (
-        "_attempt", "_channels", "_external_authcid", "_identities_of", "_iterations", "_mechanisms", "_mock", "_records_of",
-        "_struct",
+        "_attempt", "_channels", "_external_authcid", "_identities_of", "_iterations", "_mechanisms", "_mock",
+        "_mock_rejection", "_records_of", "_struct",
     )
 
     def __init__(
@@ -2782,6 +2785,8 @@ class _ServerSide(_Login):
         self._channels = _channels_of(channels)
         self._attempt: Optional[LoginAttempt] = None
         self._mock = None if mock is None else _Mock(mock)
+        # Why the last call rejects a login whose record is a mock record; None if it is not.
+        self._mock_rejection: Optional[Rejection] = None
         self._lock = _Guard(self)
 
     def _fresh(self) -> Any:
@@ -2807,7 +2812,12 @@ class _ServerSide(_Login):
             found = () if name is None else self._records_of(name)
             copies = [stack.enter_context(record._lending()) for record in found]
             if self._mock is not None and name is not None:
-                for hash in self._lacked(copies):
+                lacked, reason = self._lacked(copies), Rejection.UNKNOWN_USER
+                if copies:
+                    reason = Rejection.NO_RECORD_FOR_HASH
+                # (the struct has the hash of the open challenge until the call rejects the login)
+                self._mock_rejection = reason if self._scram().version in lacked else None
+                for hash in lacked:
                     copies.append(self._mock.record(hash, known))
                     stack.callback(_wipe, copies[-1])
             records = (_ScramRecordStruct * len(copies))(*copies)
@@ -2845,6 +2855,20 @@ class _ServerSide(_Login):
         authenticated by it (`authenticated_user`)."""
         self._alive()
         return self._attempt
+
+    @property
+    def rejection(self) -> Optional[Rejection]:
+        """Why the login was rejected by the outcome Auth, for your log only. None otherwise.
+
+        Also with `mock`, SCRAM has other reasons for an unknown user (UNKNOWN_USER) and for one without a record for
+        the hash (NO_RECORD_FOR_HASH) than for a wrong password (WRONG_PROOF). PLAIN has one for all of them,
+        WRONG_PASSWORD."""
+        with self._lock:
+            number = int(self._scram().rejection)
+            if self._mock_rejection is not None and number in (Rejection.WRONG_PROOF, Rejection.NO_RIGHT):
+                return self._mock_rejection
+            # (a later library can have more reasons)
+            return _REJECTIONS.get(number, Rejection.OTHER) if number else None
 
     def _claims(self, body: bytes, name: Optional[str]) -> None:
         """Stores what a frame claims: an init, or a response that is the initial response. The name is the user."""

@@ -13,7 +13,7 @@ A server, in the callback of `asyncio.start_server`, for the users in a file (`R
         try:
             rest = await serve(reader, writer, side)
         except (Refused, OSError, asyncio.TimeoutError) as why:
-            log(why, side.last_attempt())
+            log(why, side.rejection, side.last_attempt())
             ...                                         # close
         name = side.authenticated_user()
 

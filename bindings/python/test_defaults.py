@@ -1,5 +1,5 @@
 """Tries what README's server is set to: its code as printed, over a file as `scram users add` makes it, the answers by
-which unknown users look like known ones, and the nonces of connections."""
+which unknown users look like known ones, why a login was rejected, and the nonces of connections."""
 
 from __future__ import annotations
 
@@ -15,9 +15,11 @@ from typing import Any, Callable, Iterator, Optional
 from unittest import mock
 
 import fe2o3_sasl
-from fe2o3_sasl import DEFAULT_ITERATIONS, DEFAULT_SALT_LENGTH, Client, ClientConnection, ClientSteps, Offer, Progress
-from fe2o3_sasl import Record, RecordError, RecordStore, Refused, ServerConnection, ServerSteps, Status, UnknownUser, Wiped
-from peers import MECHANISMS, SHA_1, SHA_256, SHA_512, Login, Plain, Secret, Side, base64_of, fields_of, framed, mac
+from fe2o3_sasl import DEFAULT_ITERATIONS, DEFAULT_SALT_LENGTH, Channel, ChannelKind, Client, ClientConnection
+from fe2o3_sasl import ClientSteps, Offer, Progress, Record, RecordError, RecordStore, Refused, Rejection
+from fe2o3_sasl import ServerConnection, ServerSteps, Status, UnknownUser, Wiped
+from peers import INIT, MECHANISMS, OUTCOME, SASL_HEADER, SHA_1, SHA_256, SHA_512, Login, Other, Plain, Secret, Side
+from peers import base64_of, fields_of, frame_of, framed, mac, short
 
 README = Path(__file__).resolve().parents[2] / "README.md"
 LIBRARY: Any = fe2o3_sasl._library
@@ -285,6 +287,91 @@ class MockRecords(unittest.TestCase):
         self.assertEqual((DEFAULT_SALT_LENGTH, DEFAULT_ITERATIONS), (16, 4096))
         for record in (Record.make(SHA_256, "pencil"), Record.mock(SHA_256, SECRET, "user")):
             self.assertEqual((len(record.salt), record.iterations), (16, 4096))
+
+
+class Rejections(unittest.TestCase):
+    """Why a login was rejected, for the log of the server."""
+
+    def setUp(self) -> None:
+        self.store = RecordStore(added("one", hashes=(SHA_256,)) + added("all"))
+
+    def ended(self, by: Side, **options: Any) -> Optional[Rejection]:
+        """Why servers of both kinds reject a login, or None. The client receives the same outcome for each reason."""
+        options["mechanisms"] = BOTH | Offer.PLAIN | Offer.EXTERNAL | options.get("mechanisms", 0)
+        connection, steps = (kind(self.store.records, **options) for kind in (ServerConnection, ServerSteps))
+        outcomes = [answers(connection, by)[-1]]
+        by.begin(ask=True)
+        body = steps.offer()
+        while sent := by.frame(body[6], framed(body[4:])):
+            self.assertIsNone(steps.rejection)
+            body = steps.on_frame(sent[4:])
+        outcomes.append(framed(body[4:]))
+        self.assertIs(connection.rejection, steps.rejection)
+        self.assertEqual(by.logged_in, connection.rejection is None)
+        for side, outcome in zip((connection, steps), outcomes):
+            self.assertEqual(side.progress, Progress.AUTHENTICATED if by.logged_in else Progress.FAILED)
+            if not by.logged_in:
+                self.assertEqual(outcome, frame_of(OUTCOME, b"\x50\1"))
+        return connection.rejection
+
+    def test_each_reason(self) -> None:
+        as_bob = b"n,a=bob,"
+        bob: Any = {"identities_of": lambda name: ["bob"] if name == "all" else []}
+        carol: Any = {"identities_of": lambda name: ["carol"]}
+        bound: Any = {"channels": [Channel(ChannelKind.TLS_EXPORTER, b"own")]}
+        binds = b"p=tls-exporter,,"
+        rows: list[tuple[Side, dict[str, Any], Optional[Rejection]]] = [
+            (Login(SHA_256, "all", "pencil"), {}, None),
+            (Login(SHA_512, "all", "pencil", as_bob), bob, None),
+            (Login(SHA_256, "all", "pencil", binds, b"own"), bound, None),
+            (Plain("one", "pencil"), {}, None),
+            (Login(SHA_256, "all", "wrong"), {}, Rejection.WRONG_PROOF),
+            (Login(SHA_512, "all", "wrong", as_bob), bob, Rejection.WRONG_PROOF),
+            (Login(SHA_512, "one", "pencil"), {}, Rejection.NO_RECORD_FOR_HASH),
+            (Login(SHA_512, "one", "pencil", as_bob), bob, Rejection.NO_RECORD_FOR_HASH),
+            (Login(SHA_256, "nobody", "pencil"), {}, Rejection.UNKNOWN_USER),
+            (Login(SHA_512, "nobody", "pencil", as_bob), bob, Rejection.UNKNOWN_USER),
+            (Login(SHA_256, "one", "pencil", as_bob), bob, Rejection.NO_RIGHT),
+            (Login(SHA_256, "all", "wrong", as_bob), carol, Rejection.NO_RIGHT),
+            (Login(SHA_256, "all", "pencil", binds, b"other"), bound, Rejection.CHANNEL),
+            (Login(SHA_256, "nobody", "pencil", b"y,,"), {}, Rejection.CHANNEL),
+            (Plain("all", "wrong"), {}, Rejection.WRONG_PASSWORD),
+            (Plain("nobody", "pencil"), {}, Rejection.WRONG_PASSWORD),
+            (Other("PLAIN", b"pencil"), {}, Rejection.INVALID_MESSAGE),
+            (Other("PLAIN"), {}, Rejection.NO_INITIAL_RESPONSE),
+            (Other("EXTERNAL", b"other"), {"external_authcid": "peer"}, Rejection.OTHER_IDENTITY),
+            (Login(SHA_1, "all", "pencil"), {}, Rejection.MECHANISM_NOT_OFFERED),
+            (Other("SCRAM-SHA-256", b"n,,n=all,r=nonce,i=4096"), {"mechanisms": Offer.REJECT_MISPLACED},
+             Rejection.SERVER_MISPLACED_ATTRIBUTE),
+            (Other("SCRAM-SHA-256", b"all"), {}, Rejection.SERVER_CANNOT_PARSE_GS2_HEADER),
+        ]
+        for by, options, reason in rows:
+            for more in ({}, {"mock": SECRET}):
+                with self.subTest(mechanism=by.mechanism, reason=reason, **more):
+                    self.assertIs(self.ended(by, **options, **more), reason)
+
+    def test_a_fault_of_the_message_comes_before_a_mock_record(self) -> None:
+        by = Login(SHA_512, "nobody", "pencil", b"p=tls-exporter,,", b"other")
+        bound = [Channel(ChannelKind.TLS_EXPORTER, b"own")]
+        self.assertIs(self.ended(by, channels=bound, mock=SECRET), Rejection.CHANNEL)
+        by = Login(SHA_512, "one", "pencil")
+        with mock.patch.object(by, "answer", lambda challenge: b"c=biws,r=other,p=AAAA"):
+            self.assertIs(self.ended(by, mock=SECRET), Rejection.SERVER_INCORRECT_CLIENT_FINAL_NONCE)
+
+    def test_other_failures_have_none(self) -> None:
+        side = ServerConnection(self.store.records, mock=SECRET)
+        init = frame_of(INIT, short(0xA3, b"SCRAM-SHA-256"), short(0xA0, b"n,,n=nobody,r=nonce"))
+        side.receive(SASL_HEADER + init)
+        self.assertEqual((side.progress, side.rejection), (Progress.IN_PROGRESS, None))
+        side.receive(init)
+        self.assertEqual((side.progress, side.rejection), (Progress.FAILED, None))
+        side.wipe()
+        self.assertRaises(Wiped, lambda: side.rejection)
+
+    def test_a_reason_of_a_later_library(self) -> None:
+        side = ServerSteps(self.store.records)
+        side._struct.rejection = 4_000_000_000
+        self.assertIs(side.rejection, Rejection.OTHER)
 
 
 class Stores(unittest.TestCase):

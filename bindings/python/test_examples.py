@@ -193,10 +193,11 @@ class Broker(unittest.IsolatedAsyncioTestCase):
             for name, password in (("user", "pencils"), ("nobody", "pencil"), ("a,b=c", "pencil")):
                 self.assertIn(refused, await self.log_in(port, name, password))
             self.assertEqual(await self.log_in(port, "user", ""), "no mechanism is allowed")
-        by = "('SCRAM-SHA-512', user {!r}, host '127.0.0.1')"
-        self.assertEqual(self.told(), [f"logged in: {name!r} " + by.format(name) for name in ("user", "a,b=c")]
-                         + [f"not logged in: {refused}, 1 of {name!r} " + by.format(name)
-                            for name in ("user", "nobody", "a,b=c")] + [f"not logged in: {ENDED}"])
+        by = "('SCRAM-SHA-512', user {!r}, host '127.0.0.1'{})"
+        reasons = {"user": ", WRONG_PROOF", "nobody": ", UNKNOWN_USER", "a,b=c": ", WRONG_PROOF"}
+        self.assertEqual(self.told(), [f"logged in: {name!r} " + by.format(name, "") for name in ("user", "a,b=c")]
+                         + [f"not logged in: {refused}, 1 of {name!r} " + by.format(name, reason)
+                            for name, reason in reasons.items()] + [f"not logged in: {ENDED}"])
 
     async def test_each_hash(self) -> None:
         async with self.running() as port:
@@ -225,6 +226,7 @@ class Broker(unittest.IsolatedAsyncioTestCase):
                 await self.log_in(port, "user", "pencils")
             self.assertIn("rejected", await self.log_in(port, "user", "pencil"))
             self.assertIn("not logged in: Connection: The login was rejected, 5 of 'user' (", self.told()[-1])
+            self.assertTrue(self.told()[-1].endswith(", UNKNOWN_USER)"))
             await asyncio.sleep(1.1)
             self.assertEqual(await self.log_in(port, "user", "pencil"), "SCRAM-SHA-512")
 

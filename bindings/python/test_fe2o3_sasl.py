@@ -28,7 +28,7 @@ import fe2o3_sasl
 from examples.login import log_in, serve
 from fe2o3_sasl import SHA_1, SHA_256, SHA_512, Client, ClientConnection, Keys, Record, Refused, Server, Progress, Status
 from fe2o3_sasl import ClientSteps, Offer, ServerConnection, ServerError, ServerSteps, server_error, server_error_message
-from fe2o3_sasl import AuthenticationFailed, Channel, ChannelKind, RecordStore, offers
+from fe2o3_sasl import AuthenticationFailed, Channel, ChannelKind, RecordStore, Rejection, offers
 from peers import (
     CHALLENGE,
     INIT,
@@ -1989,11 +1989,17 @@ class Steps(Case):
             self.assertEqual((side.progress, side.authenticated_user()), (Progress.AUTHENTICATED, "user"))
             self.assertEqual(names, ["user", "user"])
             with_message = body_of(INIT, short(0xA3, mechanism.encode()), short(0xA0, b"n,," + bare), NULL)
-            for body in (init, with_message, body_of(RESPONSE, short(0xA0, b"")), body_of(RESPONSE, short(0xA0, bare))):
+            header = Rejection.SERVER_CANNOT_PARSE_GS2_HEADER
+            for body, reason in (
+                (init, Rejection.UNEXPECTED_INIT),
+                (with_message, Rejection.UNEXPECTED_INIT),
+                (body_of(RESPONSE, short(0xA0, b"")), header),
+                (body_of(RESPONSE, short(0xA0, bare)), header),
+            ):
                 side = server(bytes(saved))
                 self.assertEqual(side.on_frame(body), refused)
                 self.closed(side, Status.REFUSED_AUTH)
-                self.assertEqual(bytes(side._struct), bytes(ctypes.sizeof(side._struct)))
+                self.assertEqual(bytes(side._struct), bytes(fe2o3_sasl._ScramServerStruct(rejection=reason)))
 
     def test_clients_that_withhold_their_initial_response(self) -> None:
         for version in VERSIONS:
@@ -2106,7 +2112,9 @@ class Steps(Case):
                         else:
                             self.closed(side, Status.REFUSED_AUTH)
                             self.refused(Status.SERVER_ILLEGAL_AUTHENTICATOR_STATE, side.authenticated_user)
-                            self.assertEqual(bytes(side._struct), bytes(ctypes.sizeof(side._struct)))
+                            reason = Rejection.WRONG_PROOF if isinstance(by, Login) else Rejection.WRONG_PASSWORD
+                            ended = fe2o3_sasl._ScramServerStruct(rejection=reason)
+                            self.assertEqual(bytes(side._struct), bytes(ended))
                         self.refused(Status.ENDED, side.on_frame, body_of(INIT, short(0xA3, b"PLAIN")))
 
     def test_whom_a_server_asks_for(self) -> None:
@@ -2179,8 +2187,10 @@ class Steps(Case):
             self.assertEqual(side.progress, Progress.IN_PROGRESS)
             self.assertEqual(bytes(side._struct), bytes(ctypes.sizeof(side._struct)))
         # A response without a challenge is refused by the outcome, not by the call.
+        self.assertIsNone(side.rejection)
         self.assertEqual(side.on_frame(body_of(RESPONSE, short(0xA0, b"c=biws"))), body_of(OUTCOME, b"\x50\1"))
         self.closed(side, Status.REFUSED_AUTH)
+        self.assertIs(side.rejection, Rejection.UNEXPECTED_RESPONSE)
 
     def test_structs_of_random_bytes(self) -> None:
         """Of whatever bits the structs are, a step is done or refused, and refused it has changed nothing."""

@@ -32,6 +32,7 @@ from fe2o3_sasl import (
     ProtocolError,
     Record,
     Refused,
+    Rejection,
     ServerConnection,
     ServerNotAuthenticated,
     Status,
@@ -201,12 +202,16 @@ class Logins(Case):
 
 class Rejections(Case):
     async def test_a_wrong_password(self) -> None:
-        for make in (lambda: client("pencils"), lambda: ClientConnection.plain("user", "pencils")):
+        for make, reason in (
+            (lambda: client("pencils"), Rejection.WRONG_PROOF),
+            (lambda: ClientConnection.plain("user", "pencils"), Rejection.WRONG_PASSWORD),
+        ):
             near, far = make(), ServerConnection(records_of, mechanisms=Offer.SCRAM_SHA_256 | Offer.PLAIN)
             for why, side in zip(await self.joined(by(log_in, near), by(serve, far)), (near, far)):
                 self.assertIsInstance(why, CredentialsRejected)
                 self.assertIsInstance(why, AuthenticationFailed)
                 self.assertEqual((why.status, side.why.status), (Status.REFUSED_AUTH,) * 2)
+            self.assertIs(far.rejection, reason)
             self.assertRaises(Refused, far.authenticated_user)
 
     async def test_a_server_that_is_not_authenticated(self) -> None:

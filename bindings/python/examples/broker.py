@@ -5,7 +5,7 @@
 USERS has a line for each user and hash, as `scram users add` writes them. The broker offers the hashes for which every
 user has a record. `USERS.secret` is made at the first start. It has the secret of mock records. AUTHORITY issues the
 certificates of clients, which need none. Prints the port and a line for each login: how it ended, the mechanism, the
-claimed user and the hostname. Then it closes the connection, since it speaks no AMQP.
+claimed user, the hostname, and why a login was rejected. Then it closes the connection, since it speaks no AMQP.
 """
 
 from __future__ import annotations
@@ -52,7 +52,8 @@ class Broker:
         return ServerConnection(self.records_of, mechanisms=mechanisms, mock=self.mock, external_authcid=identity)
 
     def records_of(self, name: str) -> list[Record]:
-        """Returns the records of a user; none for an unknown name or a locked one. Both get mock records."""
+        """Returns the records of a user; none for an unknown name or a locked one. Both get mock records, and both are
+        logged as UNKNOWN_USER."""
         return self.store.records(name) if self.refused(name) < REFUSALS else []
 
     def refused(self, name: str) -> int:
@@ -82,7 +83,7 @@ class Broker:
             self.connections -= 1
 
     async def login(self, reader: asyncio.StreamReader, writer: asyncio.StreamWriter) -> str:
-        """Serves a login, and returns how it ended, and what its last init claimed."""
+        """Serves a login, and returns how it ended, what its last init claimed, and why it was rejected."""
         identity = certified_name(writer)
         with self.side(identity) as side:
             try:
@@ -99,10 +100,12 @@ class Broker:
 
 
 def claims(side: ServerConnection) -> str:
-    """Returns what the last init claimed, if there was one. Names are quoted, since they may hold line feeds."""
+    """Returns what the last init claimed, if there was one, and why the login was rejected, if it was. Names are
+    quoted, since they may hold line feeds."""
     if (attempt := side.last_attempt()) is None:
         return ""
-    return f" ({attempt.mechanism!r}, user {attempt.claimed_user!r}, host {attempt.hostname!r})"
+    reason = "" if side.rejection is None else f", {side.rejection.name}"
+    return f" ({attempt.mechanism!r}, user {attempt.claimed_user!r}, host {attempt.hostname!r}{reason})"
 
 
 def certified_name(writer: asyncio.StreamWriter) -> str:

@@ -1,6 +1,6 @@
 //! Serves logins over TCP on the loopback, and closes each connection after its login: `server PORT USERS`. USERS has a line
 //! for each user and hash, as `scram users add` writes them. `USERS.secret`, which is made at the first start, has the secret
-//! of mock records. The program prints the port, which is a free one for 0, and how each login ended.
+//! of mock records. The program prints the port, which is a free one for 0, and how each login ended, or why it was rejected.
 
 use fe2o3_sasl_proved::io::{serve, LoginError, Served};
 use fe2o3_sasl_proved::*;
@@ -76,7 +76,10 @@ pub fn listen(listener: &TcpListener, server: &PasswordServer<RecordStore>) -> i
         thread::spawn(move || {
             match serve(Until(&socket, Instant::now() + LOGIN), &mut side) {
                 Ok(Served { user, .. }) => println!("logged in: {user:?}"),
-                Err(why) => println!("not logged in: {}", with_causes(&why)),
+                Err(why) => {
+                    let reason = side.rejection().map(|reason| format!(": {reason}")).unwrap_or_default();
+                    println!("not logged in: {}{reason}", with_causes(&why));
+                }
             }
             hang_up(socket);
         });

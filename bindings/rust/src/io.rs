@@ -134,7 +134,8 @@ pub fn log_in(mut stream: impl Read + Write, side: &mut ClientNegotiation) -> Re
 /// received after the login.
 ///
 /// Pass a negotiation that has not begun. It keeps more about the login, also after an error:
-/// [`last_attempt`](ServerNegotiation::last_attempt), [`foreign_header`](ServerNegotiation::foreign_header).
+/// [`last_attempt`](ServerNegotiation::last_attempt), [`rejection`](ServerNegotiation::rejection),
+/// [`foreign_header`](ServerNegotiation::foreign_header).
 ///
 /// # Errors
 ///

@@ -18,6 +18,7 @@ pub(crate) const NO_CHALLENGE: sys::ScramServer = sys::ScramServer {
     nonce_len: 0,
     first_len: 0,
     acts_for_len: 0,
+    rejection: sys::REJECTION_NONE,
     user: [0; 256],
     bare: [0; 1024],
     nonce: [0; 512],

@@ -9,7 +9,8 @@ use crate::peeks::{end_of_input, foreign_header, peek_body, wants_nonce};
 use crate::records::ScramRecord;
 use crate::server::{acts_for, authenticated_user, joined, MockSettings, NO_CHALLENGE};
 use crate::{
-    generate_nonce, sys, Channel, ConnectionError, Frame, LoginAttempt, ScramVersion, DEFAULT_SCRAM_ITERATIONS,
+    generate_nonce, sys, Channel, ConnectionError, Frame, LoginAttempt, Rejection, ScramVersion,
+    DEFAULT_SCRAM_ITERATIONS,
 };
 use std::collections::HashMap;
 use std::fmt;
@@ -115,6 +116,22 @@ pub struct PasswordServer<R: UserRecords + Clone> {
     accept_authzid: u32,
 }
 
+/// The records of a name: those of the store, and after them mock records.
+#[derive(Default)]
+pub(crate) struct FoundRecords {
+    pub(crate) all: Vec<sys::ScramRecord>,
+    own: usize,
+}
+
+impl FoundRecords {
+    /// Returns why a login by the hash of this number is rejected, if the record for it is a mock record.
+    pub(crate) fn mock_rejection(&self, version: u32) -> Option<Rejection> {
+        let (own, mocks) = self.all.split_at(self.own);
+        let reason = if own.is_empty() { Rejection::UnknownUser } else { Rejection::NoRecordForHash };
+        mocks.iter().any(|record| record.version == version).then_some(reason)
+    }
+}
+
 /// A configuration for the library, whose pointers point to what is borrowed for `'a`.
 pub(crate) struct LentConfig<'a> {
     pub(crate) config: sys::SaslServerConfig,
@@ -157,6 +174,8 @@ impl<R: UserRecords + Clone> PasswordServer<R> {
     ///
     /// PLAIN hashes the password of an unknown user by the first mock record: that of SHA-256, or otherwise that of
     /// SHA-512. Let the records of each user begin with that hash too.
+    ///
+    /// For the server's own log, [`ServerNegotiation::rejection`] says whether the user is unknown.
     pub fn mock_unknown_users(mut self, secret: [u8; 32], salt_len: usize, iterations: u32) -> Self {
         self.mock = Some(MockSettings { secret, salt_len, iterations });
         self
@@ -237,10 +256,11 @@ impl<R: UserRecords + Clone> PasswordServer<R> {
     }
 
     /// Returns the records of the claimed user, and after them a mock record for each other offered hash.
-    pub(crate) fn records(&self, name: Option<&str>) -> Result<Vec<sys::ScramRecord>, ConnectionError> {
-        let Some(name) = name else { return Ok(Vec::new()) };
+    pub(crate) fn records(&self, name: Option<&str>) -> Result<FoundRecords, ConnectionError> {
+        let Some(name) = name else { return Ok(FoundRecords::default()) };
         let mut records = self.records.records(name);
-        let Some(mock) = &self.mock else { return Ok(structs(&records)) };
+        let own = records.len();
+        let Some(mock) = &self.mock else { return Ok(FoundRecords { all: structs(&records), own }) };
         for version in HASHES {
             let is_offered = self.mechanisms & offer_of(version) != 0;
             if is_offered && records.iter().all(|record| record.version() != version) {
@@ -248,7 +268,7 @@ impl<R: UserRecords + Clone> PasswordServer<R> {
                 records.push(record.map_err(|why| ConnectionError::of(why.number()))?);
             }
         }
-        Ok(structs(&records))
+        Ok(FoundRecords { all: structs(&records), own })
     }
 
     /// Returns the identities that the claimed user may act for, joined; none if the server accepts no identity.
@@ -322,13 +342,14 @@ pub struct ServerNegotiation<R: UserRecords + Clone> {
     config: PasswordServer<R>,
     state: sys::SaslServer,
     attempt: Option<LoginAttempt>,
+    rejection: Option<Rejection>,
 }
 
 impl<R: UserRecords + Clone> ServerNegotiation<R> {
     /// Returns a new connection to this server.
     pub fn new(server: PasswordServer<R>) -> Self {
         let state = sys::SaslServer { connection: FRESH, scram: NO_CHALLENGE };
-        Self { config: server, state, attempt: None }
+        Self { config: server, state, attempt: None, rejection: None }
     }
 
     /// Sets whether the server accepts frames with an extended header, like
@@ -349,8 +370,10 @@ impl<R: UserRecords + Clone> ServerNegotiation<R> {
             let rest = &bytes[received.taken..];
             let name = self.named(rest)?;
             let records = self.config.records(name.as_deref())?;
+            let of_mock = records.mock_rejection(self.state.scram.version);
             let body = peek_body(&self.state.connection, rest)?;
-            let (taken, sent) = self.step(rest, name.as_deref(), &records)?;
+            let (taken, sent) = self.step(rest, name.as_deref(), &records.all)?;
+            self.rejection = Rejection::of(self.state.scram.rejection, of_mock);
             if let Some(body) = body {
                 claim(&mut self.attempt, &body, name.as_deref());
             }
@@ -446,6 +469,13 @@ impl<R: UserRecords + Clone> ServerNegotiation<R> {
         self.attempt.as_ref()
     }
 
+    /// Returns why the login was rejected by the outcome Auth, for the server's log only; `None` otherwise. Also a server
+    /// with mock records says whether the user of SCRAM is unknown, or has no record for the hash
+    /// ([`PasswordServer::mock_unknown_users`]).
+    pub fn rejection(&self) -> Option<Rejection> {
+        self.rejection
+    }
+
     /// Returns the authenticated user; `None` before the login is complete, and for ANONYMOUS.
     pub fn authenticated_user(&self) -> Option<String> {
         authenticated_user(&self.state.scram)
@@ -472,7 +502,7 @@ mod tests {
     /// What a server lends to the library for a name: the iteration count of the configuration, and the hash, the salt
     /// length and the iteration count of each record. PLAIN takes the first.
     fn lent(server: &PasswordServer<RecordStore>, name: &str) -> (u32, Vec<(u32, u32, u32)>) {
-        let records = server.records(Some(name)).unwrap();
+        let records = server.records(Some(name)).unwrap().all;
         let forms = records.iter().map(|record| (record.version, record.salt_len, record.iterations)).collect();
         (server.lend(Some(name), &records, &[]).config.iterations, forms)
     }

@@ -7,7 +7,7 @@ use crate::connection::Progress;
 use crate::policies::{refusal_data, Choice};
 use crate::server::{acts_for, authenticated_user, NO_CHALLENGE};
 use crate::serving::{named, PasswordServer, UserRecords};
-use crate::{generate_nonce, sys, CachedKeys, ClientPolicy, ConnectionError, LoginAttempt, SaslProfile};
+use crate::{generate_nonce, sys, CachedKeys, ClientPolicy, ConnectionError, LoginAttempt, Rejection, SaslProfile};
 use std::fmt;
 
 /// The most bytes of a body that is sent: a frame of 512 without its size (AMQP 1.0, part 5, section 5.3.1).
@@ -227,12 +227,13 @@ pub struct ServerSteps<R: UserRecords + Clone> {
     state: sys::ScramServer,
     progress: Progress,
     attempt: Option<LoginAttempt>,
+    rejection: Option<Rejection>,
 }
 
 impl<R: UserRecords + Clone> ServerSteps<R> {
     /// Returns a login at this server that has not begun.
     pub fn new(server: PasswordServer<R>) -> Self {
-        Self { config: server, state: NO_CHALLENGE, progress: Progress::InProgress, attempt: None }
+        Self { config: server, state: NO_CHALLENGE, progress: Progress::InProgress, attempt: None, rejection: None }
     }
 
     /// Returns the frame body with which the server offers its mechanisms. Send it after the client's SASL header.
@@ -261,8 +262,10 @@ impl<R: UserRecords + Clone> ServerSteps<R> {
         goes_on(self.progress)?;
         let name = self.named(body)?;
         let records = self.config.records(name.as_deref())?;
-        let answered = self.step(body, nonce, name.as_deref(), &records)?;
+        let of_mock = records.mock_rejection(self.state.version);
+        let answered = self.step(body, nonce, name.as_deref(), &records.all)?;
         self.progress = answered.progress;
+        self.rejection = Rejection::of(self.state.rejection, of_mock);
         claim(&mut self.attempt, body, name.as_deref());
         Ok(answered)
     }
@@ -324,6 +327,11 @@ impl<R: UserRecords + Clone> ServerSteps<R> {
     /// Returns what the last init claims, like [`crate::ServerNegotiation::last_attempt`].
     pub fn last_attempt(&self) -> Option<&LoginAttempt> {
         self.attempt.as_ref()
+    }
+
+    /// Returns why the login was rejected, like [`crate::ServerNegotiation::rejection`].
+    pub fn rejection(&self) -> Option<Rejection> {
+        self.rejection
     }
 
     /// Returns the authenticated user; `None` before the login is complete, and for ANONYMOUS.

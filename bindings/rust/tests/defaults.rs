@@ -1,5 +1,5 @@
 //! What servers are set to by default: files as `scram users add` makes them, the answers by which unknown users look like
-//! known ones, and the nonces of connections.
+//! known ones, why a login was rejected, and the nonces of connections.
 
 mod common;
 #[path = "../examples/server.rs"]
@@ -126,6 +126,76 @@ fn users_of_an_older_file() {
             assert_eq!(side.authenticated_user().as_deref(), Some(user));
         }
     }
+}
+
+/// An outcome Auth without data.
+const AUTH: [u8; 12] = [2, 1, 0, 0, 0, 0x53, 0x44, 0xc0, 3, 1, 0x50, 1];
+
+/// Joins both sides of a connection, and returns why the server rejects the login.
+fn reason<R: UserRecords + Clone>(server: PasswordServer<R>, client: impl Into<SaslProfile>) -> Option<Rejection> {
+    let (mut side, mut client) = (ServerNegotiation::new(server), ClientNegotiation::new(client, None));
+    let mut to_server = ClientNegotiation::open();
+    while !to_server.is_empty() {
+        assert_eq!(side.rejection(), None);
+        let to_client = side.receive(&to_server).unwrap().sent;
+        to_server = client.receive(&to_client).unwrap().sent;
+    }
+    assert_eq!(side.rejection().is_none(), side.progress() == Progress::Authenticated);
+    side.rejection()
+}
+
+/// A server without mock records has the reasons of one with them.
+#[test]
+fn reasons_of_rejections() {
+    use Rejection::*;
+    let client = |user: &str, password: &str| ScramClient::new(user, password, ScramVersion::Sha512);
+    let root = |user: &str| client(user, "pencil").acting_for("root").unwrap();
+    let without = PasswordServer::new(parse(&(ADDED.to_owned() + ONE))).accept_authzid(true).plain_under_tls(true);
+    for server in [without.clone(), without.mock_unknown_users([3; 32], 16, 4096)] {
+        for (client, wanted) in [
+            (client("user", "pencil"), None),
+            (client("user", "pencils"), Some(WrongProof)),
+            (client("one", "pencil"), Some(NoRecordForHash)),
+            (client("nobody", "pencil"), Some(UnknownUser)),
+            (root("user"), Some(NoRight)),
+            (root("one"), Some(NoRecordForHash)),
+            (root("nobody"), Some(UnknownUser)),
+            (client("nobody", "pencil").channel_not_offered(), Some(Channel)),
+        ] {
+            assert_eq!(reason(server.clone(), client.clone()), wanted);
+            let mut side = ServerSteps::new(server.clone());
+            let sent = joined(&mut side, client, "SCRAM-SHA-512");
+            assert_eq!(side.rejection(), wanted);
+            // (the client receives the same outcome for each reason)
+            assert_eq!(sent.last().unwrap() == &AUTH, wanted.is_some());
+        }
+        for user in ["user", "nobody"] {
+            let profile = SaslProfile::Plain { username: user.to_owned(), password: "pencils".to_owned() };
+            assert_eq!(reason(server.clone(), profile), Some(WrongPassword));
+        }
+    }
+}
+
+/// Inits that are rejected whatever the records are.
+#[test]
+fn reasons_of_rejected_inits() {
+    use Rejection::*;
+    let server = PasswordServer::new(parse(ADDED)).reject_misplaced(true).mock_unknown_users([3; 32], 16, 4096);
+    let misplaced = Scram(ServerScramErrorKind::MisplacedAttribute);
+    for (name, message, wanted) in [
+        ("SCRAM-SHA-256", "n,,n=user,r=nonce,i=4096", misplaced),
+        ("SCRAM-SHA-256", "user", Scram(ServerScramErrorKind::CannotParseGs2Header)),
+        ("PLAIN", "\0user\0pencil", MechanismNotOffered),
+    ] {
+        let (name_len, message_len) = (name.len() as u8, message.len() as u8);
+        let fields = [&[0xa3, name_len], name.as_bytes(), &[0xa0, message_len], message.as_bytes()].concat();
+        let init = [&[2, 1, 0, 0, 0, 0x53, 0x41, 0xc0, fields.len() as u8 + 1, 2], &fields[..]].concat();
+        let mut side = ServerSteps::new(server.clone());
+        assert_eq!(side.on_frame(&init).unwrap().body, AUTH);
+        assert_eq!(side.rejection(), Some(wanted));
+    }
+    assert_eq!(Scram(ServerScramErrorKind::AuthenticationFailed).to_string(), "SCRAM: Authentication failed");
+    assert_eq!((WrongProof.to_string(), UnknownUser.to_string()), ("Wrong password".into(), "Unknown user".into()));
 }
 
 /// A user with one record, one with all, and an unknown one get answers of the same kinds and lengths.

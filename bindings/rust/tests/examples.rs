@@ -43,8 +43,8 @@ fn server_and_client() {
     let rejected = "not logged in: the login was rejected: Connection: The login was rejected";
     for (user, password, client_says, server_says) in [
         ("user", "pencil", "logged in: SCRAM-SHA-512", "logged in: Some(\"user\")"),
-        ("user", "pencils", rejected, rejected),
-        ("nobody", "pencil", rejected, rejected),
+        ("user", "pencils", rejected, &format!("{rejected}: Wrong password")),
+        ("nobody", "pencil", rejected, &format!("{rejected}: Unknown user")),
     ] {
         assert_eq!(log_in(&port, user, password), (format!("{client_says}\n"), password == "pencil" && user == "user"));
         assert_eq!(said.next().unwrap(), server_says);
