@@ -1,14 +1,19 @@
 #!/usr/bin/env python3
-"""The two long parts of the gate side by side: `rt ci`, and the wrong bodies that have to be rejected.
+"""The gate: the quick checks; side by side `rt ci`, and the wrong bodies that have to be rejected; and the restarts.
 
-    tools/gate/gate.py
+    tools/gate/gate.py             takes from earlier runs what they passed
+    tools/gate/gate.py --anew      proves all
 
-Prints what `rt ci` prints, then what `tools/gate/wrong_bodies.py` printed, and last the sum of both counts, `N passed, M
-failed`. A library that `rt ci` has proved, or keeps from an earlier run, is passed to the wrong bodies of the libraries
-above it. `rt ci` proves as many crates at a time as there are processors, or as RT_JOBS says. If it fails, its last
-lines, which name what failed, are printed again above the sums, since the end of a log is read first. The exit status is
-0 only if both ended with 0 and reported their count, and nothing failed.
+Prints what `rt ci` prints, then what `tools/gate/wrong_bodies.py` printed, what the run cost, and last the sum of both
+counts, `N passed, M failed`. A library that `rt ci` has proved, or keeps from an earlier run, is passed to the wrong bodies
+of the libraries above it. `rt ci` proves as many crates at a time as there are processors, or as RT_JOBS says. If it
+fails, its last lines, which name what failed, are printed again above the sums, since the end of a log is read first. The
+exit status is 0 only if each part ended with 0, both reported their count, and nothing failed.
+
+The seconds of each crate are written to build/gate.json, or build/gate-anew.json, from which `table.py` makes the tables
+of docs/GATE.md.
 """
+import argparse
 import os
 import re
 import shutil
@@ -19,6 +24,7 @@ import tempfile
 from collections import deque
 
 sys.dont_write_bytecode = True
+import costs
 import wrong_bodies
 
 COUNT = re.compile(r"(\d+) passed, (\d+) failed")
@@ -87,9 +93,8 @@ def hand_over(libraries, folder, line):
         open(f"{folder}/{name}.failed", "w", encoding="utf-8").close()
 
 
-def main():
-    # (an end from outside ends both parts: `finally` below)
-    signal.signal(signal.SIGTERM, lambda *_: sys.exit(143))
+def long_parts(processors, memory, anew):
+    """What `rt ci` and the wrong bodies counted, passed and failed, and the sample of their processes."""
     how = {"stdin": subprocess.DEVNULL, "text": True, "errors": "replace"}
     libraries = {*wrong_bodies.libraries([])}
     with tempfile.TemporaryFile("w+", errors="replace") as told, tempfile.TemporaryDirectory(prefix="gate-") as built:
@@ -98,20 +103,21 @@ def main():
         # (the gate waits for the chain of proofs, so that comes first where processors are few)
         turned = ["nice", "-n", "10", sys.executable, "tools/gate/wrong_bodies.py", "--built", built]
         bodies = subprocess.Popen(turned, stdout=told, **how)
-        lanes = {"RT_JOBS": str(side_by_side(*machine()))} | os.environ
-        proofs = subprocess.Popen(["rt", "ci"], env=lanes, stdout=subprocess.PIPE, **how)
+        lanes = {"RT_JOBS": str(side_by_side(processors, memory))} | os.environ
+        proofs = subprocess.Popen(["rt", "ci", *["--anew"] * anew], env=lanes, stdout=subprocess.PIPE, **how)
         try:
             last, named = "", deque(maxlen=6)
-            for line in proofs.stdout:
-                if last:
-                    print(last, end="", flush=True)
-                    named.append(last)
-                last = line
-                hand_over(libraries, built, line)
-            for name in [*libraries]:
-                hand_over(libraries, built, f"rt: {name} NOT PROVED")
-            proofs.wait()
-            bodies.wait()
+            with costs.Sample(proofs.pid, bodies.pid) as sample:
+                for line in proofs.stdout:
+                    if last:
+                        print(last, end="", flush=True)
+                        named.append(last)
+                    last = line
+                    hand_over(libraries, built, line)
+                for name in [*libraries]:
+                    hand_over(libraries, built, f"rt: {name} NOT PROVED")
+                proofs.wait()
+                bodies.wait()
         finally:
             for part in (proofs, bodies):
                 if part.poll() is None:
@@ -123,8 +129,37 @@ def main():
     if proofs.returncode:
         print("gate: the end of what rt ci said:", "".join(named), sep="\n", end="")
     sums = [counted("rt ci", proofs.returncode, last), counted("wrong bodies", bodies.returncode, lines[-1])]
-    passed, failed = (sum(it) for it in zip(*sums))
-    print(f"{passed} passed, {failed} failed")
+    return *(sum(it) for it in zip(*sums)), sample
+
+
+def status_of(*command):
+    """The exit status of a part, which ends no later than the gate."""
+    with subprocess.Popen(command) as part:
+        try:
+            return part.wait()
+        finally:
+            part.terminate()
+
+
+def main():
+    parser = argparse.ArgumentParser(description=__doc__, formatter_class=argparse.RawDescriptionHelpFormatter)
+    parser.add_argument("--anew", action="store_true", help="take nothing from earlier runs")
+    anew = parser.parse_args().anew
+    # (an end from outside ends the parts: each `finally` above)
+    signal.signal(signal.SIGTERM, lambda *_: sys.exit(143))
+    run = costs.Run(machine()[0], anew)
+    if status_of("make", "--no-print-directory", "quick-checks"):
+        print("the quick checks failed")
+        return 1
+    passed, failed, sample = long_parts(*machine(), anew)
+    sys.stdout.flush()
+    # (the restarts need the programs that `rt ci` builds)
+    if not failed and status_of(sys.executable, "tools/gate/restarts.py"):
+        print("gate: tools/gate/restarts.py failed")
+        failed = 1
+    record = run.record(sample, wrong_bodies.crates(), passed, failed)
+    costs.write(record)
+    print(*costs.closing(record), f"{passed} passed, {failed} failed", sep="\n")
     return 1 if failed else 0
 
 

@@ -634,14 +634,20 @@ def below(lines, crate):
     return [it for it in lines if it in found or any(it in below(lines, on) for on in found)]
 
 
-def libraries(names):
-    """The lines of the crates that have wrong bodies, and of those below them, lowest first."""
+def crates():
+    """The lines of crates.txt, by the name of the crate."""
     lines = {}
     with open(f"{ROOT}/crates.txt", encoding="utf-8") as it:
         for line in it:
             words = line.partition(":")[0].split()
             if words and not words[0].startswith("#"):
                 lines[words[0]] = line
+    return lines
+
+
+def libraries(names):
+    """The lines of the crates that have wrong bodies, and of those below them, lowest first."""
+    lines = crates()
     wanted = {it for it in lines if os.path.isdir(f"{ROOT}/crates/{it}/{FOLDER}") and (not names or it in names)}
     while more := {below for it in wanted for below in lines[it].partition(":")[2].split() if below in lines} - wanted:
         wanted |= more
