@@ -18,7 +18,7 @@ use Rattle.fe2o3_sasl_core.specs.declared.extra_challenges.ExtraChallenges.{Extr
 use Rattle.fe2o3_sasl_core.specs.SaslAcceptor.{ends_with}
 use Rattle.sasl_c.specs.declared.sasl_server.Choice.{Choice}
 use Rattle.sasl_c.specs.declared.sasl_server.SaslServerConfig.{SaslServerConfig as Config}
-use Rattle.sasl_c.specs.SaslServer.{AreIn, HasRecords, IsOf, IsReached, Replying, Stands, extra_for, record_for, replying_machine, saved_for, scrams_with, settings_for, sum_of}
+use Rattle.sasl_c.specs.SaslServer.{AreIn, HasRecords, IsOf, Replying, ReplyingIsReached, Stands, extra_for, record_for, replying_machine, saved_for, scrams_with, settings_for, sum_of}
 use Rattle.sasl_c.specs.Server.{KeptExchange, NothingKept, ChallengeOpen, SignatureSent, InitialResponseAsked, PendingInit, IsAsking, IsPhaseOf}
 use Rattle.fe2o3_sasl_core.specs.PasswordServer.{SavedExchange, ScramsAt, PasswordState, part_where, password_machine, password_names, password_server_in}
 use Rattle.sasl_c.proofs.StatusLemmas.{carried}
@@ -31,7 +31,7 @@ abbrev pub Closes : SaslFrame → Type 0
 Closes reply = (code : SaslCode) × (more : Option (List ℕ)) × (reply ≡ frames.Outcome code more)
 
 abbrev pub Goes : Config → SaslFrame → Replying → Type 0
-Goes config reply next = Closes reply ⊎ IsReached config next
+Goes config reply next = Closes reply ⊎ ReplyingIsReached config next
 
 closes_so : (reply : SaslFrame) (code : SaslCode) → reply ≡ ends_with code → Closes reply
 closes_so reply code same = (code, None, same)
@@ -103,7 +103,7 @@ module _ (config : Config) (choice : Choice) (records : MultiRecords) (sum : sum
       (moved : PasswordState) (phase : Phase)
       → state ≡ ServerFirstSent challenge (record_for records version challenge.user)
       → is_required challenge.header.flag ≡ plus → OfChallenge phase → Behind config choice records version plus state moved
-      → IsReached config (moved_to moved phase)
+      → ReplyingIsReached config (moved_to moved phase)
   unfolding IsOf
   reached_open version plus challenge state moved phase same binds in_phase behind =
       go (in_exchange version plus state moved _ behind (saved_so version plus _ state _ (sym binds) same))
@@ -112,7 +112,7 @@ module _ (config : Config) (choice : Choice) (records : MultiRecords) (sum : sum
         version = version;
         plus = is_required challenge.header.flag;
         state = ServerFirstSent challenge (record_for records version challenge.user);
-      }) moved → IsReached config (moved_to moved phase)
+      }) moved → ReplyingIsReached config (moved_to moved phase)
       go (bound, plain, selected, stands, is) = (
         ChallengeOpen version challenge,
         (choice, records, version, plus, bound, plain, selected, sum, has, stands, in_phase, refl, is),
@@ -121,13 +121,13 @@ module _ (config : Config) (choice : Choice) (records : MultiRecords) (sum : sum
   reached_signed : (version : ScramVersion) (plus : Bool) (user : List ℕ) (acts_for : Option (List ℕ))
       (state : ServerState) (moved : PasswordState)
       → state ≡ ServerFinalSent user acts_for → Behind config choice records version plus state moved
-      → IsReached config (moved_to moved Signing)
+      → ReplyingIsReached config (moved_to moved Signing)
   unfolding IsOf
   reached_signed version plus user acts_for state moved same behind =
       go (in_exchange version plus state moved _ behind (saved_so version plus plus state _ refl same))
     where
       go : InExchange (record { version = version; plus = plus; state = ServerFinalSent user acts_for }) moved
-          → IsReached config (moved_to moved Signing)
+          → ReplyingIsReached config (moved_to moved Signing)
       go (bound, plain, selected, stands, is) = (
         SignatureSent user acts_for,
         (choice, records, version, plus, bound, plain, selected, sum, has, stands, inl refl, refl, is),
@@ -139,12 +139,12 @@ module _ (config : Config) (choice : Choice) (records : MultiRecords) (sum : sum
       → Behind config choice records version plus state moved → reply ≡ sent_for signature answer
       → Goes config reply (moved_to moved (phase_after signature phase answer))
   sends signature version plus state answer reply moved phase (inl (challenge, text, same, is, binds)) behind sent = inr
-      (carried (λ (a : SaslFrame). IsReached config (moved_to moved (phase_after signature phase a)))
+      (carried (λ (a : SaslFrame). ReplyingIsReached config (moved_to moved (phase_after signature phase a)))
       (frames.Challenge text) answer (sym same)
       (reached_open version plus challenge state moved (phase_after signature phase (frames.Challenge text)) is binds
       (phase_behind signature phase text) behind))
   sends true version plus state answer reply moved phase (inr (user, acts_for, text, same, is)) behind sent = inr
-      (carried (λ (a : SaslFrame). IsReached config (moved_to moved (phase_after true phase a)))
+      (carried (λ (a : SaslFrame). ReplyingIsReached config (moved_to moved (phase_after true phase a)))
       (frames.Outcome outcomes.Ok (Some text)) answer (sym same)
       (reached_signed version plus user acts_for state moved is behind))
   sends false version plus state answer reply moved phase (inr (user, acts_for, text, same, is)) behind sent =
@@ -188,7 +188,7 @@ module _ (config : Config) (choice : Choice) (records : MultiRecords) (sum : sum
       → server.extra ≡ extra_for choice
       → server.inner ≡ password_server_in (settings_for config choice records None) bound plain selected
       (option_map (λ (saved : SavedExchange). First) (saved_for records signed by exchange))
-      → IsReached config (record server { phase = phase })
+      → ReplyingIsReached config (record server { phase = phase })
   unfolding IsOf
   reached_in exchange signed by bound plain selected server phase stands in_phase extra inner = (
     exchange,
@@ -201,7 +201,7 @@ module _ (config : Config) (choice : Choice) (records : MultiRecords) (sum : sum
       → Stands (saved_for records signed by exchange) bound plain selected → server.extra ≡ extra_for choice
       → server.inner ≡ password_server_in (settings_for config choice records None) bound plain selected
       (option_map (λ (saved : SavedExchange). First) (saved_for records signed by exchange))
-      → IsReached config (record server { phase = Asking init.mechanism init.hostname init.nonce })
+      → ReplyingIsReached config (record server { phase = Asking init.mechanism init.hostname init.nonce })
   reached_asking NothingKept signed by bound plain selected server init stands extra inner =
       reached_in NothingKept signed by bound plain selected server _ stands (inr (inr (init, refl))) extra inner
   reached_asking (ChallengeOpen version challenge) signed by bound plain selected server init stands extra inner =
@@ -220,7 +220,7 @@ module _ (config : Config) (choice : Choice) (records : MultiRecords) (sum : sum
       → AsksOrPasses password_machine server asked nonce frame reply next → Goes config reply next
   asks_or_passes exchange signed by bound plain selected server next true nonce
       (frames.Init mechanism response hostname) reply stands extra inner (same, then) = inr
-      (carried (IsReached config) _ next (sym then)
+      (carried (ReplyingIsReached config) _ next (sym then)
       (reached_asking exchange signed by bound plain selected server
       (record { mechanism = mechanism; hostname = hostname; nonce = nonce }) stands extra inner))
   asks_or_passes exchange signed by bound plain selected server next true nonce (frames.Response text) reply stands
@@ -244,7 +244,7 @@ confirms config server next [] reply (same, then) = inl (closes_so reply outcome
 confirms config server next (byte ∷ text) reply (same, then) = inl (closes_so reply outcomes.Auth same)
 
 pub comes_goes : (config : Config) (server next : Replying) (nonce : List ℕ) (frame reply : SaslFrame)
-    → IsReached config server → replying_machine server nonce frame reply next → Goes config reply next
+    → ReplyingIsReached config server → replying_machine server nonce frame reply next → Goes config reply next
 unfolding IsOf
 comes_goes config server next nonce frame reply
     (exchange, (choice, records, signed, by, bound, plain, selected, sum, has, stands, in_phase, extra, inner))

@@ -245,16 +245,16 @@ IsOf config exchange server = (choice : Choice) × (records : MultiRecords) × (
 
 -- the servers that a configuration can reach while more bytes are expected: before the init, with an open challenge,
 -- and after the signature
-abbrev pub IsReached : Config → Replying → Type 0
-IsReached config server = (exchange : KeptExchange) × IsOf config exchange server
+abbrev pub ReplyingIsReached : Config → Replying → Type 0
+ReplyingIsReached config server = (exchange : KeptExchange) × IsOf config exchange server
 
--- what a server of a configuration knows of users: the records of the configuration, of which none is a mock record to it
+-- what a server of a configuration knows of users: the records that are passed, whether they are mock records or not
 abbrev pub KnowsOf : Config → PasswordKnown → Type 0
 KnowsOf config known = (records : MultiRecords) × HasRecords config records × (known ≡ password_known_for records)
 
 -- these servers, with what they know
 abbrev pub ServerIsReached : Config → Progress → State → Type 0
-ServerIsReached config InProgress logged = IsReached config logged.server × KnowsOf config logged.known
+ServerIsReached config InProgress logged = ReplyingIsReached config logged.server × KnowsOf config logged.known
 ServerIsReached config Authenticated server = Unit {0}
 ServerIsReached config (Failed why) server = Unit {0}
 

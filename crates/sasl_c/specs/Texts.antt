@@ -112,7 +112,7 @@ abbrev pub client_size : ℕ
 client_size = 2 * word + 32 + 64 + keys_size
 
 abbrev pub server_size : ℕ
-server_size = 7 * word + 256 + 1024 + 512 + 1024 + 256
+server_size = 8 * word + 256 + 1024 + 512 + 1024 + 256
 
 abbrev pub connection_size : ℕ
 connection_size = 4 * word + 512 + word

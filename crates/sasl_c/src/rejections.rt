@@ -59,17 +59,20 @@ fn rejection_of(reply: &SaslServerFrame) -> Option<Rejection>
     }
 }
 
+/// What replies.
+type Replying = WithExtraChallenges<PasswordServer>;
+
 /// The library's server of a configuration. It replies as the server that it holds, and keeps why its last reply rejects
 /// the login.
 #[derive(Drop)]
 pub struct LoggedServer {
-    pub server: WithExtraChallenges<PasswordServer>,
+    pub server: Replying,
     pub rejection: Option<Rejection>,
 }
 
 impl LoggedServer {
     /// Returns the server before its first reply.
-    pub fn new(server: WithExtraChallenges<PasswordServer>) -> LoggedServer
+    pub fn new(server: Replying) -> LoggedServer
         ensures { result ≡ record { server = server; rejection = None } }
     {
         LoggedServer {
@@ -80,7 +83,8 @@ impl LoggedServer {
 }
 
 impl Clone for LoggedServer {
-    ghost is_clone = { λ logged copy. state_of copy ≡ state_of logged };
+    ghost is_clone = { λ logged copy. ⟦<Replying as Clone>⟧.is_clone logged.server copy.server
+        × (copy.rejection ≡ logged.rejection) };
 
     fn clone(&self) -> Result<Self, AllocError> {
         Ok(Self {
@@ -109,9 +113,9 @@ impl SaslAcceptor for LoggedServer {
 
     ghost hmacs = { λ logged frame n. extended_hmacs password_names password_hmacs logged.server frame n };
 
-    ghost clone_keeps = { λ logged copy same. same };
+    ghost clone_keeps = { λ logged copy same. cc };
 
-    ghost clone_knows = { λ logged copy same. ap (λ (s : State). s.known) same };
+    ghost clone_knows = { λ logged copy same. cc };
 
     fn mechanisms(&self, alloc: Global) -> Result<Array<Symbol>, OutOfMemory> {
         self.server.mechanisms(alloc)
@@ -159,13 +163,15 @@ impl SaslAcceptor for LoggedServer {
 }
 
 impl AuthenticatedUser for LoggedServer {
-    ghost named = { λ logged. extended_user (phase_of logged.server.phase) (password_user (password_state logged.server.acceptor)) };
+    ghost named = { λ logged. ⟦<Replying as AuthenticatedUser>⟧.named logged.server };
 
-    ghost acting = { λ logged. extended_user (phase_of logged.server.phase) (password_acting (password_state logged.server.acceptor)) };
+    ghost acting = { λ logged. ⟦<Replying as AuthenticatedUser>⟧.acting logged.server };
 
-    ghost named_by_state = { λ logged other same. ap (λ (s : State). extended_user s.server.phase (password_user s.server.inner)) same };
+    ghost named_by_state = { λ logged other same.
+        ap (λ (s : State). extended_user s.server.phase (password_user s.server.inner)) same };
 
-    ghost acting_by_state = { λ logged other same. ap (λ (s : State). extended_user s.server.phase (password_acting s.server.inner)) same };
+    ghost acting_by_state = { λ logged other same.
+        ap (λ (s : State). extended_user s.server.phase (password_acting s.server.inner)) same };
 
     fn authenticated_user(&self) -> Option<&str> {
         self.server.authenticated_user()

@@ -198,6 +198,7 @@ impl ScramServer {
         self.nonce_len = challenge.client_server_nonce.len() as u32;
         self.first_len = challenge.server_first_message.len() as u32;
         self.acts_for_len = identity.len() as u32;
+        self.rejection = 0;
         fill(&mut self.user, challenge.username.as_bytes());
         fill(&mut self.bare, challenge.client_first_message_bare);
         fill(&mut self.nonce, challenge.client_server_nonce);
