@@ -13,7 +13,6 @@ use Rattle.fe2o3_scram.specs.declared.channel_binding.ChannelKind.TheVariants.{T
 use Rattle.fe2o3_scram.specs.ChannelBinding.{authzid_text, cbind_data, cbind_input, data_bytes, flag_of, flag_text, ClientHeader}
 use Rattle.fe2o3_scram.specs.Escape.{escaped, escaped_byte}
 use Rattle.fe2o3_scram.specs.declared.hmac.ScramVersion.{ScramVersion}
-use Rattle.fe2o3_scram.specs.declared.hmac.ScramVersion.TheVariants as versions
 use Rattle.fe2o3_scram.specs.ClientFinal.{Answer, client_final_of, keys_for, without_proof_with}
 use Rattle.fe2o3_scram.specs.ClientKeys.{ClientKeys}
 use Rattle.fe2o3_scram.specs.Hmac.{exclusive_or}
@@ -21,7 +20,6 @@ use Rattle.fe2o3_scram.specs.Keys.{client_proof, client_signature, server_signat
 use Rattle.fe2o3_scram.specs.ScramClient.{AnswersIn, ClientSide, ClientState, ClientInitial, ClientFirstSent, ClientFinalSent, SignatureVerified, Complete, header_in, identity_named}
 use Rattle.fe2o3_scram.specs.ServerFirst.{Client, NamesServerFirst, ReadsServerFirst, ServerFirst}
 use Rattle.fe2o3_scram.specs.Texts.{Part, base64_text, joined}
-use Rattle.sasl_c.specs.declared.status.Status.TheVariants as statuses
 use Rattle.sasl_c.specs.declared.login.Login.{Login}
 use Rattle.sasl_c.specs.Client.{answer_more, CanBeNamed, IsChannelOf, IsHeaderOf}
 use Rattle.sasl_c.specs.Channels.{channel_more, identity_more}

@@ -145,9 +145,9 @@ fn size(which: u32) -> usize
 /// Returns the version of the library: 10000 times the major, 100 times the minor, and the patch number.
 #[unsafe(no_mangle)]
 pub extern "C" fn fe2o3_version() -> u32
-    ensures { result ≡ 400 }
+    ensures { result ≡ 500 }
 {
-    400
+    500
 }
 
 /// Returns how many bytes a struct has in the library. `which` is one of enum fe2o3_size_of; other numbers return 0.

@@ -597,7 +597,7 @@ pub fn manual<'a>(alloc: Global) -> Result<Command<'a>, AllocError> {
     let mut commands = commands(alloc, &COMMANDS)?;
     commands.push(users(alloc)?)?;
     above(alloc, "scram", ABOUT)
-        .version("0.4.0")
+        .version("0.5.0-dev")
         .after_help(NOTES)
         .subcommands(commands)
 }
