@@ -17,8 +17,6 @@ mod closed;
 #[cfg(test)]
 mod extra_challenges;
 #[cfg(test)]
-mod kept_logins;
-#[cfg(test)]
 mod login_attempts;
 #[cfg(test)]
 mod own_acceptor;

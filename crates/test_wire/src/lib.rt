@@ -9,8 +9,6 @@ mod fault_texts;
 #[cfg(test)]
 mod frames;
 #[cfg(test)]
-mod malicious_bytes;
-#[cfg(test)]
 mod printed;
 #[cfg(test)]
 mod protocol_headers;
