@@ -19,7 +19,7 @@ PROCESSES = {
     "12": ("11", " clang low.o "),
     "13": ("10", " rattle build --crate-name low src/lib.rt --test "),
     "14": ("10", " rattle build --crate-name high src/main.rt --crate-checked checked "),
-    "15": ("10", " rattle-test --seconds 60 /tmp/rt-run-10-a_b2c3d4/bin/low_tests "),
+    "15": ("10", " rattle-test --seconds 60 /rt-run-10-a_b2c3d4/bin/low_tests "),
     "20": ("1", " python3 tools/gate/wrong_bodies.py "),
     "21": ("20", " rattle check --crate-name low src/lib.rt "),
     "30": ("1", " rattle check --crate-name other src/lib.rt "),
