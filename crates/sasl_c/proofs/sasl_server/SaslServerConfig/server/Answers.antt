@@ -12,8 +12,7 @@ kept same = ap (λ (s : PasswordSettings). s.records) same
 
 pub returns-in-NothingKept-clause-known : goal.returns-in-NothingKept-clause-known
 returns-in-NothingKept-clause-known c = carried
-    (λ (records : MultiRecords). IfOk c.build.result
-    (λ (server : PasswordServer). password_known server ≡ password_known_for records)) _ _ (
+    (λ (records : MultiRecords). IfOk c.build.result (λ (server : PasswordServer). password_known server ≡ password_known_for records)) _ _ (
     kept c.external-builder.ensures
     ∙ (kept c.anonymous.ensures
     ∙ (kept c.plain_passwords.ensures
@@ -30,8 +29,7 @@ returns-in-NothingKept-clause-known c = carried
 
 pub returns-in-InitialResponseAsked-clause-known : goal.returns-in-InitialResponseAsked-clause-known
 returns-in-InitialResponseAsked-clause-known c = carried
-    (λ (records : MultiRecords). IfOk c.build-in-InitialResponseAsked.result
-    (λ (server : PasswordServer). password_known server ≡ password_known_for records)) _ _ (
+    (λ (records : MultiRecords). IfOk c.build-in-InitialResponseAsked.result (λ (server : PasswordServer). password_known server ≡ password_known_for records)) _ _ (
     kept c.external-builder.ensures
     ∙ (kept c.anonymous.ensures
     ∙ (kept c.plain_passwords.ensures
@@ -48,8 +46,7 @@ returns-in-InitialResponseAsked-clause-known c = carried
 
 pub returns-in-SignatureSent-clause-known : goal.returns-in-SignatureSent-clause-known
 returns-in-SignatureSent-clause-known c = carried
-    (λ (records : MultiRecords). IfOk c.build-in-SignatureSent.result
-    (λ (server : PasswordServer). password_known server ≡ password_known_for records)) _ _ (
+    (λ (records : MultiRecords). IfOk c.build-in-SignatureSent.result (λ (server : PasswordServer). password_known server ≡ password_known_for records)) _ _ (
     kept c.authenticated.ensures
     ∙ (kept c.external-builder.ensures
     ∙ (kept c.anonymous.ensures
