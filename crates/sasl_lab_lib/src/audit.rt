@@ -69,7 +69,7 @@ impl<'a> Audit<'a> {
 fn read<R: Read>(alloc: Global, input: &mut R) -> Result<Transcript, Stop> {
     let mut text = String::new(alloc);
     input.read_to_string(&mut text).map_err(Stop::of_reading)?;
-    Ok(Transcript::from_input(alloc, &text)?)
+    Transcript::from_input(alloc, &text)
 }
 
 /// Returns the line of a finding, without its line feed.

@@ -1,5 +1,6 @@
 //! The commands of the program `sasl_lab`, over any reader and writer: `client-final` makes a SCRAM
-//! message, `login` plays a whole login, and `audit` compares the transcripts of two sides.
+//! message, `login` plays a whole login, and `audit` compares the transcripts of two sides. `sides` is
+//! the command `explain --audit` of the program `scram`, which compares what two sides received.
 #![tactic(auto)]
 
 pub mod audit;
@@ -7,6 +8,7 @@ pub mod client_final;
 pub mod command;
 pub mod digits;
 pub mod login;
+pub mod sides;
 pub mod stop;
 pub mod transcript;
 

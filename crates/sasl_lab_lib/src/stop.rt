@@ -1,6 +1,5 @@
 //! Why the program stops early.
 
-use crate::transcript::TranscriptError;
 use fe2o3_sasl::audit::AuditError;
 use fe2o3_sasl::{ProfileError, ScramErrorKind, ServerScramErrorKind};
 use fe2o3_sasl_wire::{Error, SaslCode};
@@ -117,15 +116,6 @@ impl From<ProfileError> for Stop {
             ProfileError::StaleKeys => Stop::StaleKeys,
             ProfileError::Frame(fault) => Stop::Frame(fault),
             ProfileError::OutOfMemory => Stop::OutOfMemory,
-        }
-    }
-}
-
-impl From<TranscriptError> for Stop {
-    fn from(error: TranscriptError) -> Stop {
-        match error {
-            TranscriptError::WrongLine(number) => Stop::WrongLine(number),
-            TranscriptError::OutOfMemory => Stop::OutOfMemory,
         }
     }
 }

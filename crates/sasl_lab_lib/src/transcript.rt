@@ -1,8 +1,9 @@
 //! The input of `audit`: a line `c NONCE BODY` for each event of the client and a line
 //! `s NONCE BODY` for each event of the server, in hexadecimal. The body `-` is empty.
 
+use crate::stop::Stop;
 use fe2o3_sasl::{Event, EventError};
-use std::alloc::{AllocError, AllocFailed, Global};
+use std::alloc::Global;
 
 /// The events of both sides, in order.
 #[derive(Debug, Drop)]
@@ -14,39 +15,10 @@ pub struct Transcript {
     pub server: Vec<Event>,
 }
 
-/// Why the input is not a transcript.
-#[derive(Debug, Clone, Copy, PartialEq, Eq)]
-pub enum TranscriptError {
-    /// This line, counted from 1 over both sides, is not an event.
-    WrongLine(usize),
-
-    /// Out of memory.
-    OutOfMemory,
-}
-
-impl From<AllocError> for TranscriptError {
-    fn from(_error: AllocError) -> Self {
-        TranscriptError::OutOfMemory
-    }
-}
-
-impl<T: Drop> From<AllocFailed<T>> for TranscriptError {
-    fn from(_error: AllocFailed<T>) -> Self {
-        TranscriptError::OutOfMemory
-    }
-}
-
-/// One of the two sides.
-#[derive(Debug, Clone, Copy)]
-enum Side {
-    Client,
-    Server,
-}
-
 impl Transcript {
     /// Parses the input, whose last line feed may be missing. The errors are `WrongLine` of the first
     /// line that is not an event, and `OutOfMemory`.
-    pub fn from_input(alloc: Global, input: &str) -> Result<Transcript, TranscriptError> {
+    pub fn from_input(alloc: Global, input: &str) -> Result<Transcript, Stop> {
         let mut transcript = Transcript {
             client: Vec::new(alloc),
             server: Vec::new(alloc),
@@ -62,34 +34,31 @@ impl Transcript {
     }
 
     /// Adds the event of a line. Each line before gave one event, so the events count the lines.
-    fn push_line(&mut self, alloc: Global, line: &str) -> Result<(), TranscriptError> {
-        match read_line(alloc, line) {
-            Ok((Side::Client, event)) => self.client.push(event)?,
-            Ok((Side::Server, event)) => self.server.push(event)?,
-            Err(EventError::Invalid) => {
-                let before = self.client.len() + self.server.len();
-                return Err(TranscriptError::WrongLine(before + 1));
-            }
-            Err(EventError::OutOfMemory) => return Err(TranscriptError::OutOfMemory),
+    fn push_line(&mut self, alloc: Global, line: &str) -> Result<(), Stop> {
+        let number = self.client.len() + self.server.len() + 1;
+        let (side, words) = line.split_once(' ').ok_or(Stop::WrongLine(number))?;
+        let event = match read_event(alloc, words) {
+            Ok(event) => event,
+            Err(EventError::Invalid) => return Err(Stop::WrongLine(number)),
+            Err(EventError::OutOfMemory) => return Err(Stop::OutOfMemory),
+        };
+        match side {
+            "c" => self.client.push(event)?,
+            "s" => self.server.push(event)?,
+            _ => return Err(Stop::WrongLine(number)),
         }
         Ok(())
     }
 }
 
-/// Parses the side and the event of a line. A line without digits for its body is invalid: an empty
+/// Parses the nonce and the body of an event. A line without digits for its body is invalid: an empty
 /// body is `-`.
-fn read_line(alloc: Global, line: &str) -> Result<(Side, Event), EventError> {
-    let (side, words) = line.split_once(' ').ok_or(EventError::Invalid)?;
+fn read_event(alloc: Global, words: &str) -> Result<Event, EventError> {
     let (nonce, body) = words.split_once(' ').ok_or(EventError::Invalid)?;
-    let side = match side {
-        "c" => Side::Client,
-        "s" => Side::Server,
-        _ => return Err(EventError::Invalid),
-    };
     let digits = match body {
         "" => return Err(EventError::Invalid),
         "-" => "",
         digits => digits,
     };
-    Ok((side, Event::from_hex(alloc, nonce, digits)?))
+    Event::from_hex(alloc, nonce, digits)
 }

@@ -1,10 +1,10 @@
-//! The program `scram`: `scram_lib` and the audit of `scram_audit_lib` over the process's arguments and streams.
+//! The program `scram`: `scram_lib` and the audit of `sasl_lab_lib` over the process's arguments and streams.
 #![tactic(auto)]
 
 mod database;
 
 use crate::database::SqliteFile;
-use scram_audit_lib::audit::audit;
+use sasl_lab_lib::sides::audit;
 use scram_base_lib::stop::Stop;
 use std::io::{BufReader, IsTerminal};
 use std::process::ExitCode;

@@ -19,6 +19,7 @@ pub mod record;
 pub mod server;
 pub mod task;
 pub mod users;
+pub mod words;
 
 use crate::done::Done;
 use crate::manual::manual;

@@ -1,6 +1,7 @@
 //! The manual page, in roff, made from the table of words.
 
-use crate::manual::{ABOUT, COMMANDS, Kind, NOTES, USERS, USERS_COMMANDS, Word, Words};
+use crate::manual::{ABOUT, COMMANDS, NOTES, USERS, USERS_COMMANDS};
+use crate::words::{Kind, Word, Words};
 use std::io::{Result, Write};
 
 /// Prints the manual page.

@@ -11,8 +11,8 @@ use Rattle.fe2o3_sasl.specs.declared.audit.FindingKind.{FindingKind}
 use Rattle.fe2o3_sasl.specs.declared.audit.FindingKind.TheVariants as kinds
 use Rattle.fe2o3_sasl.specs.declared.audit.Verdict.{Verdict}
 use Rattle.fe2o3_sasl.specs.declared.audit.Verdict.TheVariants as verdicts
-use Rattle.scram_audit_lib.specs.declared.audit.Login.{Login}
-use Rattle.scram_audit_lib.specs.declared.audit.Sides.{Sides}
+use Rattle.sasl_lab_lib.specs.declared.sides.Login.{Login}
+use Rattle.sasl_lab_lib.specs.declared.sides.Sides.{Sides}
 
 -- both sides mean one login
 abbrev pub has_agreed : Verdict → Bool

@@ -43,7 +43,8 @@ pub struct Asked {
 /// The bodies of one side.
 #[derive(Drop)]
 pub struct Half {
-    is_client: bool,
+    /// Whether the side is the client.
+    pub is_client: bool,
 
     /// What the messages so far contain.
     heard: Heard,
@@ -68,17 +69,9 @@ pub struct Half {
 }
 
 impl Half {
-    /// Returns a client without a body.
-    pub fn client(alloc: Global) -> Half {
-        Half::new(alloc, true, "client: ")
-    }
-
-    /// Returns a server without a body.
-    pub fn server(alloc: Global) -> Half {
-        Half::new(alloc, false, "server: ")
-    }
-
-    fn new(alloc: Global, is_client: bool, name: &'static str) -> Half {
+    /// Returns a side without a body.
+    pub fn new(alloc: Global, is_client: bool) -> Half {
+        let name = if is_client { "client: " } else { "server: " };
         Half {
             is_client,
             heard: Heard::new(alloc, name),

@@ -1,13 +1,17 @@
-//! `explain --audit`: what a client and a server agree on. Both sides are replayed over the bodies that the real ones
-//! received, the client with the password and the server with its users.
+//! `explain --audit` of the program `scram`: what a client and a server agree on. Both sides are replayed over the bodies
+//! that the real ones received, the client with the password and the server with its users.
 
 ghost use Rattle.std.specs.Prelude.{◌≡◌, IfOk, OnOk, is_ok};
 ghost use Rattle.std.specs.List.{list_all, list_any};
-ghost use Rattle.scram_audit_lib.specs.private.Audit.{FindsAll, FindsWhole, verifies, is_whole, means_one};
+ghost use Rattle.sasl_lab_lib.specs.private.Audit.{FindsAll, FindsWhole, verifies, is_whole, means_one};
 
-use crate::answers::{print_accepted, print_verified};
-use crate::half::{Given, Half};
-use crate::sentences::sentence_of;
+mod answers;
+mod half;
+mod sentences;
+
+use crate::sides::answers::print_answers;
+use crate::sides::half::{Given, Half};
+use crate::sides::sentences::sentence_of;
 use fe2o3_sasl::audit::{AuditError, Finding, FindingKind, Verdict, audit_limited};
 use fe2o3_sasl::{scram_client_run_limited, scram_server_run};
 use fe2o3_scram::{MultiRecordStore, RecordStore, ScramCredentialProvider, ScramVersion, saslprep};
@@ -55,8 +59,8 @@ where
     }
     let users = lines::users(rt, asked.file)?;
     let mut sides = Sides {
-        client: Half::client(alloc),
-        server: Half::server(alloc),
+        client: Half::new(alloc, true),
+        server: Half::new(alloc, false),
     };
     sides.run(
         alloc,
@@ -111,12 +115,12 @@ impl Sides {
     ) -> Result<(), Stop> {
         match line.split_once(' ') {
             Some(("client", digits)) => {
-                self.client
-                    .take(alloc, number, body_of(alloc, digits)?, output)
+                let body = body_of(alloc, digits)?;
+                self.client.take(alloc, number, body, output)
             }
             Some(("server", digits)) => {
-                self.server
-                    .take(alloc, number, body_of(alloc, digits)?, output)
+                let body = body_of(alloc, digits)?;
+                self.server.take(alloc, number, body, output)
             }
             _ => Err(Stop::NoSide),
         }
@@ -209,7 +213,7 @@ impl Sides {
             login.limit,
             &self.client.events,
         )?;
-        print_verified(&self.client.given, &replies, output)
+        print_answers(&self.client, &replies, output)
     }
 
     /// Prints which users the server accepts.
@@ -220,7 +224,7 @@ impl Sides {
         output: &mut O,
     ) -> Result<(), Stop> {
         let replies = scram_server_run(alloc, login.credentials, &self.server.events)?;
-        print_accepted(&self.server.given, &replies, output)
+        print_answers(&self.server, &replies, output)
     }
 
     /// Returns the findings of the audit.
