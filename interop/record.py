@@ -1,5 +1,6 @@
-"""The bytes of a login as rows of stored vectors in crates/test_vectors_sasl/data: of one over lines as in peer-runs.txt,
-whose frames are made here around real messages, and of one over frames as in peer-streams.txt."""
+"""The bytes of a login as rows of stored vectors: of one over lines as in peer-runs.txt of crates/test_driver_frames/data,
+whose frames are made here around real messages, and of one over frames as in
+tools/models/peer-streams.txt."""
 
 from __future__ import annotations
 
@@ -45,13 +46,13 @@ def nonce_of(message: bytes, behind: int = 0) -> str:
     return base64.b64decode(nonce).hex()
 
 
-def record_word(mechanism: str, user: User) -> str:
-    """The record of a user's password as given (RFC 5802, section 3), by Python."""
+def record_words(mechanism: str, user: User) -> str:
+    """The words of a record of a user's password as given (RFC 5802, section 3), by Python."""
     name = mechanism.removeprefix("SCRAM-").replace("-", "").lower()
     salted = hashlib.pbkdf2_hmac(name, user.password.encode(), SALT, user.count)
     client, server = (hmac.digest(salted, words, name) for words in (b"Client Key", b"Server Key"))
     stored = hashlib.new(name, client).digest()
-    return f"{hexed(user.name.encode())}:{SALT.hex()}:{user.count}:{stored.hex()}:{server.hex()}"
+    return f"{hexed(user.name.encode())} {SALT.hex()} {user.count} {stored.hex()} {server.hex()}"
 
 
 def side_of(side: str, mechanism: str) -> tuple[str, str]:
@@ -89,7 +90,7 @@ def server_run(side: str, mechanism: str, user: User, tap: Tap) -> list[str]:
     answers = messages(tap, "server")
     words = " ".join(map(hexed, (user.name.encode(), user.password.encode(), SALT)))
     init = body(INIT, short(0xA3, mechanism.encode()), data(first))
-    words = record_word(mechanism, user) if side == "records" else words
+    words = record_words(mechanism, user) if side == "records" else words
     rows = [" ".join([*side_of(side, mechanism), words]) + (channel_words(mechanism, lasts[0]) if lasts else "")]
     if not answers:
         return [*rows, f"{ZEROS} {init} => Outcome:Auth {body(OUTCOME, REFUSED)}"]

@@ -4,14 +4,14 @@
     tools/replay.py [PROGRAM]   the program defaults to crates/sasl_lab/out/sasl_lab, which `rt run` in
                                 crates/sasl_lab builds
 
-Each audit of crates/test_vectors_sasl/data/audits.txt is one run: its words, its input, its output, status 0.
+Each audit of crates/test_driver_frames/data/audits.txt is one run: its words, its input, its output, status 0.
 """
 import subprocess
 import sys
 from pathlib import Path
 
 ROOT = Path(__file__).resolve().parent.parent
-VECTORS = ROOT / "crates/test_vectors_sasl/data/audits.txt"
+VECTORS = ROOT / "crates/test_driver_frames/data/audits.txt"
 PROGRAM = ROOT / "crates/sasl_lab/out/sasl_lab"
 
 
@@ -28,7 +28,7 @@ def marked(lines, mark):
 def differs(program, paragraph):
     """Runs the audit of a paragraph, and says what differs, if anything."""
     lines = [line for line in paragraph.splitlines() if not line.startswith("#")]
-    word, version, user, password, salt = lines[0].split(" ")
+    word, version, user, password, _, _, salt = lines[0].split(" ")
     words = [program, word, version, text(user), text(password), salt]
     run = subprocess.run(words, input=marked(lines, "< ").encode(), capture_output=True)
     if run.returncode != 0:

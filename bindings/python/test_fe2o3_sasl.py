@@ -513,7 +513,7 @@ DATA = {ChannelKind.TLS_UNIQUE: bytes([4] * 12), ChannelKind.TLS_SERVER_END_POIN
         ChannelKind.TLS_EXPORTER: bytes([255] * 32)}
 KIND_NAMES = {ChannelKind.TLS_UNIQUE: b"tls-unique", ChannelKind.TLS_SERVER_END_POINT: b"tls-server-end-point",
               ChannelKind.TLS_EXPORTER: b"tls-exporter"}
-#: The proofs and signatures of crates/test_scram, for SCRAM-SHA-256, a salt of 32 bytes 03, and nonces of 01 and 02.
+#: The proofs and signatures of crates/test_driver_texts, for SCRAM-SHA-256, a salt of 32 bytes 03, and nonces of 01 and 02.
 PROOFS = {
     ChannelKind.TLS_UNIQUE: (b"06GnWUxjxFnVfnCdTHaz8w9hfm8ChKU7XsnbUANkPjw=",
                              b"7gUTTiWhteycgJ6C+RYpf2kEd45Kz9diVF8nbAxJjKs="),

@@ -1,11 +1,11 @@
 #!/usr/bin/env python3
 """What `scram explain --audit` has to print of both sides of a login.
 
-    tools/models/audit_rows.py write    writes the rows of crates/test_vectors_programs/data/audits.txt
+    tools/models/audit_rows.py write    writes the rows of crates/test_driver_programs/data/audits.txt
     tools/models/audit_rows.py check    compares that file with what would be written
 
 The bodies and their values are those of the model in `tools/models/negotiations.py`, over Python's `hmac` and `hashlib`,
-and what peers sent (crates/test_vectors_sasl/data/peer-runs.txt). Which side is authenticated is written by hand.
+and what peers sent (crates/test_driver_frames/data/peer-runs.txt). Which side is authenticated is written by hand.
 """
 import base64
 import sys
@@ -16,7 +16,7 @@ sys.dont_write_bytecode = True
 import negotiations as model
 
 ROOT = Path(__file__).resolve().parents[2]
-DATA = ROOT / "crates/test_vectors_programs/data"
+DATA = ROOT / "crates/test_driver_programs/data"
 FILE = DATA / "audits.txt"
 CLIENT_NONCE, SERVER_NONCE, SALT = bytes(range(32, 64)), bytes(range(64, 96)), bytes(range(32))
 
@@ -258,7 +258,7 @@ def others():
 def peers():
     """The lines of the first run of `peer-runs.txt` with each peer by each mechanism."""
     found = {}
-    for paragraph in (ROOT / "crates/test_vectors_sasl/data/peer-runs.txt").read_text().split("\n\n")[1:]:
+    for paragraph in (ROOT / "crates/test_driver_frames/data/peer-runs.txt").read_text().split("\n\n")[1:]:
         title, side, *lines = paragraph.splitlines()
         found.setdefault((title[2:], side.split()[1]), lines)
     return found
@@ -331,7 +331,7 @@ HEAD = """\
 
 
 def rows():
-    return "\n\n".join([HEAD, *logins(), *others(), *unfit()]) + "\n"
+    return "\n\n".join([HEAD + "\nparagraphs run", *logins(), *others(), *unfit()]) + "\n"
 
 
 def main():

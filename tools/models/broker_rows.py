@@ -1,7 +1,7 @@
 #!/usr/bin/env python3
 """What clients send to the broker of `crates/example_broker`, and what it has to send.
 
-    tools/models/broker_rows.py write   writes its rows in `test_vectors_programs`, and the input and output of the
+    tools/models/broker_rows.py write   writes its rows in `test_driver_programs`, and the input and output of the
                                         program's run
     tools/models/broker_rows.py check   compares these files with what would be written
 
@@ -167,7 +167,7 @@ SECRETS = [
 
 
 def rows():
-    """The rows as `test_vectors_programs` reads them."""
+    """The rows as `test_driver_programs` reads them."""
     yield HEAD
     for what, secret, (_, tls, came, sent, user, text) in [(row[0], THERE, row) for row in ROWS] + SECRETS:
         records = text.splitlines()
@@ -195,13 +195,14 @@ HEAD = """\
 #     + LINE        a line of it
 # Source: written by `tools/models/broker_rows.py`, by a model in Python; the records of other programs, but for those of
 # SHA-512, which Python's `hashlib` makes.
+paragraphs run
 """
 
 
 def files():
     """Each file and what it has to hold. The run: a wrong password, and then the right one."""
     _, _, came, sent, _, _ = row("", True, WRONG_PLAIN, PLAIN)
-    return {ROOT / "crates/test_vectors_programs/data/brokers.txt": "".join(rows()).encode(),
+    return {ROOT / "crates/test_driver_programs/data/brokers.txt": "".join(rows()).encode(),
             CRATE / "stdin": came + model.AMQP, CRATE / "stdout": sent}
 
 

@@ -2,7 +2,7 @@
 """Runs of servers that accept a client whose GS2 header is `y,,` (RFC 5802, section 6), of servers that do not, and of such a
 client; with extensions, and with attributes in their place (section 7).
 
-    tools/models/cbind_flag_runs.py write   writes crates/test_vectors_sasl/data/cbind-flag-y-runs.txt
+    tools/models/cbind_flag_runs.py write   writes crates/test_driver_frames/data/cbind-flag-y-runs.txt
     tools/models/cbind_flag_runs.py check   compares that file with what would be written
 
 Nothing of this repository is used: proofs and signatures are of Python's `hashlib` and `hmac`, and the frames are written
@@ -14,7 +14,7 @@ import hmac
 import sys
 from pathlib import Path
 
-FILE = Path(__file__).resolve().parents[2] / "crates/test_vectors_sasl/data/cbind-flag-y-runs.txt"
+FILE = Path(__file__).resolve().parents[2] / "crates/test_driver_frames/data/cbind-flag-y-runs.txt"
 
 HASHES = {"SCRAM-SHA-1": "sha1", "SCRAM-SHA-256": "sha256", "SCRAM-SHA-512": "sha512"}
 USER, PASSWORD, SALT, COUNT = "user", "pencil", b"\3" * 32, 4096
@@ -28,7 +28,8 @@ HEAD = """# Runs of SCRAM servers and clients over bodies of frames, in the form
 #     reject_misplaced VERSION USER PASSWORD SALT   one that accepts only `n,,`, and rejects what is no extension in the
 #                                                   place of one
 #     client_unoffered VERSION USER PASSWORD        a profile whose GS2 header is `y,,`
-# Source: written by `tools/models/cbind_flag_runs.py`, whose proofs and signatures are of Python's `hashlib` and `hmac`."""
+# Source: written by `tools/models/cbind_flag_runs.py`, whose proofs and signatures are of Python's `hashlib` and `hmac`.
+paragraphs run"""
 
 
 def short(tag, data):

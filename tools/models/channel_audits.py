@@ -1,7 +1,7 @@
 #!/usr/bin/env python3
 """Audits of clients with options: a bound channel, strict reading, limits (RFC 5802, sections 5.1, 6 and 7).
 
-    tools/models/channel_audits.py write   writes crates/test_vectors_sasl/data/channel-audits.txt
+    tools/models/channel_audits.py write   writes crates/test_driver_frames/data/channel-audits.txt
     tools/models/channel_audits.py check   compares that file with what would be written
 
 Both sides are those of `tools/models/negotiations.py`, over Python's `hashlib` and `hmac`. An audit runs both over their
@@ -16,7 +16,7 @@ sys.dont_write_bytecode = True
 
 import negotiations as model
 
-FILE = model.DATA / "channel-audits.txt"
+FILE = model.ROOT / "crates/test_driver_frames/data/channel-audits.txt"
 USER, PASSWORD, SALT, COUNT = b"user", b"pencil", b"\3" * 32, 4096
 CLIENT_NONCE, SERVER_NONCE, NO_NONCE = b"\1" * 32, b"\2" * 32, b"\0" * 32
 SHA_256 = "SCRAM-SHA-256"
@@ -31,16 +31,17 @@ HEAD = """# Audits of a client with options, each with its name, separated by em
 # an audit begins with what the two sides are made of, and with options, each of which may be absent,
 #     audit VERSION USER PASSWORD SERVER-USER SERVER-PASSWORD SALT OPTION..
 # and an option is one of
-#     client:KIND:DATA         the client binds this channel
+#     client KIND DATA         the client binds this channel
 #     unoffered                the client's GS2 header is `y,,`
 #     strict                   the client is strict
 #     signature_by_challenge   the client accepts the signature in a challenge too
-#     least:COUNT              the client's minimum iteration count
-#     most:COUNT               the client's maximum iteration count
-#     server:KIND:DATA         the server binds this channel
+#     least COUNT              the client's minimum iteration count
+#     most COUNT               the client's maximum iteration count
+#     server KIND DATA         the server binds this channel
 #     cbind_flag_y             the server accepts the GS2 header `y,,` too
 #     reject_misplaced         the server rejects what is no extension in the place of one
-# Source: written by `tools/models/channel_audits.py`, whose proofs and signatures are of Python's `hashlib` and `hmac`."""
+# Source: written by `tools/models/channel_audits.py`, whose proofs and signatures are of Python's `hashlib` and `hmac`.
+paragraphs audit"""
 
 
 def is_misplaced(parts):
@@ -65,9 +66,9 @@ class Client(model.ScramClient):
         self.is_strict = strict or unoffered or bound is not None
         self.version, self.least, self.is_due = mechanism, least, False
         self.options = [
-            *([f"client:{bound[0]}:{bound[1].hex()}"] if bound else []), *(["unoffered"] if unoffered else []),
+            *(["client", bound[0], bound[1].hex()] if bound else []), *(["unoffered"] if unoffered else []),
             *(["strict"] if strict else []), *(["signature_by_challenge"] if by_challenge else []),
-            *([f"least:{least}"] if least != 1 else []), *([f"most:{most}"] if most != model.HIGHEST else [])]
+            *(["least", str(least)] if least != 1 else []), *(["most", str(most)] if most != model.HIGHEST else [])]
 
     def first(self, nonce):
         self.signature, self.is_verified, self.is_due = None, False, True
@@ -104,7 +105,7 @@ class Server(model.ScramServer):
         headers = [header_of(bound[0])] if bound else [b"n,,", *([b"y,,"] if accepts_y else [])]
         super().__init__(mechanism, USER, PASSWORD, SALT, COUNT, tuple(headers), bound[1] if bound else b"")
         self.is_strict, self.is_lax = bound is not None or rejects, False
-        self.options = [*([f"server:{bound[0]}:{bound[1].hex()}"] if bound else []),
+        self.options = [*(["server", bound[0], bound[1].hex()] if bound else []),
                         *(["cbind_flag_y"] if accepts_y else []), *(["reject_misplaced"] if rejects else [])]
 
     def init(self, mechanism, message, nonce):

@@ -1,7 +1,7 @@
 #!/usr/bin/env python3
 """Runs of `scram client`, `scram server` and `scram explain` with channel binding (RFC 5802, section 6).
 
-    tools/models/channel_rows.py write   writes crates/test_vectors_programs/data/channels.txt
+    tools/models/channel_rows.py write   writes crates/test_driver_programs/data/channels.txt
     tools/models/channel_rows.py check   compares that file with what would be written
 
 Nothing of this repository is used: proofs and signatures are of Python's `hashlib` and `hmac`, and the frames are written
@@ -13,7 +13,7 @@ import hmac
 import sys
 from pathlib import Path
 
-FILE = Path(__file__).resolve().parents[2] / "crates/test_vectors_programs/data/channels.txt"
+FILE = Path(__file__).resolve().parents[2] / "crates/test_driver_programs/data/channels.txt"
 
 HASHES = {"SCRAM-SHA-1": "sha1", "SCRAM-SHA-256": "sha256", "SCRAM-SHA-512": "sha512"}
 USER, PASSWORD, SALT, COUNT = "alice", "pencil", bytes.fromhex("5b6d99689d12358ecaae5b04d1bdd1c2"), 4096
@@ -448,7 +448,7 @@ def explained():
 
 def text():
     """The text of the file."""
-    return "".join([HEAD + "\n", *over_lines(), *not_offered(), *strict(), *over_frames(), *wrong_words(), *explained()])
+    return "".join([HEAD + "\nparagraphs run\n", *over_lines(), *not_offered(), *strict(), *over_frames(), *wrong_words(), *explained()])
 
 
 def main():

@@ -1,7 +1,7 @@
 #!/usr/bin/env python3
 """Runs of `scram users` and `scram server` that show the form of records: salt length and iteration count.
 
-    tools/models/form_rows.py write   writes crates/test_vectors_programs/data/forms.txt
+    tools/models/form_rows.py write   writes crates/test_driver_programs/data/forms.txt
     tools/models/form_rows.py check   compares that file with what would be written
 
 Nothing of this repository is used: keys are of Python's `hashlib` and `hmac` (RFC 5802, section 3). What a command does to a
@@ -242,7 +242,7 @@ def rows():
 
 def text():
     """The text of the file."""
-    return "".join([HEAD + "\n", *rows()])
+    return "".join([HEAD + "\nparagraphs run\n", *rows()])
 
 
 def main():

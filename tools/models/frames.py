@@ -1,7 +1,7 @@
 #!/usr/bin/env python3
 """Bodies of SASL frames from the grammar of AMQP 1.0: what they are read as, and every way to spell a frame.
 
-    tools/models/frames.py check [FILE..]   reads each body of the files, crates/test_vectors_sasl/data/frames.txt,
+    tools/models/frames.py check [FILE..]   reads each body of the files, crates/test_driver_frames/data/frames.txt,
                                             worked-frames.txt and peers.txt if none are given, and compares the
                                             answer with the line's
     tools/models/frames.py write [SEED]     prints bodies with their answers, in the form of those files
@@ -17,7 +17,7 @@ import random
 import sys
 from pathlib import Path
 
-DATA = Path(__file__).resolve().parents[2] / "crates/test_vectors_sasl/data"
+DATA = Path(__file__).resolve().parents[2] / "crates/test_driver_frames/data"
 CODES = ("Ok", "Auth", "Sys", "SysPerm", "SysTemp")
 # Part 5, section 5.3.3: a frame's descriptor, and the type of each field; the first one is mandatory.
 FRAMES = {
@@ -226,7 +226,7 @@ def written(kind, fields):
 
 def differs(line):
     """What is wrong with a line of a file, if anything."""
-    digits, _, wanted = line.partition(" ")
+    digits, _, wanted = line.partition(" => ")
     body = bytes.fromhex(digits)
     found = answer(body)
     if found != wanted:
@@ -242,7 +242,7 @@ def differs(line):
 def check(files):
     wrong = 0
     for path in files:
-        lines = [it for it in Path(path).read_text().splitlines() if it and not it.startswith("#")]
+        lines = [it for it in Path(path).read_text().splitlines() if it and not it.startswith(("#", "call "))]
         found = [(it, differs(it)) for it in lines]
         bad = [it for it in found if it[1] is not None]
         for line, why in bad:
@@ -293,11 +293,11 @@ def write(seed):
             # the frame that was spelled is the frame that is read
             if found != f"read {len(body)} {kind} {shown(kind, fields)} written {every[0].hex()}":
                 sys.exit(f"{name}: {body.hex()} {found}")
-            print(body.hex(), found)
+            print(f"{body.hex()} => {found}")
         print(f"# {name}, damaged")
         for body in every:
             body = damaged(body, pick)
-            print(body.hex(), answer(body))
+            print(f"{body.hex()} => {answer(body)}")
     return 0
 
 

@@ -1,7 +1,7 @@
 #!/usr/bin/env python3
 """Runs of `scram client`, `scram server` and `scram explain` with an identity to act for (RFC 4422, section 2).
 
-    tools/models/identity_rows.py write   writes crates/test_vectors_programs/data/identities.txt
+    tools/models/identity_rows.py write   writes crates/test_driver_programs/data/identities.txt
     tools/models/identity_rows.py check   compares that file with what would be written
 
 Nothing of this repository is used: proofs, signatures and frames are those of `channel_rows.py`. The sentences are written
@@ -222,7 +222,7 @@ def explain():
 
 def text():
     """The text of the file."""
-    return "".join([HEAD + "\n", *clients(), *servers(), *prepared(), *wrong_words(), *explain()])
+    return "".join([HEAD + "\nparagraphs run\n", *clients(), *servers(), *prepared(), *wrong_words(), *explain()])
 
 
 def main():

@@ -1,7 +1,7 @@
 #!/usr/bin/env python3
 """Runs of `scram server --saslprep`, which prepares user names by SASLprep (RFC 4013; RFC 5802, section 5.1).
 
-    tools/models/name_rows.py write   writes crates/test_vectors_programs/data/names.txt
+    tools/models/name_rows.py write   writes crates/test_driver_programs/data/names.txt
     tools/models/name_rows.py check   compares that file with what would be written
 
 Nothing of this repository is used: names are prepared by Python's `stringprep` and `unicodedata`, proofs, signatures and
@@ -183,7 +183,7 @@ def rows():
 
 def text():
     """The text of the file."""
-    return "".join([HEAD + "\n", *rows()])
+    return "".join([HEAD + "\nparagraphs run\n", *rows()])
 
 
 def main():

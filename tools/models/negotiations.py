@@ -1,10 +1,8 @@
 #!/usr/bin/env python3
-"""Connections over the SASL layer of AMQP 1.0, and lists of altered bodies: what each call has to answer.
+"""Connections over the SASL layer of AMQP 1.0: what each call has to answer.
 
-    tools/models/negotiations.py write  writes the files of connections and of strangers in
-                                        crates/test_vectors_sasl/data, and prints what the program of that crate has
-                                        to print last
-    tools/models/negotiations.py check  compares these files, and what the program printed, with what would be written
+    tools/models/negotiations.py write  writes the files of connections in crates/test_driver_connections/data
+    tools/models/negotiations.py check  compares these files with what would be written
 
 A model of both sides, written from AMQP 1.0, part 2 (section 2.2, headers; 2.3.1, frames) and part 5 (5.3, SASL),
 RFC 5802 and RFC 7677 (SCRAM), RFC 4616 (PLAIN), RFC 4505 (ANONYMOUS) and RFC 4422 (EXTERNAL, and section 5 for empty
@@ -26,10 +24,9 @@ sys.dont_write_bytecode = True
 import frames
 
 ROOT = Path(__file__).resolve().parents[2]
-CRATE = ROOT / "crates/test_vectors_sasl"
-DATA = CRATE / "data"
-PEERS = DATA / "peer-runs.txt"
-STREAMS = DATA / "peer-streams.txt"
+PEERS = ROOT / "crates/test_driver_frames/data/peer-runs.txt"
+CONNECTIONS = ROOT / "crates/test_driver_connections/data"
+STREAMS = ROOT / "tools/models/peer-streams.txt"
 
 # a body can nest a described value in each two bytes
 sys.setrecursionlimit(10_000)
@@ -492,6 +489,8 @@ def unhexed(word):
 def side_of(line):
     """The side that a line of the files names."""
     match line.split(" "):
+        case ["server", *words, "lenient"]:
+            return side_of(" ".join(["server", *words]))
         case ["server", *words] if "asks" in words or "signs" in words:
             server = side_of(" ".join(it for it in line.split(" ") if it not in ("asks", "signs")))
             return Server(ExtraServer(server.machine, words))
@@ -530,8 +529,7 @@ def side_of_run(line):
     match line.split(" "):
         case ["cbind_flag_y", mechanism, user, password, salt]:
             return scram_server(mechanism, user, password, salt, 4096, (b"n,,", b"y,,"))
-        case ["records", mechanism, record]:
-            user, salt, count, stored, server = record.split(":")
+        case ["records", mechanism, user, salt, count, stored, server]:
             side = scram_server(mechanism, user, "-", salt, count)
             side.machine.keys = Record(HASHES[mechanism], unhexed(stored), unhexed(server))
             return side
@@ -628,7 +626,7 @@ class Rows:
         return side.progress, b"".join(sent)
 
     def text(self):
-        return "\n\n".join([self.heading, *self.paragraphs]) + "\n"
+        return "\n\n".join([f"{self.heading}\nparagraphs connection", *self.paragraphs]) + "\n"
 
 
 # The connections
@@ -776,14 +774,16 @@ def refused_logins(rows):
     for message in [None, b"", b"\0", b"\0user\0crayon", b"\0user\0pencil\0more", b"user\0user\0pencil",
                     b"\0nobody\0pencil", b"\0user", b"\0user\0pencil "]:
         unit = spelled("Init", b"PLAIN", message, None)
-        rows.add("A message of PLAIN.", server_line("PLAIN"), [SASL, unit + AMQP])
-    rows.add("Another mechanism to PLAIN, which reads its message.", server_line("PLAIN"),
+        lenient = " lenient" if message in (b"user\0user\0pencil", b"\0user\0pencil\0more") else ""
+        rows.add("A message of PLAIN.", server_line("PLAIN") + lenient, [SASL, unit + AMQP])
+    rows.add("Another mechanism to PLAIN, which reads its message.", server_line("PLAIN") + " lenient",
              [SASL, spelled("Init", b"EXTERNAL", b"\0user\0pencil", b"h")])
     for mechanism, message in [(b"ANONYMOUS", None), (b"ANONYMOUS", b"me@example.org"), (b"PLAIN", b"\0user\0pencil")]:
         unit = spelled("Init", mechanism, message, None)
-        rows.add("An init to ANONYMOUS.", server_line("ANONYMOUS"), [SASL, unit + AMQP])
+        lenient = " lenient" if mechanism == b"PLAIN" else ""
+        rows.add("An init to ANONYMOUS.", server_line("ANONYMOUS") + lenient, [SASL, unit + AMQP])
     for user, password in [(b"", b""), ("é".encode(), b"")]:
-        login = Login(server_line("PLAIN", user, password), client_line("PLAIN", user, password))
+        login = Login(server_line("PLAIN", user, password) + " lenient", client_line("PLAIN", user, password))
         for side in ("server", "client"):
             rows.add(f"An empty password: the {side}.", login.line(side), login.units[side])
 
@@ -1044,6 +1044,8 @@ HEADING = """\
 #                             of ANONYMOUS or EXTERNAL
 #     server .. signs         the data of an outcome Ok are sent in a challenge first, and an empty response gets the Ok
 #     server .. asks signs    both
+#     server .. lenient       a server of PLAIN or ANONYMOUS that reads each init as one of it, and PLAIN with any identity
+#                             and any password of the user
 #     client .. by-challenge  a client of SCRAM that takes the server-final message in a challenge too
 # and has a line for each call with bytes as they came, and with what is answered:
 #     NONCE BYTES => TAKEN SENT STANDING
@@ -1057,10 +1059,19 @@ HEADING = """\
 MODEL = "a model in Python, `tools/models/negotiations.py`, which wrote this file."
 
 
+def other_nonces(rows):
+    """Logins of a client with a limit on the iterations, with two nonces of each side."""
+    for ours, theirs in [(1, 2), (1, 4), (5, 2), (5, 4)]:
+        login = Login(server_line(MAIN), client_line(MAIN, limit=16), bytes([ours]) * 32, bytes([theirs]) * 32)
+        for side in ("server", "client"):
+            rows.add(f"A login with the nonces {ours} and {theirs}: the {side}.", login.line(side),
+                     [*login.units[side], AMQP], login.nonces[side])
+
+
 def connections():
     rows = Rows(HEADING + MODEL)
     for part in (whole_logins, headers, sizes, types, out_of_turn, refused_logins, scram_messages, large_replies,
-                 other_spellings, single_messages, more_challenges):
+                 other_spellings, single_messages, more_challenges, other_nonces):
         part(rows)
     return rows
 
@@ -1068,9 +1079,9 @@ def connections():
 def outside():
     """The runs of other programs over bodies, each as a connection."""
     heading, *runs = PEERS.read_text().split("\n\n")
-    source = heading[heading.index("# Source: "):].removeprefix("# Source: ")
+    source = heading[heading.index("# Source: "):].removeprefix("# Source: ").partition("\nparagraphs ")[0]
     rows = Rows(f"{HEADING}{source}\n# Headers, sizes and the pieces were made, by `tools/models/negotiations.py`, which wrote "
-                "this file from\n# crates/test_vectors_sasl/data/peer-runs.txt. Of the last ones, from peer-streams.txt, "
+                "this file from\n# crates/test_driver_frames/data/peer-runs.txt. Of the last ones, from peer-streams.txt, "
                 "all bytes are real.")
     for at, run in enumerate(runs):
         side, *lines = [it for it in run.splitlines() if it and not it.startswith("#")]
@@ -1113,295 +1124,62 @@ def agree(events, progress, sent):
         sys.exit(f"not as recorded: {events} {progress}")
 
 
-CUTS = """\
-# Logins that are cut at each pair of places: each is a connection in the form of connections.txt, with one line
-# for the whole of its bytes. Handed in in three pieces, of which any can be empty, until all is taken or the side
-# is at its end, and each time with the same nonce, they are answered as the line says: so many are taken, this is
-# sent, and so it ends.
+LOGINS = """\
+# Whole logins, passed to one call in pieces: the side in the form of connections.txt, the nonce and the pieces, what is
+# sent, how many pieces are taken whole, how many bytes of the next, and the progress.
 # Source: """
 
 
-def fed(side, stream, ends, nonces):
-    """Hands a stream in in pieces that end at these places, each until it is taken or the side is at its end: how
-    many bytes are taken, what is sent, and how many calls that took."""
-    start, taken, sent, calls = 0, 0, b"", 0
-    for end, nonce in zip(ends, nonces):
-        piece = stream[start:end]
-        start = end
-        while True:
-            one, said = side.receive(piece, nonce)
-            taken, sent, calls = taken + one, sent + said, calls + 1
-            piece = piece[one:]
-            if not piece or side.progress != "InProgress":
-                break
-    return taken, sent, calls
+def negotiated(side, pieces, nonce):
+    """What a side has sent, and how many pieces it has taken whole, and how many bytes of the next."""
+    sent = b""
+    for at, piece in enumerate(pieces):
+        taken = 0
+        while taken < len(piece) and side.progress == "InProgress":
+            one, said = side.receive(piece[taken:], nonce)
+            taken, sent = taken + one, sent + said
+        if taken < len(piece):
+            return sent, at, taken
+    return sent, len(pieces), 0
 
 
-def cuts():
-    """The paragraphs of the file, and how many connections and calls all cuts are."""
-    paragraphs, connections, calls = [CUTS + MODEL], 0, 0
+def logins():
+    """The rows of whole logins, cut into pieces of three lengths."""
+    lines = [LOGINS + MODEL + "\n"]
     for mechanism in (MAIN, "PLAIN"):
         login = Login(server_line(mechanism), client_line(mechanism))
-        for name in ("server", "client"):
+        calls = [("client_connection", "client"), ("server_connection", "server")]
+        for call, name in [*calls, *[("scram_server_connection", "server")] * (mechanism == MAIN)]:
             line, [nonce] = login.line(name), login.nonces[name]
             stream = b"".join(login.units[name]) + AMQP
-            new = side_of(line)
-            side = copy.copy(new)
-            side.machine = copy.copy(new.machine)
-            taken, sent, _ = fed(side, stream, [len(stream)], [nonce])
-            paragraphs.append(f"# {mechanism}: the {name}.\n{line}\n{nonce_word(nonce)} {stream.hex()} => "
-                              f"{taken} {hexed(sent)} {side.progress}")
-            for first in range(len(stream) + 1):
-                for second in range(first, len(stream) + 1):
-                    again = copy.copy(new)
-                    again.machine = copy.copy(new.machine)
-                    found = fed(again, stream, [first, second, len(stream)], [nonce] * 3)
-                    if (*found[:2], again.progress) != (taken, sent, side.progress):
-                        sys.exit(f"cut at {first} and {second}: {line}")
-                    connections, calls = connections + 1, calls + found[2]
-    return "\n\n".join(paragraphs) + "\n", connections, calls
-
-
-# Strangers
-
-STRANGERS = """\
-# What the connections of strangers are made of: a paragraph for each side, with its line as in connections.txt, and
-# then a line for each of its logins,
-#     NONCE UNIT..
-# its nonce in them, and the header and the frames that it is given. What strangers make of them says
-# crates/test_vectors_sasl/src/connections/strangers.rt, and `stdout` what comes of it.
-# Source: """
-LISTED = """\
-# What the lists of strangers are made of: the user of their server,
-#     VERSION USER PASSWORD SALT COUNT
-# and then a line for each login, which has the nonce and the body of its mechanisms, init, challenge, response and
-# outcome, in this order. What strangers make of them says crates/test_vectors_sasl/src/strangers.rt.
-# Source: """
-LISTS = 5000
-
-
-class Numbers:
-    """The generator of crates/test_vectors_sasl/src/numbers.rt."""
-
-    def __init__(self, seed):
-        self.state = seed
-
-    def below(self, bound):
-        self.state = (self.state * 6364136223846793005 + 1442695040888963407) % 2**64
-        return 0 if bound == 0 else (self.state >> 32) % bound
-
-
-def flipped(unit, place, bit):
-    """A unit with one bit flipped."""
-    if not unit:
-        return unit
-    place %= len(unit)
-    return unit[:place] + bytes([unit[place] ^ 1 << bit]) + unit[place + 1:]
-
-
-def altered(numbers, logins):
-    """The units of a login with none to three of them altered, and its nonce."""
-    nonce, units = logins[numbers.below(len(logins))]
-    units = list(units)
-    for _ in range(numbers.below(4)):
-        place, other = numbers.below(len(units)), numbers.below(len(units))
-        way, number = numbers.below(6), numbers.below(4096)
-        unit = units[place]
-        if way == 0:
-            units[place] = unit[:number % max(len(unit), 1)]
-        elif way == 1:
-            units.insert(place, unit)
-        elif way == 2:
-            units[place], units[other] = units[other], units[place]
-        elif way == 3:
-            units[place] = flipped(unit, number // 8, number % 8)
-        elif way == 4:
-            nonce = bytes([number % 6]) * 32
-        else:
-            others = logins[number % len(logins)][1]
-            units[place] = others[other] if other < len(others) else b""
-    return nonce, b"".join(units)
-
-
-def places(numbers, length):
-    """Where the pieces of a stream end, which are of at most that many bytes."""
-    most = [4, 16, 64, 256, 1024][numbers.below(5)]
-    ends, end = [], 0
-    while end < length:
-        end = min(end + 1 + numbers.below(most), length)
-        ends.append(end)
-    return ends
-
-
-def play(line, logins):
-    """Five thousand connections of a side, and the text that the program prints of them."""
-    numbers, new = Numbers(2026), side_of(line)
-    all_taken = all_sent = all_calls = mixed = 0
-    found = {}
-    for _ in range(LISTS):
-        nonce, stream = altered(numbers, logins)
-        ends = places(numbers, len(stream))
-        side = copy.copy(new)
-        side.machine = copy.copy(new.machine)
-        taken, sent, calls = fed(side, stream, ends, [nonce] * len(ends))
-        all_taken, all_sent, all_calls = all_taken + taken, all_sent + len(sent), all_calls + calls
-        for byte in sent:
-            mixed = (mixed * 31 + byte) % 2**64
-        found[side.progress] = found.get(side.progress, 0) + 1
-    name = line.split(" ")[0]
-    heads = [f"strangers of a {name}: {LISTS} connections, {all_calls} calls, {all_taken} bytes taken, "
-             f"{all_sent} sent, {mixed:016x}"]
-    return "\n".join(heads + [f"    {count} {progress}" for progress, count in found.items()]) + "\n"
-
-
-def events_of(login):
-    """The events of a login, each a nonce and a body, which lacks the four bytes of a size."""
-    none = bytes(32)
-    (theirs, ours), (_, init, response) = (login.nonces[it][0] for it in ("server", "client")), login.units["server"]
-    _, mechanisms, challenge, outcome = login.units["client"]
-    units = [(ours, mechanisms), (theirs, init), (none, challenge), (none, response), (none, outcome)]
-    return [(nonce, unit[4:]) for nonce, unit in units]
-
-
-def listed(server, logins):
-    """The paragraphs of the file of lists."""
-    lines = [" ".join(f"{nonce_word(nonce)} {body.hex()}" for nonce, body in it) for it in logins]
-    return LISTED + MODEL + "\n\n" + "\n".join([server.removeprefix("server "), *lines]) + "\n"
-
-
-def altered_list(numbers, logins):
-    """A side's events of two logins, with none to three of them altered."""
-    events = []
-    for _ in range(2):
-        events += logins[numbers.below(len(logins))]
-    for _ in range(numbers.below(4)):
-        place, other, way = (numbers.below(it) for it in (len(events), len(events), 5))
-        nonce, body = events[place]
-        if way == 0:
-            events[place] = nonce, body[:numbers.below(len(body))]
-        elif way == 1:
-            events.append(events[place])
-        elif way == 2:
-            events[place], events[other] = events[other], events[place]
-        elif way == 3:
-            events[place] = nonce, flipped(body, numbers.below(len(body)), numbers.below(8))
-        else:
-            events[place] = bytes([numbers.below(6)]) * 32, body
-    return events
-
-
-def proof_of(final):
-    """The proof of a client-final message, which is its last attribute (RFC 5802, section 7)."""
-    return unbase64(attribute(final.split(b",")[-1], b"p=", "ProofNotFoundInClientFinal"))
-
-
-def accepts(machine, events):
-    """What a server accepts of a list: for each outcome Ok the proof, and what the server says with it. A challenge is
-    open until the next one, or until it is met; a body that is not read, or is refused, changes nothing."""
-    accepted, challenged = [], None
-    for nonce, body in events:
-        try:
-            kind, fields = read(body)
-            if kind == "Init":
-                asked = copy.copy(machine)
-                asked.init(*fields[:2], nonce)
-                challenged = asked
-            elif kind == "Response" and challenged is not None:
-                _, (_, verifier) = challenged.response(*fields)
-                accepted.append((proof_of(*fields), verifier))
-                challenged = None
-        except (Fault, Refused):
-            pass
-    return accepted
-
-
-def answers(machine, events):
-    """What a client answers to a list: the proofs that it shows, and the verifier of each outcome Ok that it reports. A
-    login begins at each offer of the mechanism, has one answer, and ends when the server is authenticated. A body that
-    is not read, or is rejected, changes nothing."""
-    shown, believed, begun = [], [], None
-    for nonce, body in events:
-        try:
-            kind, fields = read(body)
-            if kind == "Mechanisms" and machine.mechanism.encode() in fields[0]:
-                begun = copy.copy(machine)
-                begun.first(nonce)
-            elif kind == "Challenge" and begun is not None and begun.signature is None:
-                shown.append(proof_of(begun.challenge(*fields)))
-            elif kind == "Outcome" and fields[0] == 0 and begun is not None:
-                begun.believe(fields[1])
-                believed.append(fields[1].split(b",")[0])
-                begun = None
-        except (Fault, Refused):
-            pass
-    return shown, believed
-
-
-def play_lists(server, client, logins):
-    """Five thousand lists of each side, and the line that the program prints of them. An audit finds each pair of an
-    outcome that the client reports and one of the server's that says the same, and each pair of a proof that the client
-    shows and the same one that the server accepts."""
-    numbers, server, client = Numbers(2026), side_of(server).machine, side_of(client).machine
-    given = {"client": [it[::2] for it in logins], "server": [it[1::2] for it in logins]}
-    all_accepted = all_reported = found = 0
-    for _ in range(LISTS):
-        shown, believed = answers(client, altered_list(numbers, given["client"]))
-        accepted = accepts(server, altered_list(numbers, given["server"]))
-        all_accepted, all_reported = all_accepted + len(accepted), all_reported + len(believed)
-        found += sum(it == verifier for it in believed for _, verifier in accepted)
-        found += sum(it == proof for it in shown for proof, _ in accepted)
-    return f"strangers: {2 * LISTS} lists, {all_accepted} accepted, {all_reported} reported, {found} findings\n"
-
-
-def strangers():
-    """The paragraphs of the two files, and what the program prints of connections and of lists."""
-    server, client = server_line(MAIN), client_line(MAIN, limit=16)
-    logins = [Login(server, client, bytes([ours]) * 32, bytes([theirs]) * 32)
-              for ours, theirs in [(1, 2), (1, 4), (5, 2), (5, 4)]]
-    paragraphs, printed = [STRANGERS + MODEL], []
-    for name, line in (("server", server), ("client", client)):
-        given = [(it.nonces[name][0], it.units[name] + [AMQP]) for it in logins]
-        lines = [" ".join([nonce_word(nonce), *(it.hex() for it in units)]) for nonce, units in given]
-        paragraphs.append("\n".join([line, *lines]))
-        printed.append(play(line, given))
-    events = [events_of(it) for it in logins]
-    printed.append(play_lists(server, client, events))
-    return "\n\n".join(paragraphs) + "\n", listed(server, events), "".join(printed)
+            for length in (MOST, 50, 7):
+                side, pieces = side_of(line), [stream[it:it + length] for it in range(0, len(stream), length)]
+                sent, whole, taken = negotiated(side, pieces, nonce)
+                given = " ".join([nonce_word(nonce), *(it.hex() for it in pieces)])
+                lines.append(f"{call} {line.partition(' ')[2]} {given} => {hexed(sent)} {whole} {taken} {side.progress}")
+    return "\n".join(lines) + "\n"
 
 
 def made():
-    """The files, and what the program prints of them."""
-    files, printed = {}, []
-    for name, rows in (("connections.txt", connections()), ("peer-connections.txt", outside())):
-        files[name] = rows.text()
-        printed.append(f"{name}: {len(rows.paragraphs)} connections, {rows.calls} calls\n")
-    files["cuts.txt"], count, calls = cuts()
-    printed.append(f"cuts.txt: {count} connections, {calls} calls\n")
-    files["connection-strangers.txt"], files["strangers.txt"], came = strangers()
-    return files, "".join([*printed, came])
+    """The files."""
+    files = {CONNECTIONS / name: rows.text()
+             for name, rows in (("connections.txt", connections()), ("peer-connections.txt", outside()))}
+    files[CONNECTIONS / "calls-logins.txt"] = logins()
+    return files
 
 
 def check():
-    files, printed = made()
     wrong = 0
-    for name, wanted in files.items():
-        path = DATA / name
+    for path, wanted in made().items():
         if not path.is_file() or path.read_text() != wanted:
             print(f"{path.relative_to(ROOT)}: not as it would be written")
             wrong = 1
-    if not (CRATE / "stdout").read_text().endswith(f"\n{printed}"):
-        print("crates/test_vectors_sasl/stdout: does not end with what would be printed")
-        wrong = 1
-    print(printed, end="")
     return wrong
 
 
 def write():
-    files, printed = made()
-    DATA.mkdir(exist_ok=True)
-    for name, text in files.items():
-        (DATA / name).write_text(text)
-    print(printed, end="")
+    for path, text in made().items():
+        path.write_text(text)
     return 0
 
 

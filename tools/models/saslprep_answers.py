@@ -1,5 +1,5 @@
 #!/usr/bin/env python3
-"""Writes what other programs answer to SASLprep: the rows of crates/test_vectors_scram/data/.
+"""Writes what other programs answer to SASLprep: the rows of crates/test_driver_texts/data/.
 
     tools/models/saslprep_answers.py write      writes the rows
     tools/models/saslprep_answers.py check      compares the files with what would be written
@@ -21,7 +21,7 @@ sys.path.insert(0, os.path.join(os.path.dirname(os.path.dirname(os.path.realpath
 import saslprep_tables as tables
 
 ROOT = os.path.dirname(os.path.dirname(os.path.dirname(os.path.realpath(__file__))))
-DATA = os.path.join(ROOT, "crates", "test_vectors_scram", "data")
+DATA = os.path.join(ROOT, "crates", "test_driver_texts", "data")
 OLD = unicodedata.ucd_3_2_0
 CODE_POINTS = [c for c in range(0x110000) if not 0xD800 <= c < 0xE000]
 
@@ -143,6 +143,8 @@ def code_points():
         "# decomposes, so that a query is changed; differences.txt has what Unicode 14 makes of them, and five others,",
         "# which are left out here. Written by tools/models/saslprep_answers.py.",
         "",
+        "call code-points",
+        "",
     ]
     rows = []
     for c in CODE_POINTS:
@@ -174,6 +176,8 @@ def differences():
         "#     TEXT MODE, NOT THEIRS => OURS",
         f"# with the answer of Python's normalization of Unicode {unicodedata.unidata_version}. Written by"
         " tools/models/saslprep_answers.py.",
+        "",
+        "call prepared",
         "",
         "# Assigned in Unicode 3.2, corrected since (Corrigendum 4)",
     ]
@@ -217,6 +221,8 @@ def texts():
         "#     TEXT MODE => ANSWER",
         "# with the mode `stored` or `query`, and the answer as in code-points.txt; a refusal names its code point,",
         "# which Python alone tells. Written by tools/models/saslprep_answers.py.",
+        "",
+        "call prepared",
         "",
     ]
     chance = random.Random(4013)

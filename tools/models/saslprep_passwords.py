@@ -1,5 +1,5 @@
 #!/usr/bin/env python3
-"""Writes what other programs make of passwords that SASLprep changes: two files of crates/test_vectors_scram/data/.
+"""Writes what other programs make of passwords that SASLprep changes: two files of crates/test_driver_texts/data/.
 
     tools/models/saslprep_passwords.py write    writes the rows
     tools/models/saslprep_passwords.py check    compares the files with what would be written
@@ -18,7 +18,7 @@ import sys
 sys.dont_write_bytecode = True
 import saslprep_answers as answers
 
-DATA = os.path.join(answers.ROOT, "crates", "test_vectors_scram", "data")
+DATA = os.path.join(answers.ROOT, "crates", "test_driver_texts", "data")
 HASHES = {"SCRAM-SHA-1": "sha1", "SCRAM-SHA-256": "sha256", "SCRAM-SHA-512": "sha512"}
 
 # Passwords as they are typed: of printable ASCII, examples of RFC 4013, section 3, and texts that are composed,
@@ -37,6 +37,8 @@ RECORDS = """\
 # texts; the keys are those of Python's `hashlib` and `hmac`, and those of SHA-1 and SHA-256 also GNU SASL 2.2's, which
 # prepares the typed text itself. `tools/models/saslprep_passwords.py` wrote the rows.
 
+call prepared-record
+
 """
 
 SECRETS = """\
@@ -46,6 +48,9 @@ SECRETS = """\
 #     prepared-both PASSWORD KEYS
 # Keys, proofs and signatures are those of Python's `hashlib` and `hmac`, and the passwords prepared as in
 # `prepared-records.txt`. `tools/models/saslprep_passwords.py` wrote the rows.
+
+call client-secret
+
 """
 
 

@@ -1,7 +1,7 @@
 #!/usr/bin/env python3
 """Messages of SCRAM as sides read them that test the grammar of RFC 5802, section 7, written here as regular expressions.
 
-    tools/models/strict_messages.py write   writes crates/test_vectors_scram/data/strict-messages.txt
+    tools/models/strict_messages.py write   writes crates/test_driver_texts/data/strict-messages.txt
     tools/models/strict_messages.py check   compares that file with what would be written, and reads the SCRAM messages that
                                             other programs sent by the same grammar
 
@@ -13,8 +13,8 @@ import sys
 from pathlib import Path
 
 DATA = Path(__file__).resolve().parents[2] / "crates"
-FILE = DATA / "test_vectors_scram/data/strict-messages.txt"
-PEERS = DATA / "test_vectors_sasl/data/peer-runs.txt"
+FILE = DATA / "test_driver_texts/data/strict-messages.txt"
+PEERS = DATA / "test_driver_frames/data/peer-runs.txt"
 
 HEAD = """# Messages as sides read them that test the grammar. A line `given SIDE` says of which sides the rows after it are:
 #     strict             a strict side
@@ -26,6 +26,8 @@ HEAD = """# Messages as sides read them that test the grammar. A line `given SID
 # exchange with the nonce of RFC 5802, section 5, or `server-final` to a client that waits for the signature of that section.
 # Source: written by `tools/models/strict_messages.py`, by the grammar of RFC 5802, section 7, as regular expressions of
 # Python.
+
+call strict-message
 """
 
 # RFC 5802, section 7. Each message is matched as text, so that the classes of UTF-8 are all characters but some.

@@ -1,0 +1,164 @@
+//! Clients, by the words of a row.
+
+use crate::events::{Side, answer_events};
+use crate::servers::take_restored;
+use fe2o3_sasl_negotiation::{
+    ChannelBinding, ChannelData, ChannelKind, ClientNegotiation, ClientPolicy, ClientSecret,
+    Password, PolicyClient, PolicyLogin, SaslProfile, ScramClient, ScramVersion, Snapshot,
+    restored_client,
+};
+use test_rows::Row;
+
+/// A client's profile, the hostname of its init, and the maximum size of a frame.
+#[derive(Drop)]
+pub struct Named {
+    pub profile: SaslProfile,
+    pub hostname: Option<String>,
+    limit: usize,
+}
+
+/// Reads a text after a word, if that is next.
+pub fn text_after(row: &mut Row<'_>, word: &str) -> Option<String> {
+    if row.takes(word) {
+        return Some(row.text_of_digits());
+    }
+    None
+}
+
+/// Reads the maximum size of a frame: `limit N`, or 512 without these words.
+pub fn frame_limit(row: &mut Row<'_>) -> usize {
+    if row.takes("limit") {
+        return row.number() as usize;
+    }
+    512
+}
+
+/// Reads a client: `MECHANISM USER PASSWORD ITERATIONS HOSTNAME`, where `none` is no hostname, and then the options
+/// `by-challenge`, if it accepts the signature of the server in a challenge too, `for IDENTITY` and `limit N`.
+pub fn named_by(row: &mut Row<'_>) -> Option<Named> {
+    let (mechanism, user, password) = (row.word(), row.text_of_digits(), row.text_of_digits());
+    let iterations = row.number();
+    let hostname = if row.takes("none") {
+        None
+    } else {
+        Some(row.text_of_digits())
+    };
+    let by_challenge = row.takes("by-challenge");
+    let identity = text_after(row, "for");
+    let limit = frame_limit(row);
+    let profile = match mechanism {
+        "ANONYMOUS" => SaslProfile::Anonymous,
+        "EXTERNAL" => SaslProfile::External,
+        "ANONYMOUS-AS" => SaslProfile::anonymous_as(user),
+        "EXTERNAL-AS" => SaslProfile::external_as(user),
+        "PLAIN" => SaslProfile::plain(user, password),
+        name => {
+            let version = ScramVersion::from_mechanism(name)?;
+            let client = ScramClient::new(user, password, version)
+                .with_iteration_limit(iterations)
+                .signature_by_challenge(by_challenge)
+                .acting_for(identity);
+            SaslProfile::from(client)
+        }
+    };
+    Some(Named {
+        profile,
+        hostname,
+        limit,
+    })
+}
+
+impl Side for ClientNegotiation {
+    fn wants_nonce(&self) -> bool {
+        self.wants_nonce()
+    }
+
+    fn saved(&self) -> Option<Snapshot<'_>> {
+        Some(self.snapshot())
+    }
+
+    /// Restores the side from a copy of its profile.
+    fn restore(&mut self, row: &mut Row<'_>) {
+        let hostname = text_after(row, "hostname");
+        let profile = match self.profile().clone() {
+            Ok(profile) => profile,
+            Err(error) => return row.refuse(error),
+        };
+        row.begin("ClientNegotiation::restore");
+        let restored = ClientNegotiation::restore(row.alloc, profile, hostname, &self.snapshot());
+        row.end();
+        take_restored(row, self, restored);
+    }
+
+    fn restore_copy(&mut self, row: &mut Row<'_>) {
+        let hostname = text_after(row, "hostname");
+        let profile = match self.profile().clone() {
+            Ok(profile) => profile,
+            Err(error) => return row.refuse(error),
+        };
+        row.begin("restored_client");
+        let restored = restored_client(row.alloc, self, profile, hostname);
+        row.end();
+        take_restored(row, self, restored);
+    }
+}
+
+impl Side for PolicyClient<'_> {
+    fn wants_nonce(&self) -> bool {
+        self.wants_nonce()
+    }
+}
+
+/// Answers the lines of a paragraph by a client of a profile.
+pub fn answer_paragraph<'a>(row: &mut Row<'a>, lines: &'a str) {
+    match named_by(row) {
+        Some(named) => {
+            let Named {
+                profile,
+                hostname,
+                limit,
+            } = named;
+            let mut side = ClientNegotiation::with_frame_limit(row.alloc, profile, hostname, limit);
+            answer_events(row, &mut side, lines);
+        }
+        None => row.refuse("no profile"),
+    }
+}
+
+/// Reads what a client may log in by: `MECHANISM`, the weakest SCRAM, and the options `plain`, `channel KIND DATA` and
+/// `must-bind`.
+fn policy_of(row: &mut Row<'_>, mechanism: &str) -> Option<ClientPolicy> {
+    let mut policy = ClientPolicy::scram_from(ScramVersion::from_mechanism(mechanism)?);
+    if row.takes("plain") {
+        policy = policy.allow_plain();
+    }
+    if row.takes("channel") {
+        let (kind, data) = (ChannelKind::from_name(row.word())?, row.digits());
+        let cbind_data = ChannelData::new(&data).ok()?;
+        policy = policy.bind_channel(ChannelBinding { kind, cbind_data });
+    }
+    if row.takes("must-bind") {
+        policy = policy.must_bind();
+    }
+    Some(policy)
+}
+
+/// Answers the lines of a paragraph by a client of a policy: `MECHANISM USER PASSWORD`, the options of the policy,
+/// `for IDENTITY`, `hostname HOSTNAME` and `limit N`.
+pub fn answer_policy_paragraph<'a>(row: &mut Row<'a>, lines: &'a str) {
+    let (mechanism, user, password) = (row.word(), row.text_of_digits(), row.text_of_digits());
+    let Some(policy) = policy_of(row, mechanism) else {
+        return row.refuse("no policy");
+    };
+    let (identity, hostname) = (text_after(row, "for"), text_after(row, "hostname"));
+    let login = PolicyLogin {
+        username: &user,
+        secret: ClientSecret::Password(Password::Typed(&password)),
+        policy,
+        acts_for: identity.as_deref(),
+        hostname,
+    };
+    let limit = frame_limit(row);
+    let mut side = PolicyClient::with_frame_limit(row.alloc, login, limit);
+    answer_events(row, &mut side, lines);
+}

@@ -1,0 +1,195 @@
+//! The calls on a side of a connection, one after another, and what each answers.
+
+use bytes::BytesMut;
+use fe2o3_sasl_negotiation::{
+    CloseReason, ConnectionSide, Endpoint, Meter, Progress, Role, Snapshot,
+};
+use test_rows::Row;
+
+/// A side of a server, or of a client.
+pub trait Side {
+    /// Returns whether the next call may use its nonce.
+    fn wants_nonce(&self) -> bool;
+
+    /// Says the user who has logged in, if it is a server, and the identity that the user acts for, if there is one.
+    fn say_user(&self, _row: &mut Row<'_>) {}
+
+    /// Returns what the side saves, if it can be saved.
+    fn saved(&self) -> Option<Snapshot<'_>> {
+        None
+    }
+
+    /// Restores what the side saves, over the acceptor or the profile that the row names, and says the error if there
+    /// is one.
+    fn restore(&mut self, row: &mut Row<'_>) {
+        row.refuse("no snapshot");
+    }
+
+    /// Restores what the side saves, over a copy of its acceptor or of its profile.
+    fn restore_copy(&mut self, row: &mut Row<'_>) {
+        row.refuse("no snapshot");
+    }
+}
+
+/// Says a progress, or why a negotiation has failed.
+pub fn say_progress(row: &mut Row<'_>, progress: Progress) {
+    match progress {
+        Progress::Failed(CloseReason::ProtocolHeaderMismatch(_)) => {
+            row.say("ProtocolHeaderMismatch");
+        }
+        Progress::Failed(why) => {
+            let text = format!(in row.alloc; "{why:?}");
+            let text = row.made(text, String::new(row.alloc));
+            for word in text.split(['(', ')']) {
+                if !word.is_empty() {
+                    row.say(word);
+                }
+            }
+        }
+        progress => row.show(&progress),
+    }
+}
+
+/// What is sent, and the HMAC values that are counted.
+#[derive(Drop)]
+struct Wire {
+    out: BytesMut,
+    cost: u64,
+}
+
+/// Answers the lines of a paragraph, `EVENT => ANSWER`, one after another.
+pub fn answer_events<'a, E, R>(row: &mut Row<'a>, side: &mut ConnectionSide<E, R>, lines: &'a str)
+where
+    E: Endpoint<R>,
+    R: Role,
+    ConnectionSide<E, R>: Side,
+{
+    let mut wire = Wire {
+        out: BytesMut::new(row.alloc),
+        cost: 0,
+    };
+    for line in lines.lines() {
+        if let Some((event, wanted)) = line.split_once(" => ") {
+            row.turn_to(event);
+            answer(row, side, &mut wire);
+            if row.ran_out() {
+                row.turn_to(event);
+                answer(row, side, &mut wire);
+            }
+            row.agree(wanted);
+        }
+    }
+}
+
+/// Answers an event.
+fn answer<E, R>(row: &mut Row<'_>, side: &mut ConnectionSide<E, R>, wire: &mut Wire)
+where
+    E: Endpoint<R>,
+    R: Role,
+    ConnectionSide<E, R>: Side,
+{
+    if row.takes("end") {
+        row.begin_free("ConnectionSide::end_of_input");
+        let progress = side.end_of_input();
+        row.end();
+        say_progress(row, progress);
+    } else if row.takes("extended") {
+        side.accept_extended_headers(true);
+        row.say("accepted");
+    } else if row.takes("refusal") {
+        peek_refusal(row, side);
+    } else if row.takes("why") {
+        say_why(row, side.progress());
+    } else if row.takes("cost") {
+        row.say(wire.cost);
+    } else if row.takes("wants-nonce") {
+        row.say(side.wants_nonce());
+    } else if row.takes("restore") {
+        side.restore(row);
+    } else if row.takes("restore-copy") {
+        side.restore_copy(row);
+    } else if row.takes("save") {
+        say_saved(row, side.saved());
+    } else if row.takes("frame") {
+        peek_frame(row, side.saved());
+    } else {
+        receive(row, side, wire);
+    }
+}
+
+/// Passes bytes with a nonce, and says how many are taken, what is sent, and the progress.
+fn receive<E, R>(row: &mut Row<'_>, side: &mut ConnectionSide<E, R>, wire: &mut Wire)
+where
+    E: Endpoint<R>,
+    R: Role,
+    ConnectionSide<E, R>: Side,
+{
+    let (nonce, bytes, mut meter) = (row.nonce(), row.digits(), Meter::new());
+    row.begin("ConnectionSide::receive");
+    let received = side.receive(row.alloc, &bytes, &nonce, &mut meter, &mut wire.out);
+    row.end();
+    match &received {
+        Ok(received) => {
+            wire.cost = wire.cost.saturating_add(meter.count());
+            row.say(received.taken);
+            row.say_digits(wire.out.as_slice());
+            wire.out.clear();
+            say_progress(row, side.progress());
+            side.say_user(row);
+        }
+        Err(error) => row.show(error),
+    }
+}
+
+/// Says the additional data of the outcome that bytes complete.
+fn peek_refusal<E: Endpoint<R>, R: Role>(row: &mut Row<'_>, side: &ConnectionSide<E, R>) {
+    let bytes = row.digits();
+    row.begin("ConnectionSide::peek_refusal");
+    let found = side.peek_refusal(row.alloc, &bytes);
+    row.end();
+    match &found {
+        Ok(Some(data)) => row.say_digits(data),
+        Ok(None) => row.say("none"),
+        Err(error) => row.show(error),
+    }
+}
+
+/// Says why a negotiation has failed, in a sentence, and another header than that of SASL.
+fn say_why(row: &mut Row<'_>, progress: Progress) {
+    if let Progress::Failed(why) = progress {
+        row.say(why);
+        if let CloseReason::ProtocolHeaderMismatch(header) = why {
+            row.say_digits(&header);
+        }
+    }
+}
+
+/// Says what a side saves.
+fn say_saved(row: &mut Row<'_>, saved: Option<Snapshot<'_>>) {
+    let Some(saved) = saved else {
+        return row.refuse("no snapshot");
+    };
+    say_progress(row, saved.progress);
+    row.show(&saved.expected);
+    row.say(saved.limit);
+    row.say(saved.extended_headers);
+    row.say_digits(saved.held);
+    row.say(saved.user.unwrap_or("none"));
+    row.say(saved.acts_for.unwrap_or("none"));
+}
+
+/// Says the body of the frame that bytes complete.
+fn peek_frame(row: &mut Row<'_>, saved: Option<Snapshot<'_>>) {
+    let bytes = row.digits();
+    let Some(saved) = saved else {
+        return row.refuse("no snapshot");
+    };
+    row.begin("Snapshot::peek_frame");
+    let found = saved.peek_frame(row.alloc, &bytes);
+    row.end();
+    match &found {
+        Ok(Some(body)) => row.say_digits(body),
+        Ok(None) => row.say("none"),
+        Err(error) => row.show(error),
+    }
+}

@@ -1,0 +1,276 @@
+//! Clients: profiles, and those of SCRAM in whole runs.
+
+use crate::frames::say_body;
+use crate::replies::{Reply, made, say_all, say_made, say_outcome};
+use crate::runs::{Run, Side, check_side, check_steps};
+use crate::words::{bound_channel, version};
+use fe2o3_sasl::*;
+use fe2o3_sasl_wire::{Frame, FrameView, view_frame};
+use test_rows::Row;
+
+/// A profile as a side, and the hostname of its init.
+#[derive(Drop)]
+struct Client {
+    profile: Box<SaslProfile>,
+    hostname: Option<String>,
+}
+
+impl Side for Client {
+    fn run(&self, row: &mut Row<'_>, events: &[Event]) {
+        let copy = call!(row: "SaslProfile::clone" => self.profile.clone());
+        if let Some(mut copy) = made(row, copy) {
+            let hostname = self.hostname.as_deref();
+            let replies =
+                call!(row: "run_profile" => run_profile(row.alloc, &mut copy, events, hostname));
+            say_all(row, &replies);
+        }
+    }
+
+    fn step(&mut self, row: &mut Row<'_>, call: &str, event: &Event) {
+        let hostname = self.hostname.as_deref();
+        step(row, &mut self.profile, hostname, call, event);
+    }
+}
+
+/// Says the answer of a profile to an event by a call: one of the steps, one of the profile's own, or a part of its init
+/// with the nonce.
+fn step(
+    row: &mut Row<'_>,
+    profile: &mut SaslProfile,
+    hostname: Option<&str>,
+    call: &str,
+    event: &Event,
+) {
+    let (alloc, mut meter) = (row.alloc, Meter::new());
+    let Event { body, nonce } = event;
+    let reply = match (call, view_frame(body)) {
+        ("step", _) => call!(row: "profile_step" => profile_step(alloc, profile, event, hostname)),
+        ("body", _) =>
+            call!(row: "profile_body_step" => profile_body_step(alloc, profile, body, nonce, hostname, &mut meter)),
+        ("frame", Ok((view, _))) =>
+            call!(row: "profile_frame_step" => profile_frame_step(alloc, profile, view, nonce, hostname, &mut meter)),
+        (_, Ok((view, _))) => return step_itself(row, profile, hostname, call, (view, nonce)),
+        _ => return say_part(row, profile, call, nonce),
+    };
+    reply.say(row);
+}
+
+/// Says the answer of a profile by its own call, or the `Debug` text of the answer.
+fn step_itself(
+    row: &mut Row<'_>,
+    profile: &mut SaslProfile,
+    hostname: Option<&str>,
+    call: &str,
+    (view, nonce): (FrameView<'_>, &[u8; 32]),
+) {
+    let (alloc, mut meter) = (row.alloc, Meter::new());
+    let reply = match (call, view.to_frame(alloc)) {
+        ("on_view_metered", _) =>
+            call!(row: "SaslProfile::on_view_metered" => profile.on_view_metered(alloc, view, hostname, nonce, &mut meter)),
+        ("on_frame_metered", Ok(frame)) =>
+            call!(row: "SaslProfile::on_frame_metered" => profile.on_frame_metered(alloc, frame, hostname, nonce, &mut meter)),
+        ("on_frame", Ok(frame)) =>
+            call!(row: "SaslProfile::on_frame" => profile.on_frame(alloc, frame, hostname, nonce)),
+        _ => call!(row: "SaslProfile::on_view" => profile.on_view(alloc, view, hostname, nonce)),
+    };
+    match reply {
+        reply if call == "shown" => row.show(&reply),
+        Ok(Negotiation::Init(init)) => {
+            row.say("Init");
+            say_body(row, Frame::Init(init));
+        }
+        Ok(Negotiation::Response(response)) => {
+            row.say("Response");
+            say_body(row, Frame::Response(response));
+        }
+        Ok(Negotiation::Outcome(outcome)) => say_outcome(row, outcome),
+        Err(error) => row.show(&error),
+    }
+}
+
+/// Says a part of a profile's init, or what a profile is.
+fn say_part(row: &mut Row<'_>, profile: &mut SaslProfile, call: &str, nonce: &[u8; 32]) {
+    match call {
+        "mechanism" => show_call!(row: "SaslProfile::mechanism" => profile.mechanism(row.alloc)),
+        "initial_response" => say_initial_response(row, profile, nonce),
+        "due" => row.say(profile.answers_empty_challenge()),
+        _ => row.show(profile),
+    }
+}
+
+/// Says the mechanism and the initial response of a profile with a nonce of 32 bytes 01.
+pub fn say_init(row: &mut Row<'_>, profile: &mut SaslProfile) {
+    if let Ok(mechanism) = profile.mechanism(row.alloc) {
+        row.say(mechanism.as_str());
+    }
+    say_initial_response(row, profile, &[1; 32]);
+}
+
+/// Says the initial response of a profile.
+fn say_initial_response(row: &mut Row<'_>, profile: &mut SaslProfile, nonce: &[u8; 32]) {
+    let response =
+        call!(row: "SaslProfile::initial_response" => profile.initial_response(row.alloc, nonce));
+    match response {
+        Ok(Some(response)) => {
+            let text = row.made(str::from_utf8(&response.0), "");
+            row.show(&text);
+        }
+        Ok(None) => row.say("none"),
+        Err(error) => row.show(&error),
+    }
+}
+
+/// Says the answers of a client of SCRAM in a whole run, by the call for its options.
+fn run_scram(
+    row: &mut Row<'_>,
+    (user, password, version): (&str, &str, ScramVersion),
+    options: ClientOptions,
+    events: &[Event],
+) {
+    let (alloc, limit) = (row.alloc, options.limits.max_iterations);
+    let mut limited = ClientOptions::new();
+    limited.limits.max_iterations = limit;
+    let replies = if options == ClientOptions::new() {
+        call!(row: "scram_client_run" => scram_client_run(alloc, user, password, version, events))
+    } else if options == limited {
+        call!(row: "scram_client_run_limited" => scram_client_run_limited(alloc, user, password, version, limit, events))
+    } else {
+        call!(row: "scram_client_run_with_options" =>
+            scram_client_run_with_options(alloc, user, password, version, options, events))
+    };
+    say_all(row, &replies);
+}
+
+/// Checks a client of SCRAM: `VERSION USER PASSWORD`, of a kind: `client` with a limit on the count or with none,
+/// `client_plus` that binds the channel of a kind and data, `client_unoffered` that says `y,,`, or `strict`.
+pub fn check_scram(row: &mut Row<'_>, run: &Run<'_>, kind: &str) {
+    let (version, user, password) = (version(row), row.text_of_digits(), row.text_of_digits());
+    let mut options = ClientOptions::new();
+    match kind {
+        "client_plus" => options.channel = bound_channel(row),
+        "client_unoffered" => options.channel = ClientChannel::NotOffered,
+        "strict" => options.strict = true,
+        _ if row.is_over() => {}
+        _ => options.limits.max_iterations = row.number(),
+    }
+    let words = (user.as_str(), password.as_str(), version);
+    run_scram(row, words, options, &run.events);
+    if row.ran_out() {
+        run_scram(row, words, options, &run.events);
+    }
+    run.agree(row);
+    let client = ScramClient::new(user, password, version)
+        .with_iteration_limit(options.limits.max_iterations)
+        .with_channel(options.channel)
+        .strict(options.strict);
+    if let Some(mut client) = client_of(row, Some(SaslProfile::from(client))) {
+        check_steps(row, run, &mut client);
+    }
+}
+
+/// Checks a profile: the words of `profile_of`, and its hostname. After `acting IDENTITY`, it acts for the identity.
+pub fn check_profile(row: &mut Row<'_>, run: &Run<'_>, kind: &str) {
+    let profile = if kind == "acting" {
+        let (identity, kind) = (row.text_of_digits(), row.word());
+        profile_of(row, kind).and_then(|profile| profile.acting_for(identity))
+    } else {
+        profile_of(row, kind)
+    };
+    match client_of(row, profile) {
+        Some(mut client) => check_side(row, run, &mut client),
+        None => run.agree(row),
+    }
+}
+
+/// Returns a profile with the hostname of the words that are left, or says that there is none.
+fn client_of(row: &mut Row<'_>, profile: Option<SaslProfile>) -> Option<Client> {
+    let hostname = if row.is_over() || row.takes("none") {
+        None
+    } else {
+        Some(row.text_of_digits())
+    };
+    match profile.map(|profile| Box::new(row.alloc, profile)) {
+        Some(Ok(profile)) => Some(Client { profile, hostname }),
+        _ => {
+            row.say("no profile");
+            None
+        }
+    }
+}
+
+/// Returns the profile of a user by a secret of a kind:
+///
+/// - `profile`: `MECHANISM USER PASSWORD LIMIT`;
+/// - `keyed`: `MECHANISM USER KEYS LIMIT`;
+/// - `both`: `MECHANISM USER PASSWORD KEYS LEAST LIMIT`;
+/// - `checked`: `PLAIN USER PASSWORD`, if a message can have both;
+/// - `prepared`: `MECHANISM USER PASSWORD`, with a prepared password;
+/// - `prepared-both`: `MECHANISM USER PASSWORD KEYS`, with prepared passwords.
+///
+/// The profile accepts the iteration counts from `LEAST` to `LIMIT`.
+fn profile_of(row: &mut Row<'_>, kind: &str) -> Option<SaslProfile> {
+    let (mechanism, user) = (row.word(), row.text_of_digits());
+    let password = match kind {
+        "keyed" => String::new(row.alloc),
+        _ => row.text_of_digits(),
+    };
+    let keys = match kind {
+        "keyed" | "both" | "prepared-both" => keys_of(row, mechanism, kind),
+        _ => None,
+    };
+    let least = if kind == "both" { row.number() } else { 1 };
+    let limit = if row.is_over() {
+        u32::MAX
+    } else {
+        row.number()
+    };
+    match mechanism {
+        "ANONYMOUS" => Some(SaslProfile::Anonymous),
+        "EXTERNAL" => Some(SaslProfile::External),
+        "ANONYMOUS-AS" => Some(SaslProfile::anonymous_as(user)),
+        "EXTERNAL-AS" => Some(SaslProfile::external_as(user)),
+        "PLAIN" if kind == "checked" => SaslProfile::plain_checked(user, password),
+        "PLAIN" => Some(SaslProfile::plain(user, password)),
+        name => {
+            let version = ScramVersion::from_mechanism(name)?;
+            let secret = secret_of(kind, &password, &keys)?;
+            let client = ScramClient::with_secret(row.alloc, user, secret, version).ok()?;
+            let client = client
+                .with_min_iterations(least)
+                .with_iteration_limit(limit);
+            Some(SaslProfile::from(client))
+        }
+    }
+}
+
+/// Returns keys: `PASSWORD SALT COUNT`, of a password that is prepared if that of the kind is.
+fn keys_of(row: &mut Row<'_>, mechanism: &str, kind: &str) -> Option<CachedKeys> {
+    let (alloc, version) = (row.alloc, ScramVersion::from_mechanism(mechanism)?);
+    let (password, salt, count) = (row.text_of_digits(), row.digits(), row.number());
+    let password = match kind {
+        "prepared-both" => Password::Prepared(&password),
+        _ => Password::Typed(&password),
+    };
+    let keys = CachedKeys::from_password(alloc, version, password, &salt, count, &mut Meter::new());
+    keys.ok()
+}
+
+/// Returns the secret of a kind.
+fn secret_of<'a>(
+    kind: &str,
+    password: &'a str,
+    keys: &'a Option<CachedKeys>,
+) -> Option<ClientSecret<'a>> {
+    let password = match kind {
+        "prepared" | "prepared-both" => Password::Prepared(password),
+        _ => Password::Typed(password),
+    };
+    match (kind, keys) {
+        ("profile" | "prepared", None) => Some(ClientSecret::Password(password)),
+        ("keyed", Some(keys)) => Some(ClientSecret::Keys(keys)),
+        ("both" | "prepared-both", Some(keys)) => {
+            Some(ClientSecret::PasswordAndKeys { password, keys })
+        }
+        _ => None,
+    }
+}

@@ -1,0 +1,162 @@
+//! Servers of several mechanisms over records of users.
+
+use crate::replies::made;
+use crate::runs::Run;
+use crate::servers::serve;
+use crate::words::{channels, version};
+use fe2o3_sasl::*;
+use std::fmt::Write;
+use std::sync::Arc;
+use test_rows::Row;
+
+/// Returns the users of the words `user NAME RECORD`.
+fn users_of(row: &mut Row<'_>) -> MultiRecordStore {
+    let mut lines = String::new(row.alloc);
+    for _ in 0..4 {
+        if row.takes("user") {
+            let (name, record) = (row.word(), row.word());
+            row.made(writeln!(lines, "{name} {record}"), ());
+        }
+    }
+    let users = MultiRecordStore::parse_lines(row.alloc, &lines);
+    row.made(users, MultiRecordStore::new(row.alloc))
+}
+
+/// Returns the rights of the words `right USER IDENTITY`.
+fn rights_of(row: &mut Row<'_>) -> ActingRights {
+    let (alloc, mut rights) = (row.alloc, ActingRights::new(row.alloc));
+    for _ in 0..4 {
+        if row.takes("right") {
+            let (user, identity) = (row.word(), row.word());
+            row.made(rights.allow(alloc, user, identity), ());
+        }
+    }
+    rights
+}
+
+/// Returns the form of passwords of a name.
+fn form_of(row: &mut Row<'_>) -> PlainPasswords {
+    match row.word() {
+        "Typed" => PlainPasswords::Typed,
+        "Prepared" => PlainPasswords::Prepared,
+        _ => PlainPasswords::Saslprep,
+    }
+}
+
+/// The words of a server that are no options of its builder.
+#[derive(Clone, Copy)]
+struct Words<'a> {
+    extra: ExtraChallenges,
+    only: &'a str,
+}
+
+/// Returns a builder with the options of the words that are left, and the other words.
+fn options_of<'a: 'b, 'b>(
+    row: &mut Row<'a>,
+    mut builder: PasswordServerBuilder<'b>,
+) -> (PasswordServerBuilder<'b>, Words<'a>) {
+    let (extra, only) = (ExtraChallenges::default(), "");
+    let mut words = Words { extra, only };
+    for _ in 0..12 {
+        if row.is_over() {
+            break;
+        }
+        match row.word() {
+            "asks" => words.extra.initial_response = true,
+            "signs" => words.extra.signature = true,
+            "only" => words.only = row.word(),
+            word => builder = option_of(row, builder, word),
+        }
+    }
+    (builder, words)
+}
+
+/// Returns a builder with the option of a word and of those after it.
+fn option_of<'a: 'b, 'b>(
+    row: &mut Row<'a>,
+    builder: PasswordServerBuilder<'b>,
+    word: &str,
+) -> PasswordServerBuilder<'b> {
+    match word {
+        "plain" => builder.plain_records(version(row), row.number()),
+        "passwords" => builder.plain_passwords(form_of(row)),
+        "external" => builder.external(row.word()),
+        "mock" => {
+            let (secret, len, count) = (row.word(), row.number() as usize, row.number());
+            builder.mock_unknown_users(secret.as_bytes(), len, count)
+        }
+        "channel" => builder.channels(channels(row)),
+        "cbind_flag_y" => builder.accept_cbind_flag_y(true),
+        "strict" => builder.strict(true),
+        "reject_misplaced" => builder.reject_misplaced(true),
+        "authzid" => builder.accept_authzid(true),
+        _ => {
+            row.refuse("no option");
+            builder
+        }
+    }
+}
+
+/// Checks a server: `MECHANISM,.. USER.. RIGHT.. OPTION..`, as the head of `offers.txt` has them.
+pub fn check<'a>(row: &mut Row<'a>, run: &Run<'a>) {
+    let names = row.word();
+    let has = |name: &str| names.split(',').any(|it| it == name);
+    let hashes = ScramHashes {
+        sha_512: has("SCRAM-SHA-512"),
+        sha_256: has("SCRAM-SHA-256"),
+        sha_1: has("SCRAM-SHA-1"),
+    };
+    let users = users_of(row);
+    let Ok(rights) = Arc::new(row.alloc, rights_of(row)) else {
+        return row.refuse("no memory");
+    };
+    let builder = PasswordServerBuilder::new(&users)
+        .hashes(hashes)
+        .plain_under_tls(has("PLAIN"))
+        .anonymous(has("ANONYMOUS"))
+        .acting_rights(&rights);
+    let (builder, words) = options_of(row, builder);
+    let mut server = built(row, &builder);
+    if row.ran_out() {
+        server = built(row, &builder);
+    }
+    let Some(server) = server else {
+        return run.agree(row);
+    };
+    if words.only.is_empty() && words.extra == ExtraChallenges::default() {
+        return serve(row, run, server, "PasswordServer::clone");
+    }
+    if words.only.is_empty() {
+        let asking = WithExtraChallenges::new(server, words.extra);
+        return serve(row, run, asking, "WithExtraChallenges::clone");
+    }
+    let mut only = restricted(row, words.only, server);
+    if row.ran_out() {
+        only = built(row, &builder).and_then(|server| restricted(row, words.only, server));
+    }
+    match only {
+        Some(only) => serve(row, run, only, "RestrictMechanisms::clone"),
+        None => run.agree(row),
+    }
+}
+
+/// Returns a server, or says why there is none.
+fn built(row: &mut Row<'_>, builder: &PasswordServerBuilder<'_>) -> Option<PasswordServer> {
+    let server = call!(row: "PasswordServerBuilder::build" => builder.build(row.alloc));
+    made(row, server)
+}
+
+/// Returns a server that offers only these of its mechanisms, or says why there is none.
+fn restricted(
+    row: &mut Row<'_>,
+    only: &str,
+    server: PasswordServer,
+) -> Option<RestrictMechanisms<PasswordServer>> {
+    let mut names = Vec::new(row.alloc);
+    for name in only.split(',') {
+        row.push(&mut names, name);
+    }
+    let restricted =
+        call!(row: "RestrictMechanisms::new" => RestrictMechanisms::new(row.alloc, server, &names));
+    made(row, restricted)
+}

@@ -1,0 +1,114 @@
+//! Runs of a program, and what each prints.
+
+use crate::paragraphs::{Run, read};
+use crate::streams::End;
+use example_broker_lib::log_in;
+use sasl_lab_lib::sides::audit;
+use scram_base_lib::database::NoDatabase;
+use std::fs::Metadata;
+use std::io::{BufRead, BufReader, Read, Result, Write};
+use test_rows::Row;
+
+/// Answers the run of a paragraph. If the paragraph says so, each call of files and of random bytes fails in turn, and
+/// then the status must be 4 and the files unchanged.
+pub fn answer(row: &mut Row<'_>, text: &str, private: &Metadata) -> Result<()> {
+    let mut run = read(row.alloc, text, private, 0)?;
+    let mut before = String::from_str(row.alloc, "= 4\n")?;
+    run.disk.tell(&mut before)?;
+    let piece = if run.is_binary { 1 } else { 4096 };
+    let told = play(&mut run, piece)?;
+    row.say(told);
+    row.agree(&run.wanted);
+    for piece in [7, 4096] {
+        if run.is_binary {
+            let told = play(&mut read(row.alloc, text, private, 0)?, piece)?;
+            row.say(told);
+            row.agree(&run.wanted);
+        }
+    }
+    let calls = if run.fails { run.disk.calls() } else { 0 };
+    if run.fails && calls == 0 {
+        row.refuse("no call");
+    }
+    for failing in 1..=calls {
+        let told = play(&mut read(row.alloc, text, private, failing)?, 4096)?;
+        if !told.ends_with(before.as_str()) && !tells_change(&run, &told)? {
+            row.say("call");
+            row.say(failing);
+            row.say("fails:");
+            row.say(told);
+        }
+    }
+    Ok(())
+}
+
+/// Returns whether a result has status 4 and the files of the run that does not fail, and the errors say so.
+fn tells_change(run: &Run, told: &str) -> Result<bool> {
+    let (_, files) = run.wanted.split_once("= 0\n").unwrap_or(("", ""));
+    let after = format!(in run.disk.alloc(); "= 4\n{files}")?;
+    Ok(told.contains("The file is changed, but") && told.ends_with(after.as_str()))
+}
+
+/// Runs the program with an input in pieces of this length, and returns its output, its errors, its status and the files
+/// as lines.
+fn play(run: &mut Run, piece: usize) -> Result<String> {
+    let alloc = run.disk.alloc();
+    let input = run.input.clone()?;
+    let input = input.as_slice().chain(End(run.fault));
+    let status = run_program(run, &mut BufReader::with_capacity(alloc, piece, input)?)?;
+    let mut told = String::new(alloc);
+    if run.is_binary {
+        let digits = hex::encode(alloc, run.output.written.as_slice())?;
+        write!(told, "X {digits}\n")?;
+    } else {
+        tell_lines(&mut told, ">", &run.output.written)?;
+    }
+    let rejected = run.output.rejected.saturating_add(run.errors.rejected);
+    if rejected != 0 {
+        write!(told, "| {rejected}\n")?;
+    }
+    if run.errors.written.as_slice() == sasl_lab_lib::USAGE.as_bytes() {
+        told.push_str("! the usage\n")?;
+    } else {
+        tell_lines(&mut told, "!", &run.errors.written)?;
+    }
+    write!(told, "= {status}\n")?;
+    run.disk.tell(&mut told)?;
+    Ok(told)
+}
+
+/// Runs the program that the first word names, and returns its status.
+fn run_program<I: BufRead>(run: &mut Run, input: &mut I) -> Result<u8> {
+    let (name, words) = match run.words.as_slice() {
+        [name, words @ ..] => (name.as_str(), words),
+        [] => return Ok(0),
+    };
+    let (output, errors) = (&mut run.output, &mut run.errors);
+    match name {
+        "example_broker" => {
+            let records = words.first().map_or("", |word| word.as_str());
+            match log_in(&run.disk, records, words.len() > 1, input, output) {
+                Ok((user, wrong)) => {
+                    writeln!(errors, "{user:?} logged in, after {wrong} wrong logins")?;
+                    Ok(0)
+                }
+                Err(_) => Ok(1),
+            }
+        }
+        "sasl_lab" => Ok(sasl_lab_lib::run(run.disk.alloc(), words, input, output, errors)),
+        _ => {
+            let (disk, words, tty, none) = (&run.disk, &run.words, run.is_terminal, &NoDatabase);
+            let status = scram_lib::run(disk, words, tty, input, output, errors, audit, none);
+            Ok(status)
+        }
+    }
+}
+
+/// Writes lines, each after a mark.
+fn tell_lines(told: &mut String, mark: &str, bytes: &[u8]) -> Result<()> {
+    let text = String::from_utf8_lossy(*told.allocator(), bytes)?;
+    for line in text.as_str().lines() {
+        write!(told, "{mark} {line}\n")?;
+    }
+    Ok(())
+}
