@@ -1,5 +1,6 @@
 #!/usr/bin/env python3
-"""The gate: the quick checks; side by side `rt ci`, and the wrong bodies that have to be rejected; and the restarts.
+"""The gate: the quick checks; side by side `rt ci`, and the wrong bodies that have to be rejected; and the programs that
+`rt ci` has built, tried in other ways.
 
     tools/gate/gate.py             takes from earlier runs what they passed
     tools/gate/gate.py --anew      proves all
@@ -141,6 +142,15 @@ def status_of(*command):
             part.terminate()
 
 
+def fails(tool, *words):
+    """Runs a tool, which prints why if it fails, and returns whether it does."""
+    sys.stdout.flush()
+    status = status_of(sys.executable, f"tools/{tool}", *words)
+    if status:
+        print(f"gate: tools/{tool} failed")
+    return status != 0
+
+
 def main():
     parser = argparse.ArgumentParser(description=__doc__, formatter_class=argparse.RawDescriptionHelpFormatter)
     parser.add_argument("--anew", action="store_true", help="take nothing from earlier runs")
@@ -153,10 +163,10 @@ def main():
         return 1
     passed, failed, sample = long_parts(*machine(), anew)
     sys.stdout.flush()
-    # (the restarts need the programs that `rt ci` builds)
-    if not failed and status_of(sys.executable, "tools/gate/restarts.py"):
-        print("gate: tools/gate/restarts.py failed")
-        failed = 1
+    # (these need the programs that `rt ci` builds)
+    if not failed:
+        failed = sum(fails(*it) for it in (
+            ["gate/restarts.py"], ["test_rows.py", "--altered"], ["test_memory.py"], ["gate/c_memory.py"]))
     record = run.record(sample, wrong_bodies.crates(), passed, failed)
     costs.write(record)
     print(*costs.closing(record), f"{passed} passed, {failed} failed", sep="\n")

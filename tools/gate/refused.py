@@ -3,7 +3,7 @@
 
     tools/gate/refused.py
 
-The functions of crates/test_wire/src/views_and_bodies.rt are proved there. Each edit of crates/test_wire/refused/ adds
+The functions of crates/test_callers/src/views_and_bodies.rt are proved there. Each edit of crates/test_callers/refused/ adds
 a stale use of a view to one of them. All edits are made in one copy, and one check, which ends before any proof, has to
 report each edit's borrow error at its line, and no other error. The copy is a module of a copy of the library that it
 calls, so that no library has to be built first. Such programs cannot be wrong bodies, which have to reach the prover.
@@ -20,7 +20,7 @@ from pathlib import Path
 
 TOP = Path(__file__).resolve().parents[2]
 LIBRARY = "fe2o3_sasl_wire"
-TESTS = TOP / "crates/test_wire"
+TESTS = TOP / "crates/test_callers"
 FILE = "src/views_and_bodies.rt"
 FOUND = re.compile(r"^(src[^:]*:[0-9]*):[0-9]*: (error[^:]*): ", re.M)
 

@@ -22,7 +22,7 @@ PLACES = [
     ("interop/rust/Cargo.toml", r'^version = "(.*)"$', "text"),
     ("README.md", rf"\bThis is version ({VERSION})\.", "text"),
     ("crates/scram_lib/src/manual.rt", r'\.version\("(.*)"\)', "text"),
-    ("crates/test_vectors_programs/data/words.txt", r"^\$ scram --version\n> scram (.*)$", "text"),
+    ("crates/test_driver_programs/data/words.txt", r"^\$ scram --version\n> scram (.*)$", "text"),
     ("crates/sasl_c/src/texts.rt", EXPORT + r"    ensures \{ result ≡ (\d+) \}$", "number"),
     ("crates/sasl_c/src/texts.rt", EXPORT + r"[^\n]*\n\{\n    (\d+)\n\}$", "number"),
 ]

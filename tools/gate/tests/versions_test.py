@@ -15,7 +15,7 @@ FILES = {
     "interop/rust/Cargo.toml": '[package]\nversion = "0.4.0"\n',
     "README.md": "This is version 0.4.0. Names follow version 0.18.4.\n",
     "crates/scram_lib/src/manual.rt": '        .version("0.4.0")\n',
-    "crates/test_vectors_programs/data/words.txt": "$ scram --version\n> scram 0.4.0\n= 0\n",
+    "crates/test_driver_programs/data/words.txt": "$ scram --version\n> scram 0.4.0\n= 0\n",
     "crates/sasl_c/src/texts.rt":
         'pub extern "C" fn fe2o3_version() -> u32\n    ensures { result ≡ 400 }\n{\n    400\n}\n',
     "bindings/callers.mk": "SONAME = libfe2o3_sasl.so.2\n",
@@ -47,7 +47,7 @@ class Versions(unittest.TestCase):
     def test_each_place(self):
         for name, old in (("interop/rust/Cargo.toml", "0.4.0"), ("README.md", "0.4.0"),
                           ("crates/scram_lib/src/manual.rt", "0.4.0"),
-                          ("crates/test_vectors_programs/data/words.txt", "0.4.0"),
+                          ("crates/test_driver_programs/data/words.txt", "0.4.0"),
                           ("crates/sasl_c/src/texts.rt", "≡ 400"), ("crates/sasl_c/src/texts.rt", "    400\n")):
             with self.subTest(name=name, old=old):
                 new = old.replace("4", "3")
