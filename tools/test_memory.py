@@ -8,8 +8,9 @@
 A driver replays data/calls*.txt with the heap of tools/test_memory/refuse.c, for the first call of each answer, the
 second, and so on, and for each n until no such call makes n requests. A call whose n-th request is refused has to answer
 that it ran out of memory; made again, the calls give the same answer as ever. No row may differ, no block may be left,
-and a call that is marked as one without requests makes none. Each public call whose error is or has `OutOfMemory` has to
-run out of memory in some row, but for those of tools/test_memory/open.txt, which have no such row yet.
+and a call that is marked as one without requests makes none. A call of data/calls-hints.txt may do without a request, as one
+that only reserves room, and then gives the same answer at once. Each public call whose error is or has `OutOfMemory` has to
+run out of memory in some row.
 """
 import re
 import subprocess
@@ -25,12 +26,14 @@ sys.path.insert(0, str(TOP / "tools/generate"))
 import signatures
 import test_rows
 
+HINTS = "calls-hints.txt"
 RAN_OUT = re.compile(r"^\S+: ran out of memory: (.*)$", re.M)
 # Calls that need no row, and why.
 EXCEPT = {
     "view_frame": "its clause `not_out_of_memory`",
     "ScramClient::conclude_without_data": "its answer depends on the state only",
     "Endpoint::answer": "ConnectionSide::receive makes it",
+    "RecordStore::clone": "a clone shares the users and requests nothing",
     "SingleMessage::clone": "SaslProfile::clone makes it",
     "ChallengePhase::clone": "WithExtraChallenges::clone makes it",
 }
@@ -98,7 +101,8 @@ def tried(program, file, heap):
         while refused:
             said, status, (_, refused, _, blocks) = run(program, file, heap, call, nth)
             ran_out = RAN_OUT.findall(said)
-            if status or len(ran_out) != refused or blocks != left:
+            is_told = len(ran_out) == refused or file.name == HINTS and len(ran_out) < refused
+            if status or not is_told or blocks != left:
                 wrong.append(f"call {call} of an answer, request {nth}: {refused} refused, {len(ran_out)} ran out, "
                              f"{blocks - left} blocks left, status {status}: {RAN_OUT.sub('', said).strip()[-600:]}")
             names, total, nth = names | {*ran_out}, total + refused, nth + 1
@@ -118,13 +122,11 @@ def main(words):
         subprocess.run(["cc", "-shared", "-fPIC", "-O2", "-o", heap, TOP / "tools/test_memory/refuse.c"], check=True)
         names, totals, rows, wrong = zip(*pool.map(lambda it: tried(*it, heap), files))
     names, wrong = set().union(*names), sum(wrong, [])
-    later = {*(TOP / "tools/test_memory/open.txt").read_text(encoding="utf-8").split("\n\n")[-1].split()}
     if not words:
-        wrong += [f"{name} never runs out of memory in a row" for name in sorted(needed - names - {*EXCEPT} - later)]
-        wrong += [f"{name} needs no exception" for name in sorted({*EXCEPT} | later) if name not in needed - names]
+        wrong += [f"{name} never runs out of memory in a row" for name in sorted(needed - names - {*EXCEPT})]
+        wrong += [f"{name} needs no exception" for name in sorted(EXCEPT) if name not in needed - names]
     print(*wrong, sep="\n", end="\n" if wrong else "")
-    print(f"test_memory: {len(names)} calls, {sum(totals)} refused requests, {sum(rows)} rows, {len(later)} calls without a row, "
-          f"{len(wrong)} faults")
+    print(f"test_memory: {len(names)} calls, {sum(totals)} refused requests, {sum(rows)} rows, {len(wrong)} faults")
     return 1 if wrong else 0
 
 

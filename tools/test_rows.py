@@ -77,6 +77,9 @@ def faults(program, data):
     files = sorted(data.glob("*.txt"))
     wrong = [f"{program.name}: {it.name} is not replayed" for it in files
              if f"{it.name}: " not in (data.parent / "stdout").read_text(encoding="utf-8")]
+    heads = {it.name: parts(it.read_text(encoding="utf-8"))[0] for it in files}
+    wrong += [f"{program.name}: {name}: its first paragraph is part of the head, and is not replayed"
+              for name, head in heads.items() if head and not head.splitlines()[-1].startswith("paragraphs ")]
     with tempfile.TemporaryDirectory() as room:
         wanted = {}
         for file in files:

@@ -1,5 +1,6 @@
 -- A SCRAM server from message to message (RFC 5802, section 5).
-use Rattle.std.specs.Prelude.{ℕ, List, ◌≡◌, ◌≤◌, ◌+◌, Option, Some, None, Result, Ok, Err, option_map}
+use Rattle.std.specs.Prelude.{ℕ, Bool, List, Vec, ◌≡◌, ◌≤◌, ◌+◌, Option, Some, None, Result, Ok, Err, option_map}
+use Rattle.std.specs.declared.alloc.Global.{Global}
 use Rattle.std.specs.String.{string_bytes}
 use Rattle.fe2o3_scram.specs.declared.scram_messages.error.ServerScramErrorKind.{ServerScramErrorKind}
 use Rattle.fe2o3_scram.specs.declared.scram_messages.error.ServerScramErrorKind.TheVariants.{IllegalAuthenticatorState, OutOfMemory}
@@ -11,12 +12,13 @@ use Rattle.fe2o3_scram.specs.ActingRights.{Rights, may_act}
 use Rattle.fe2o3_scram.specs.ChannelBinding.{expected_header, is_strict}
 use Rattle.fe2o3_scram.specs.Texts.{base64_text}
 use Rattle.fe2o3_scram.specs.ClientFirst.{ReadsClientFirst}
-use Rattle.fe2o3_scram.specs.ServerFirst.{ServerChallenge, AnswersClientFirst}
+use Rattle.fe2o3_scram.specs.ServerFirst.{ServerChallenge, OpenExchange, AnswersClientFirst}
 use Rattle.fe2o3_scram.specs.Credentials.{Record, Store, Provider, serving, with_rights}
 use Rattle.fe2o3_scram.specs.MockSettings.{MockSettings, mocking}
 use Rattle.fe2o3_scram.specs.ClientFinal.{ReachesBase64, Server, server_of}
 use Rattle.fe2o3_scram.specs.ServerFinal.{AnswersClientFinal, FinalCosts}
 use Rattle.fe2o3_scram.specs.declared.scram_server.ScramAuthenticator.{ScramAuthenticator}
+use Rattle.fe2o3_scram.specs.declared.scram_server.mock_users.MockUsers.{MockUsers}
 use Rattle.fe2o3_scram.specs.declared.scram_server.open_challenge.OpenChallenge.{OpenChallenge}
 
 -- what a server has sent last (RFC 5802, section 5): an open challenge, made with this record of its user, or the end of
@@ -52,6 +54,17 @@ StatesAreReported = (state other : ServerState) → open_challenge state ≡ ope
     → open_record state ≡ open_record other → logged_in state ≡ logged_in other → logged_in_for state ≡ logged_in_for other
     → state ≡ other
 
+-- the answer to a client-first message (RFC 5802, section 5): the server-first message and the exchange that it opens, with
+-- the record of the user; nothing to an unknown user; or the first error
+abbrev pub BeginsExchange : Provider → List ℕ → List ℕ → Result (Option (List ℕ × OpenExchange)) ServerScramErrorKind
+    → Type 0
+BeginsExchange provider nonce text (Ok (Some opened)) =
+    AnswersClientFirst provider (base64_text nonce) text (Ok (Some opened.1.challenge))
+    × (opened.0 ≡ opened.1.challenge.first)
+    × (provider.records opened.1.challenge.user ≡ Some opened.1.stored)
+BeginsExchange provider nonce text (Ok None) = AnswersClientFirst provider (base64_text nonce) text (Ok None)
+BeginsExchange provider nonce text (Err fault) = AnswersClientFirst provider (base64_text nonce) text (Err fault)
+
 -- what a server answers to a client-first message in any state (RFC 5802, section 5), and its state after it: a
 -- challenge replaces an earlier one, an unknown user and an error change nothing
 abbrev pub ChallengesFrom : ServerState → Provider → List ℕ → List ℕ → Result (Option (List ℕ)) ServerScramErrorKind
@@ -79,6 +92,11 @@ abbrev pub server_against : ScramVersion → ServerRules → Rights → ServerCh
 server_against version rules rights challenge stored = server_of version (expected_header rules.channels challenge.header)
     (is_strict rules) challenge.bare challenge.first challenge.nonce stored
     (may_act rights challenge.user challenge.header.acts_for)
+
+-- what a server knows when it reads a client-final message in an open exchange, by whether the user has the right
+abbrev pub server_for : ScramVersion → ServerRules → Bool → OpenExchange → Server
+server_for version rules may_act exchange = server_of version (expected_header rules.channels exchange.challenge.header)
+    (is_strict rules) exchange.challenge.bare exchange.challenge.first exchange.challenge.nonce exchange.stored may_act
 
 -- what a server answers to a client-final message (RFC 5802, section 5), and its state after it: an accepted one closes
 -- the challenge and logs its user in, for the identity of its header, a rejected one changes nothing, and without an open challenge it is rejected
@@ -112,13 +130,7 @@ FinalCostsFrom state version rules rights text result before after = after ≡ b
 -- the state that the code's state is
 abbrev pub server_state_of : ScramAuthenticatorState → ServerState
 server_state_of CodeInitial = Initial
-server_state_of (CodeServerFirstSent user header acts_for bare nonce first stored) = ServerFirstSent (record {
-  user = string_bytes user;
-  header = record { flag = header; acts_for = option_map string_bytes acts_for };
-  bare = bare;
-  first = first;
-  nonce = nonce;
-}) stored
+server_state_of (CodeServerFirstSent exchange) = ServerFirstSent exchange.challenge exchange.stored
 server_state_of (CodeServerFinalSent user acts_for) = ServerFinalSent (string_bytes user) (option_map string_bytes acts_for)
 
 -- the challenge with these plain texts
@@ -129,6 +141,19 @@ challenge_kept kept = record {
   bare = kept.client_first_message_bare.now;
   first = kept.server_first_message.now;
   nonce = kept.client_server_nonce.now;
+}
+
+-- the message and the exchange of a value
+abbrev pub opened_by : Vec ℕ Global × OpenExchange → List ℕ × OpenExchange
+opened_by made = (made.0.items, made.1)
+
+-- lent settings of mock authentication
+abbrev pub lent_mock : MockUsers → MockSettings
+lent_mock users = record {
+  version = users.scram_version;
+  secret = users.secret.now;
+  salt_len = users.salt_len;
+  count = users.iterations;
 }
 
 -- the store that a server holds

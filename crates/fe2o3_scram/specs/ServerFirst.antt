@@ -137,6 +137,11 @@ pub record ServerChallenge : Type 0 where
   pub first : List ℕ
   pub nonce : List ℕ
 
+-- an exchange that is open: its challenge, and the record that the challenge was made with
+pub record OpenExchange : Type 0 where
+  pub challenge : ServerChallenge
+  pub stored : Record
+
 -- the challenge that the code's value holds
 abbrev pub challenge_values : ServerFirstMessage → ServerChallenge
 challenge_values message = record {

@@ -54,7 +54,8 @@ pub use crate::scram_messages::{
     ScramErrorKind, ServerError, ServerFinal, ServerFirst, ServerFirstMessage, ServerRules,
     ServerScramErrorKind, UnescapeError, escape_username, unescape_username,
 };
+pub use crate::scram_server::exchange::ServerExchange;
 pub use crate::scram_server::open_challenge::OpenChallenge;
-pub use crate::scram_server::{SaltTooLong, ScramAuthenticator};
+pub use crate::scram_server::{MockUsers, SaltTooLong, ScramAuthenticator};
 pub use crate::texts::base64_of_nonce;
 pub use std::alloc::AllocError as OutOfMemory;

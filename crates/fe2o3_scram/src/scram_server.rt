@@ -1,14 +1,14 @@
 //! The SCRAM server as a state machine over messages (RFC 5802, section 5).
 
-ghost use Rattle.std.specs.Prelude.{◌≡◌, ◌≤◌, ◌^◌, [], IfOk, OnErr, Some, None, option_map, string_bytes};
-ghost use Rattle.std.specs.Cow.{cow_str_bytes};
-ghost use Rattle.fe2o3_scram.specs.ClientFirst.{client_first_values, default_rules};
+ghost use Rattle.std.specs.Prelude.{◌≡◌, ◌≤◌, ◌^◌, [], IfOk, OnErr, Some, None, option_map};
+ghost use Rattle.fe2o3_scram.specs.ClientFirst.{default_rules};
 ghost use Rattle.fe2o3_scram.specs.ChannelBinding.{server_mechanism};
-ghost use Rattle.fe2o3_scram.specs.Credentials.{Record, kept};
+ghost use Rattle.fe2o3_scram.specs.Credentials.{Record};
 ghost use Rattle.fe2o3_scram.specs.ScramServer.{provider_in, served_by, state_in, rules_in, rights_in, mock_in, Initial, ServerFirstSent, ServerFinalSent, logged_in_for, logged_in, ChallengesFrom, ConcludesFrom, FirstCosts, FinalCostsFrom, ReachesBase64In, server_state_of};
-ghost use Rattle.fe2o3_scram.specs.ServerFirst.{ServerChallenge, ReachesChallenge, challenge_of, challenge_values};
+ghost use Rattle.fe2o3_scram.specs.ServerFirst.{ServerChallenge, ReachesChallenge};
 ghost use Rattle.fe2o3_scram.specs.Readings.{Gives};
 
+pub mod exchange;
 mod kept_record;
 mod mock_users;
 pub mod open_challenge;
@@ -19,34 +19,20 @@ use crate::acting_rights::{ActingRights, SharedRights};
 use crate::channel_binding::ChannelBindings;
 use crate::hmac::Meter;
 use crate::provider::{ScramCredentialProvider, StoredPassword};
+use crate::scram_messages::ServerRules;
 use crate::scram_messages::error::ServerScramErrorKind;
-use crate::scram_messages::{
-    ChannelBindingFlag, ClientFirst, ClientHeader, ServerFirstMessage, ServerRules, challenge_to,
-};
-use crate::scram_server::kept_record::KeptRecord;
-pub use crate::scram_server::mock_users::SaltTooLong;
-use crate::scram_server::mock_users::{MockUsers, look_up, mock_values};
-use crate::texts::base64_of_nonce;
-use bytes::Bytes;
+use crate::scram_server::exchange::ServerExchange;
+use crate::scram_server::mock_users::KeptMock;
+pub use crate::scram_server::mock_users::{MockUsers, SaltTooLong};
 use std::alloc::{AllocError, Global};
-use std::borrow::CowStr;
 use std::sync::Arc;
 use std::{fmt, mem};
 
-/// What a server has sent last. An open challenge keeps the record that it was made with: the store may change before
-/// the client-final message.
+/// What a server has sent last.
 #[derive(Drop)]
 enum ScramAuthenticatorState {
     Initial,
-    ServerFirstSent {
-        username: String,
-        header: ChannelBindingFlag,
-        acts_for: Option<String>,
-        client_first_message_bare: Bytes,
-        client_server_nonce: Bytes,
-        server_first_message: Bytes,
-        stored: KeptRecord,
-    },
+    ServerFirstSent(ServerExchange),
     ServerFinalSent {
         username: String,
         acts_for: Option<String>,
@@ -60,23 +46,9 @@ impl ScramAuthenticatorState {
     {
         Ok(match self {
             ScramAuthenticatorState::Initial => ScramAuthenticatorState::Initial,
-            ScramAuthenticatorState::ServerFirstSent {
-                username,
-                header,
-                acts_for,
-                client_first_message_bare,
-                client_server_nonce,
-                server_first_message,
-                stored,
-            } => ScramAuthenticatorState::ServerFirstSent {
-                username: username.clone()?,
-                header: *header,
-                acts_for: acts_for.clone()?,
-                client_first_message_bare: client_first_message_bare.clone()?,
-                client_server_nonce: client_server_nonce.clone()?,
-                server_first_message: server_first_message.clone()?,
-                stored: stored.clone()?,
-            },
+            ScramAuthenticatorState::ServerFirstSent(exchange) => {
+                ScramAuthenticatorState::ServerFirstSent(exchange.clone()?)
+            }
             ScramAuthenticatorState::ServerFinalSent { username, acts_for } => {
                 ScramAuthenticatorState::ServerFinalSent {
                     username: username.clone()?,
@@ -93,76 +65,12 @@ impl ScramAuthenticatorState {
             → server_state_of result ≡ ServerFinalSent challenge.user challenge.header.acts_for }
     {
         match self {
-            ScramAuthenticatorState::ServerFirstSent {
-                username,
-                acts_for,
-                ..
-            } => ScramAuthenticatorState::ServerFinalSent { username, acts_for },
+            ScramAuthenticatorState::ServerFirstSent(exchange) => {
+                let (username, acts_for) = exchange.into_names();
+                ScramAuthenticatorState::ServerFinalSent { username, acts_for }
+            }
             other => other,
         }
-    }
-}
-
-/// Returns the challenge to a client-first message, and the state in which it is open. No store is a parameter, so that
-/// the allocations do not depend on one.
-fn challenged(
-    alloc: Global,
-    client_first: ClientFirst<'_>,
-    nonce: &str,
-    stored: &StoredPassword<'_>,
-) -> Result<(Vec<u8>, ScramAuthenticatorState), OutOfMemory>
-    ensures message { IfOk result (λ made. made.0.items
-        ≡ (challenge_of (client_first_values client_first.entry) nonce.now (kept stored.now)).first) }
-    ensures state { IfOk result (λ made. server_state_of made.1 ≡ ServerFirstSent
-        (challenge_of (client_first_values client_first.entry) nonce.now (kept stored.now)) (kept stored.now)) }
-{
-    let server_first = challenge_to(alloc, client_first, nonce, stored)?;
-    opened(alloc, server_first, stored)
-}
-
-/// Returns the message of a challenge, and the state in which the challenge is open with this record.
-fn opened(
-    alloc: Global,
-    server_first: ServerFirstMessage<'_>,
-    stored: &StoredPassword<'_>,
-) -> Result<(Vec<u8>, ScramAuthenticatorState), OutOfMemory>
-    ensures message { IfOk result (λ made. made.0.items ≡ (challenge_values server_first.entry).first) }
-    ensures state { IfOk result (λ made. server_state_of made.1
-        ≡ ServerFirstSent (challenge_values server_first.entry) (kept stored.now)) }
-{
-    let ServerFirstMessage {
-        username,
-        header,
-        acts_for,
-        client_first_message_bare,
-        client_server_nonce,
-        message,
-    } = server_first;
-    let username = username.into_owned(alloc)?;
-    let acts_for = owned(alloc, acts_for)?;
-    let answer = message.to_vec(alloc)?;
-    let state = ScramAuthenticatorState::ServerFirstSent {
-        username,
-        header,
-        acts_for,
-        client_first_message_bare: Bytes::copy_from_slice(
-            alloc,
-            client_first_message_bare.as_bytes(),
-        )?,
-        client_server_nonce,
-        server_first_message: message,
-        stored: KeptRecord::of(alloc, stored)?,
-    };
-    Ok((answer, state))
-}
-
-/// Returns an owned copy of the identity, if there is one.
-fn owned(alloc: Global, acts_for: Option<CowStr<'_>>) -> Result<Option<String>, OutOfMemory>
-    ensures { IfOk result (λ name. option_map string_bytes name ≡ option_map cow_str_bytes acts_for.entry) }
-{
-    match acts_for {
-        Some(name) => Ok(Some(name.into_owned(alloc)?)),
-        None => Ok(None),
     }
 }
 
@@ -178,7 +86,7 @@ pub struct ScramAuthenticator<C: ScramCredentialProvider> {
     credentials: C,
     rules: ServerRules,
     rights: SharedRights,
-    mock: Option<MockUsers>,
+    mock: Option<KeptMock>,
     state: ScramAuthenticatorState,
 }
 
@@ -435,18 +343,26 @@ impl<C: ScramCredentialProvider> ScramAuthenticator<C> {
         ensures err { OnErr result (state_in self.new ≡ state_in self.old) }
         ensures cost { FirstCosts (served_by C.meaning self.old) client_first_message.now result meter.old meter.new }
     {
-        let mut room = [0; 44];
-        let nonce = base64_of_nonce(nonce, &mut room);
-        let client_first = ClientFirst::parse_with_rules(alloc, client_first_message, self.rules)?;
-        // Only functions without a store allocate: the parser before the look-up, and `challenged` after it. So known
-        // users and mock users make the same allocations.
-        let mock = mock_values(&self.mock, &client_first.username, meter);
-        let Some(stored) = look_up(&self.credentials, &client_first.username, &mock) else {
-            return Ok(None);
+        let mock = match &self.mock {
+            Some(users) => Some(users.lent()),
+            None => None,
         };
-        let (answer, state) = challenged(alloc, client_first, nonce, &stored)?;
-        self.state = state;
-        Ok(Some(answer))
+        let opened = ServerExchange::open(
+            alloc,
+            &self.credentials,
+            self.rules,
+            mock,
+            client_first_message,
+            nonce,
+            meter,
+        )?;
+        match opened {
+            Some((answer, exchange)) => {
+                self.state = ScramAuthenticatorState::ServerFirstSent(exchange);
+                Ok(Some(answer))
+            }
+            None => Ok(None),
+        }
     }
 
     /// Answers a client-final message with the server-final message (RFC 5802, sections 5 and 7), and never with
@@ -499,31 +415,19 @@ impl<C: ScramCredentialProvider> ScramAuthenticator<C> {
             (rules_in self.old) (rights_in self.old) client_final_message.now result meter.old meter.new }
     {
         match &self.state {
-            ScramAuthenticatorState::ServerFirstSent {
-                username,
-                header,
-                acts_for,
-                client_first_message_bare,
-                client_server_nonce,
-                server_first_message,
-                stored,
-            } => {
-                let acts_for = acts_for.as_deref();
-                let server_final_message = self
-                    .credentials
-                    .scram_version()
-                    .compute_server_final_message_with_header(
-                        alloc,
-                        &ClientHeader::new(self.rules.expected_channel(*header), acts_for),
-                        self.rules.is_strict(),
-                        client_final_message,
-                        client_server_nonce,
-                        client_first_message_bare,
-                        server_first_message,
-                        &stored.as_stored_password(),
-                        self.rights.may_act(username, acts_for),
-                        meter,
-                    )?;
+            ScramAuthenticatorState::ServerFirstSent(exchange) => {
+                let may_act = self
+                    .rights
+                    .may_act(exchange.username(), exchange.acts_for());
+                let version = *self.credentials.scram_version();
+                let server_final_message = exchange.conclude(
+                    alloc,
+                    version,
+                    self.rules,
+                    may_act,
+                    client_final_message,
+                    meter,
+                )?;
                 let open = mem::replace(&mut self.state, ScramAuthenticatorState::Initial);
                 self.state = open.accepted();
                 Ok(Some(server_final_message))

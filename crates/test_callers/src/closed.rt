@@ -69,19 +69,17 @@ impl SaslAcceptor for Closed {
     fn on_init(
         &mut self,
         _alloc: Global,
-        init: SaslInit,
+        _init: SaslInit,
         _nonce: &[u8; 32],
     ) -> Result<SaslServerFrame, OutOfMemory> {
-        drop(init);
         Ok(self.turn_away())
     }
 
     fn on_response(
         &mut self,
         _alloc: Global,
-        response: SaslResponse,
+        _response: SaslResponse,
     ) -> Result<SaslServerFrame, OutOfMemory> {
-        drop(response);
         Ok(self.turn_away())
     }
 }
@@ -116,13 +114,10 @@ fn is_wanted(reply: &Result<ServerReply, Error>, wanted: Option<Error>) -> bool 
 
 #[test]
 fn an_acceptor_of_ones_own_keeps_its_state(rt: HostRuntime) {
-    let (mut closed, mut events) = (Closed { asked: false }, Vec::new(rt.alloc()));
+    let (mut closed, mut events, nonce) = (Closed { asked: false }, Vec::new(rt.alloc()), [2; 32]);
     for (digits, wanted) in &BODIES {
         let body = hex::decode(rt.alloc(), digits).expect(&rt, "digits");
-        let event = Event {
-            body,
-            nonce: [2; 32],
-        };
+        let event = Event { body, nonce };
         let reply = acceptor_step(rt.alloc(), &mut closed, &event);
         assert!(rt; is_wanted(&reply, *wanted) && closed.asked == wanted.is_none());
         events.push(event).expect(&rt, "memory");
@@ -141,10 +136,6 @@ fn an_acceptor_without_a_name_offers_anonymous(rt: HostRuntime) {
     let closed = Closed { asked: false };
     let offer = closed.sasl_mechanisms(rt.alloc()).expect(&rt, "memory");
     let mut names = offer.sasl_server_mechanisms.0.iter();
-    assert!(rt;
-        names
-            .next()
-            .is_some_and(|name| name.as_str() == "ANONYMOUS")
-    );
+    assert!(rt; names.next().is_some_and(|sym| sym.as_str() == "ANONYMOUS"));
     assert!(rt; names.next().is_none() && !closed.asked);
 }

@@ -3,18 +3,10 @@
 
 use fe2o3_sasl_wire::{Error, FrameView, view_frame};
 
-/// Returns whether a view shows an outcome.
-fn is_outcome(view: &FrameView<'_>) -> bool {
-    match view {
-        FrameView::Outcome { .. } => true,
-        _ => false,
-    }
-}
-
 /// Returns whether a body begins with an outcome, and empties it.
 fn changed_body(body: &mut Vec<u8>) -> Result<bool, Error> {
     let (view, _) = view_frame(body.as_slice())?;
-    let found = is_outcome(&view);
+    let found = matches!(view, FrameView::Outcome { .. });
     body.clear();
     Ok(found)
 }
@@ -22,7 +14,7 @@ fn changed_body(body: &mut Vec<u8>) -> Result<bool, Error> {
 /// Returns whether a body begins with an outcome, and drops it.
 fn dropped_body(body: Vec<u8>) -> Result<bool, Error> {
     let (view, _) = view_frame(body.as_slice())?;
-    let found = is_outcome(&view);
+    let found = matches!(view, FrameView::Outcome { .. });
     drop(body);
     Ok(found)
 }

@@ -7,15 +7,7 @@ use fe2o3_sasl_negotiation::{
     Password, PolicyClient, PolicyLogin, SaslProfile, ScramClient, ScramVersion, Snapshot,
     restored_client,
 };
-use test_rows::Row;
-
-/// A client's profile, the hostname of its init, and the maximum size of a frame.
-#[derive(Drop)]
-pub struct Named {
-    pub profile: SaslProfile,
-    pub hostname: Option<String>,
-    limit: usize,
-}
+use test_rows::{Row, call};
 
 /// Reads a text after a word, if that is next.
 pub fn text_after(row: &mut Row<'_>, word: &str) -> Option<String> {
@@ -34,8 +26,9 @@ pub fn frame_limit(row: &mut Row<'_>) -> usize {
 }
 
 /// Reads a client: `MECHANISM USER PASSWORD ITERATIONS HOSTNAME`, where `none` is no hostname, and then the options
-/// `by-challenge`, if it accepts the signature of the server in a challenge too, `for IDENTITY` and `limit N`.
-pub fn named_by(row: &mut Row<'_>) -> Option<Named> {
+/// `by-challenge`, if it accepts the signature of the server in a challenge too, `for IDENTITY` and `limit N`. Returns
+/// its profile, the hostname of its init, and the maximum size of a frame.
+pub fn named_by(row: &mut Row<'_>) -> Option<(SaslProfile, Option<String>, usize)> {
     let (mechanism, user, password) = (row.word(), row.text_of_digits(), row.text_of_digits());
     let iterations = row.number();
     let hostname = if row.takes("none") {
@@ -61,11 +54,7 @@ pub fn named_by(row: &mut Row<'_>) -> Option<Named> {
             SaslProfile::from(client)
         }
     };
-    Some(Named {
-        profile,
-        hostname,
-        limit,
-    })
+    Some((profile, hostname, limit))
 }
 
 impl Side for ClientNegotiation {
@@ -77,29 +66,17 @@ impl Side for ClientNegotiation {
         Some(self.snapshot())
     }
 
-    /// Restores the side from a copy of its profile.
-    fn restore(&mut self, row: &mut Row<'_>) {
+    fn restore(&mut self, row: &mut Row<'_>, is_copy: bool) {
         let hostname = text_after(row, "hostname");
-        let profile = match self.profile().clone() {
-            Ok(profile) => profile,
-            Err(error) => return row.refuse(error),
-        };
-        row.begin("ClientNegotiation::restore");
-        let restored = ClientNegotiation::restore(row.alloc, profile, hostname, &self.snapshot());
-        row.end();
-        take_restored(row, self, restored);
-    }
-
-    fn restore_copy(&mut self, row: &mut Row<'_>) {
-        let hostname = text_after(row, "hostname");
-        let profile = match self.profile().clone() {
-            Ok(profile) => profile,
-            Err(error) => return row.refuse(error),
-        };
-        row.begin("restored_client");
-        let restored = restored_client(row.alloc, self, profile, hostname);
-        row.end();
-        take_restored(row, self, restored);
+        if let Some(profile) = row.get(self.profile().clone()) {
+            let restored = if is_copy {
+                call!(row: "restored_client" => restored_client(row.alloc, self, profile, hostname))
+            } else {
+                call!(row: "ClientNegotiation::restore" =>
+                    ClientNegotiation::restore(row.alloc, profile, hostname, &self.snapshot()))
+            };
+            take_restored(row, self, restored);
+        }
     }
 }
 
@@ -111,18 +88,11 @@ impl Side for PolicyClient<'_> {
 
 /// Answers the lines of a paragraph by a client of a profile.
 pub fn answer_paragraph<'a>(row: &mut Row<'a>, lines: &'a str) {
-    match named_by(row) {
-        Some(named) => {
-            let Named {
-                profile,
-                hostname,
-                limit,
-            } = named;
-            let mut side = ClientNegotiation::with_frame_limit(row.alloc, profile, hostname, limit);
-            answer_events(row, &mut side, lines);
-        }
-        None => row.refuse("no profile"),
-    }
+    let Some((profile, hostname, limit)) = named_by(row) else {
+        return row.refuse("no profile");
+    };
+    let mut side = ClientNegotiation::with_frame_limit(row.alloc, profile, hostname, limit);
+    answer_events(row, &mut side, lines);
 }
 
 /// Reads what a client may log in by: `MECHANISM`, the weakest SCRAM, and the options `plain`, `channel KIND DATA` and

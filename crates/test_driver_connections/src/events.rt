@@ -4,7 +4,8 @@ use bytes::BytesMut;
 use fe2o3_sasl_negotiation::{
     CloseReason, ConnectionSide, Endpoint, Meter, Progress, Role, Snapshot,
 };
-use test_rows::Row;
+use std::fmt::Debug;
+use test_rows::{Row, again, call, free_call};
 
 /// A side of a server, or of a client.
 pub trait Side {
@@ -19,14 +20,9 @@ pub trait Side {
         None
     }
 
-    /// Restores what the side saves, over the acceptor or the profile that the row names, and says the error if there
-    /// is one.
-    fn restore(&mut self, row: &mut Row<'_>) {
-        row.refuse("no snapshot");
-    }
-
-    /// Restores what the side saves, over a copy of its acceptor or of its profile.
-    fn restore_copy(&mut self, row: &mut Row<'_>) {
+    /// Restores what the side saves, over a copy of its acceptor or its profile, or over those that the row names, and
+    /// says the error if there is one.
+    fn restore(&mut self, row: &mut Row<'_>, _is_copy: bool) {
         row.refuse("no snapshot");
     }
 }
@@ -70,12 +66,10 @@ where
     };
     for line in lines.lines() {
         if let Some((event, wanted)) = line.split_once(" => ") {
-            row.turn_to(event);
-            answer(row, side, &mut wire);
-            if row.ran_out() {
+            again!(row: {
                 row.turn_to(event);
                 answer(row, side, &mut wire);
-            }
+            });
             row.agree(wanted);
         }
     }
@@ -89,9 +83,7 @@ where
     ConnectionSide<E, R>: Side,
 {
     if row.takes("end") {
-        row.begin_free("ConnectionSide::end_of_input");
-        let progress = side.end_of_input();
-        row.end();
+        let progress = free_call!(row: "ConnectionSide::end_of_input" => side.end_of_input());
         say_progress(row, progress);
     } else if row.takes("extended") {
         side.accept_extended_headers(true);
@@ -105,9 +97,9 @@ where
     } else if row.takes("wants-nonce") {
         row.say(side.wants_nonce());
     } else if row.takes("restore") {
-        side.restore(row);
+        side.restore(row, false);
     } else if row.takes("restore-copy") {
-        side.restore_copy(row);
+        side.restore(row, true);
     } else if row.takes("save") {
         say_saved(row, side.saved());
     } else if row.takes("frame") {
@@ -125,18 +117,23 @@ where
     ConnectionSide<E, R>: Side,
 {
     let (nonce, bytes, mut meter) = (row.nonce(), row.digits(), Meter::new());
-    row.begin("ConnectionSide::receive");
-    let received = side.receive(row.alloc, &bytes, &nonce, &mut meter, &mut wire.out);
-    row.end();
-    match &received {
-        Ok(received) => {
-            wire.cost = wire.cost.saturating_add(meter.count());
-            row.say(received.taken);
-            row.say_digits(wire.out.as_slice());
-            wire.out.clear();
-            say_progress(row, side.progress());
-            side.say_user(row);
-        }
+    let made = call!(row: "ConnectionSide::receive" =>
+        side.receive(row.alloc, &bytes, &nonce, &mut meter, &mut wire.out));
+    if let Some(received) = row.get(made) {
+        wire.cost = wire.cost.saturating_add(meter.count());
+        row.say(received.taken);
+        row.say_digits(wire.out.as_slice());
+        wire.out.clear();
+        say_progress(row, side.progress());
+        side.say_user(row);
+    }
+}
+
+/// Says bytes that were found, if there are any.
+fn say_found<E: Debug>(row: &mut Row<'_>, found: &Result<Option<Vec<u8>>, E>) {
+    match found {
+        Ok(Some(bytes)) => row.say_digits(bytes),
+        Ok(None) => row.say("none"),
         Err(error) => row.show(error),
     }
 }
@@ -144,14 +141,8 @@ where
 /// Says the additional data of the outcome that bytes complete.
 fn peek_refusal<E: Endpoint<R>, R: Role>(row: &mut Row<'_>, side: &ConnectionSide<E, R>) {
     let bytes = row.digits();
-    row.begin("ConnectionSide::peek_refusal");
-    let found = side.peek_refusal(row.alloc, &bytes);
-    row.end();
-    match &found {
-        Ok(Some(data)) => row.say_digits(data),
-        Ok(None) => row.say("none"),
-        Err(error) => row.show(error),
-    }
+    let found = call!(row: "ConnectionSide::peek_refusal" => side.peek_refusal(row.alloc, &bytes));
+    say_found(row, &found);
 }
 
 /// Says why a negotiation has failed, in a sentence, and another header than that of SASL.
@@ -184,12 +175,6 @@ fn peek_frame(row: &mut Row<'_>, saved: Option<Snapshot<'_>>) {
     let Some(saved) = saved else {
         return row.refuse("no snapshot");
     };
-    row.begin("Snapshot::peek_frame");
-    let found = saved.peek_frame(row.alloc, &bytes);
-    row.end();
-    match &found {
-        Ok(Some(body)) => row.say_digits(body),
-        Ok(None) => row.say("none"),
-        Err(error) => row.show(error),
-    }
+    let found = call!(row: "Snapshot::peek_frame" => saved.peek_frame(row.alloc, &bytes));
+    say_found(row, &found);
 }

@@ -8,7 +8,7 @@ mod servers;
 
 use fe2o3_sasl_negotiation::ClientNegotiation;
 use std::process::ExitCode;
-use test_rows::{Answers, Row, replay};
+use test_rows::{Answers, Row, call, replay};
 
 /// The calls that a row can name.
 #[derive(Drop)]
@@ -40,25 +40,12 @@ impl Answers for Calls {
 /// Answers the header that a client sends first.
 fn answer_open(row: &mut Row<'_>) {
     let mut out = bytes::BytesMut::new(row.alloc);
-    row.begin("ClientNegotiation::open");
-    let opened = ClientNegotiation::open(&mut out);
-    row.end();
-    match &opened {
-        Ok(()) => row.say_digits(out.as_slice()),
-        Err(error) => row.show(error),
+    let opened = call!(row: "ClientNegotiation::open" => ClientNegotiation::open(&mut out));
+    if row.get(opened).is_some() {
+        row.say_digits(out.as_slice());
     }
 }
 
-/// The files of rows.
-static FILES: [&str; 6] = [
-    "connections.txt",
-    "peer-connections.txt",
-    "worked-connections.txt",
-    "calls.txt",
-    "calls-runs.txt",
-    "calls-logins.txt",
-];
-
 fn main(rt: HostRuntime) -> ExitCode {
-    replay(&rt, &mut Calls {}, &FILES)
+    replay(&rt, &mut Calls {})
 }

@@ -7,31 +7,24 @@ use fe2o3_sasl_negotiation::{
     AuthenticatedUser, ConnectionSide, Endpoint, Negotiated, OutOfMemory, Piece, Role,
     ServerNegotiation, client_connection, scram_server_connection, server_connection,
 };
-use test_rows::Row;
+use test_rows::{Row, call};
 
-/// The bytes of pieces, and the nonce of each.
-#[derive(Drop)]
-struct Arrived {
-    nonce: [u8; 32],
-    bytes: Vec<Vec<u8>>,
-}
-
-/// Reads the pieces of a row: `NONCE BYTES..`.
-fn arrived_by(row: &mut Row<'_>) -> Arrived {
-    let (nonce, mut bytes) = (row.nonce(), Vec::new(row.alloc));
+/// Reads the bytes of pieces, up to the end of a row.
+fn bytes_by(row: &mut Row<'_>) -> Vec<Vec<u8>> {
+    let mut bytes = Vec::new(row.alloc);
     for piece in row.rest().split(' ') {
         row.turn_to(piece);
         let piece = row.digits();
         row.push(&mut bytes, piece);
     }
-    Arrived { nonce, bytes }
+    bytes
 }
 
-/// Returns the pieces.
-fn pieces_of<'a>(row: &mut Row<'_>, arrived: &'a Arrived) -> Vec<Piece<'a>> {
-    let (nonce, mut pieces) = (arrived.nonce, Vec::new(row.alloc));
-    for bytes in arrived.bytes.iter() {
-        let bytes = bytes.as_slice();
+/// Returns the pieces of these bytes, each with this nonce.
+fn pieces_of<'a>(row: &mut Row<'_>, nonce: [u8; 32], bytes: &'a [Vec<u8>]) -> Vec<Piece<'a>> {
+    let mut pieces = Vec::new(row.alloc);
+    for piece in bytes.iter() {
+        let bytes = piece.as_slice();
         row.push(&mut pieces, Piece { bytes, nonce });
     }
     pieces
@@ -49,56 +42,48 @@ fn say_negotiated<E: Endpoint<R>, R: Role>(
 }
 
 /// Says what a server was sent, and its user.
-fn say_served<A: AuthenticatedUser>(
+fn say_served<A: AuthenticatedUser + Drop>(
     row: &mut Row<'_>,
-    answer: &Result<Negotiated<ServerNegotiation<A>>, OutOfMemory>,
+    made: Result<Negotiated<ServerNegotiation<A>>, OutOfMemory>,
 ) {
-    match answer {
-        Ok(negotiated) => {
-            say_negotiated(row, negotiated);
-            say_user(row, &negotiated.side);
-        }
-        Err(error) => row.show(error),
+    if let Some(negotiated) = row.get(made) {
+        say_negotiated(row, &negotiated);
+        say_user(row, &negotiated.side);
     }
 }
 
-/// Answers the pieces of a row by a server.
+/// Answers the pieces of a row by a server: its words, and `NONCE BYTES..`.
 pub fn answer_server(row: &mut Row<'_>) {
     let served = served_by(row);
     let Some(server) = served.server(row) else {
         return row.refuse("no server");
     };
-    let arrived = arrived_by(row);
-    let pieces = pieces_of(row, &arrived);
-    row.begin("server_connection");
-    let answer = server_connection(row.alloc, server, &pieces);
-    row.end();
-    say_served(row, &answer);
+    let (nonce, bytes) = (row.nonce(), bytes_by(row));
+    let pieces = pieces_of(row, nonce, &bytes);
+    let made = call!(row: "server_connection" => server_connection(row.alloc, server, &pieces));
+    say_served(row, made);
 }
 
 /// Answers the pieces of a row by a server of SCRAM.
 pub fn answer_scram_server(row: &mut Row<'_>) {
-    let (served, arrived) = (served_by(row), arrived_by(row));
-    let pieces = pieces_of(row, &arrived);
+    let (served, nonce, bytes) = (served_by(row), row.nonce(), bytes_by(row));
+    let pieces = pieces_of(row, nonce, &bytes);
     let records = served.users.for_version(served.version);
-    row.begin("scram_server_connection");
-    let answer = scram_server_connection(row.alloc, records, &pieces);
-    row.end();
-    say_served(row, &answer);
+    let made = call!(row: "scram_server_connection" =>
+        scram_server_connection(row.alloc, records, &pieces));
+    say_served(row, made);
 }
 
 /// Answers the pieces of a row by a client.
 pub fn answer_client(row: &mut Row<'_>) {
-    let Some(named) = named_by(row) else {
+    let Some((profile, hostname, _)) = named_by(row) else {
         return row.refuse("no profile");
     };
-    let arrived = arrived_by(row);
-    let pieces = pieces_of(row, &arrived);
-    row.begin("client_connection");
-    let answer = client_connection(row.alloc, named.profile, named.hostname, &pieces);
-    row.end();
-    match &answer {
-        Ok(negotiated) => say_negotiated(row, negotiated),
-        Err(error) => row.show(error),
+    let (nonce, bytes) = (row.nonce(), bytes_by(row));
+    let pieces = pieces_of(row, nonce, &bytes);
+    let made = call!(row: "client_connection" =>
+        client_connection(row.alloc, profile, hostname, &pieces));
+    if let Some(negotiated) = row.get(made) {
+        say_negotiated(row, &negotiated);
     }
 }

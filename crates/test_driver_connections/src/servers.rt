@@ -9,7 +9,7 @@ use fe2o3_sasl_negotiation::{
     WithExtraChallenges, restored_server,
 };
 use std::sync::Arc;
-use test_rows::Row;
+use test_rows::{Row, call};
 
 /// A server of any mechanisms.
 pub type Server = WithExtraChallenges<PasswordServer>;
@@ -81,13 +81,10 @@ fn add_user(row: &mut Row<'_>, is_plain: bool, served: &mut Served) {
         (row.digits(), row.number())
     };
     let (alloc, version, typed) = (row.alloc, served.version, Password::Typed(&password));
-    match ScramRecord::from_password(alloc, version, typed, &salt, count, &mut Meter::new()) {
-        Ok(record) => {
-            let name = row.own(&user);
-            let added = served.users.add(name, record);
-            row.made(added, ());
-        }
-        Err(error) => row.refuse(error),
+    let made = ScramRecord::from_password(alloc, version, typed, &salt, count, &mut Meter::new());
+    if let Some(record) = row.get(made) {
+        let added = served.users.add(row.own(&user), record);
+        row.made(added, ());
     }
     served.plain = (user, password);
 }
@@ -132,13 +129,8 @@ impl Served {
 
     /// Returns the server of a builder.
     fn build(&self, row: &mut Row<'_>, builder: PasswordServerBuilder<'_>) -> Option<Server> {
-        match builder.build(row.alloc) {
-            Ok(server) => Some(WithExtraChallenges::new(server, self.extra)),
-            Err(error) => {
-                row.refuse(error);
-                None
-            }
-        }
+        let server = row.get(builder.build(row.alloc))?;
+        Some(WithExtraChallenges::new(server, self.extra))
     }
 
     /// Returns the server of a new connection.
@@ -196,12 +188,9 @@ impl Saved for SaslAnonymousMechanism {}
 
 /// Takes a restored side, or says the error.
 pub fn take_restored<S: Drop>(row: &mut Row<'_>, side: &mut S, restored: Result<S, RestoreError>) {
-    match restored {
-        Ok(restored) => {
-            *side = restored;
-            row.say("restored");
-        }
-        Err(error) => row.show(&error),
+    if let Some(restored) = row.get(restored) {
+        *side = restored;
+        row.say("restored");
     }
 }
 
@@ -218,24 +207,21 @@ impl<A: AuthenticatedUser + Saved + Drop> Side for ServerNegotiation<A> {
         Some(self.snapshot())
     }
 
-    fn restore(&mut self, row: &mut Row<'_>) {
-        let Some(acceptor) = self.acceptor().continued(row) else {
+    fn restore(&mut self, row: &mut Row<'_>, is_copy: bool) {
+        let acceptor = if is_copy {
+            row.get(self.acceptor().clone())
+        } else {
+            self.acceptor().continued(row)
+        };
+        let Some(acceptor) = acceptor else {
             return row.refuse("no server");
         };
-        row.begin("ServerNegotiation::restore");
-        let restored = ServerNegotiation::restore(row.alloc, acceptor, &self.snapshot());
-        row.end();
-        take_restored(row, self, restored);
-    }
-
-    fn restore_copy(&mut self, row: &mut Row<'_>) {
-        let acceptor = match self.acceptor().clone() {
-            Ok(acceptor) => acceptor,
-            Err(error) => return row.refuse(error),
+        let restored = if is_copy {
+            call!(row: "restored_server" => restored_server(row.alloc, self, acceptor))
+        } else {
+            call!(row: "ServerNegotiation::restore" =>
+                ServerNegotiation::restore(row.alloc, acceptor, &self.snapshot()))
         };
-        row.begin("restored_server");
-        let restored = restored_server(row.alloc, self, acceptor);
-        row.end();
         take_restored(row, self, restored);
     }
 }

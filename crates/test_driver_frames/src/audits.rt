@@ -7,15 +7,14 @@ use crate::words::{bound_channel, channels, version};
 use fe2o3_sasl::audit::audit;
 use fe2o3_sasl::scram_messages::ServerRules;
 use fe2o3_sasl::*;
-use test_rows::Row;
+use test_rows::{Row, again, call};
 
 impl Reply for Finding {
     fn say(&self, row: &mut Row<'_>) {
-        let kind = match self.kind {
+        row.say(match self.kind {
             FindingKind::Verifier => "verifier",
             FindingKind::Proof => "proof",
-        };
-        row.say(kind);
+        });
         row.say(self.client);
         row.say(self.server);
         match &self.verdict {
@@ -41,10 +40,7 @@ impl Reply for Finding {
 
 /// Checks an audit: `VERSION USER PASSWORD SERVER-USER SERVER-PASSWORD SALT`, followed by options.
 pub fn check<'a>(row: &mut Row<'a>, run: &Run<'a>) {
-    answer(row, run);
-    if row.ran_out() {
-        answer(row, run);
-    }
+    again!(row: answer(row, run));
     run.agree(row);
 }
 
@@ -55,8 +51,8 @@ fn answer<'a>(row: &mut Row<'a>, run: &Run<'a>) {
     let (user, password) = (row.text_of_digits(), row.text_of_digits());
     let (client, server) = (run.client_events.as_slice(), run.events.as_slice());
     let credential = credential_of(row, version);
-    let Ok(credential) = &credential else {
-        return row.refuse("no credential");
+    let Some(credential) = &credential else {
+        return;
     };
     let (options, rules) = options_of(row);
     let limit = options.limits.max_iterations;
@@ -74,27 +70,26 @@ fn answer<'a>(row: &mut Row<'a>, run: &Run<'a>) {
         call!(row: "audit_with_options" =>
             audit_with_options(alloc, &user, &password, version, options, client, rules, credential, server))
     };
-    say_all(row, &found);
+    say_all(row, found);
 }
 
 /// Returns the options of a client and the rules of a server, as the head of `channel-audits.txt` has them.
 fn options_of(row: &mut Row<'_>) -> (ClientOptions, ServerRules) {
     let (mut options, mut rules) = (ClientOptions::new(), ServerRules::new());
     for _ in 0..8 {
-        if row.is_over() {
-            break;
-        }
-        match row.word() {
-            "client" => options.channel = bound_channel(row),
-            "unoffered" => options.channel = ClientChannel::NotOffered,
-            "strict" => options.strict = true,
-            "signature_by_challenge" => options.signature_by_challenge = true,
-            "least" => options.limits.min_iterations = row.number(),
-            "most" => options.limits.max_iterations = row.number(),
-            "server" => rules.channels = channels(row),
-            "cbind_flag_y" => rules.accept_cbind_flag_y = true,
-            "reject_misplaced" => rules.reject_misplaced = true,
-            _ => row.refuse("no option"),
+        if !row.is_over() {
+            match row.word() {
+                "client" => options.channel = bound_channel(row),
+                "unoffered" => options.channel = ClientChannel::NotOffered,
+                "strict" => options.strict = true,
+                "signature_by_challenge" => options.signature_by_challenge = true,
+                "least" => options.limits.min_iterations = row.number(),
+                "most" => options.limits.max_iterations = row.number(),
+                "server" => rules.channels = channels(row),
+                "cbind_flag_y" => rules.accept_cbind_flag_y = true,
+                "reject_misplaced" => rules.reject_misplaced = true,
+                _ => row.refuse("no option"),
+            }
         }
     }
     (options, rules)

@@ -1,12 +1,12 @@
 //! Clients: profiles, and those of SCRAM in whole runs.
 
-use crate::frames::say_body;
-use crate::replies::{Reply, made, say_all, say_made, say_outcome};
+use crate::frames::say_frame;
+use crate::replies::{Reply, say_all, say_outcome};
 use crate::runs::{Run, Side, check_side, check_steps};
-use crate::words::{bound_channel, version};
+use crate::words::{bound_channel, keys_of, version};
 use fe2o3_sasl::*;
 use fe2o3_sasl_wire::{Frame, FrameView, view_frame};
-use test_rows::Row;
+use test_rows::{Row, again, call};
 
 /// A profile as a side, and the hostname of its init.
 #[derive(Drop)]
@@ -18,45 +18,35 @@ struct Client {
 impl Side for Client {
     fn run(&self, row: &mut Row<'_>, events: &[Event]) {
         let copy = call!(row: "SaslProfile::clone" => self.profile.clone());
-        if let Some(mut copy) = made(row, copy) {
-            let hostname = self.hostname.as_deref();
-            let replies =
-                call!(row: "run_profile" => run_profile(row.alloc, &mut copy, events, hostname));
-            say_all(row, &replies);
+        if let Some(mut copy) = row.get(copy) {
+            let replies = call!(row: "run_profile" =>
+                run_profile(row.alloc, &mut copy, events, self.hostname.as_deref()));
+            say_all(row, replies);
         }
     }
 
+    /// Says the answer to an event by a call: one of the steps, one of the profile's own, or a part of its init with
+    /// the nonce.
     fn step(&mut self, row: &mut Row<'_>, call: &str, event: &Event) {
-        let hostname = self.hostname.as_deref();
-        step(row, &mut self.profile, hostname, call, event);
+        let (alloc, hostname, mut meter) = (row.alloc, self.hostname.as_deref(), Meter::new());
+        let profile: &mut SaslProfile = &mut self.profile;
+        let Event { body, nonce } = event;
+        let reply = match (call, view_frame(body)) {
+            ("step", _) =>
+                call!(row: "profile_step" => profile_step(alloc, profile, event, hostname)),
+            ("body", _) => call!(row: "profile_body_step" =>
+                profile_body_step(alloc, profile, body, nonce, hostname, &mut meter)),
+            ("frame", Ok((view, _))) => call!(row: "profile_frame_step" =>
+                profile_frame_step(alloc, profile, view, nonce, hostname, &mut meter)),
+            (_, Ok((view, _))) => return own_step(row, profile, hostname, call, (view, nonce)),
+            _ => return say_part(row, profile, call, nonce),
+        };
+        reply.say(row);
     }
 }
 
-/// Says the answer of a profile to an event by a call: one of the steps, one of the profile's own, or a part of its init
-/// with the nonce.
-fn step(
-    row: &mut Row<'_>,
-    profile: &mut SaslProfile,
-    hostname: Option<&str>,
-    call: &str,
-    event: &Event,
-) {
-    let (alloc, mut meter) = (row.alloc, Meter::new());
-    let Event { body, nonce } = event;
-    let reply = match (call, view_frame(body)) {
-        ("step", _) => call!(row: "profile_step" => profile_step(alloc, profile, event, hostname)),
-        ("body", _) =>
-            call!(row: "profile_body_step" => profile_body_step(alloc, profile, body, nonce, hostname, &mut meter)),
-        ("frame", Ok((view, _))) =>
-            call!(row: "profile_frame_step" => profile_frame_step(alloc, profile, view, nonce, hostname, &mut meter)),
-        (_, Ok((view, _))) => return step_itself(row, profile, hostname, call, (view, nonce)),
-        _ => return say_part(row, profile, call, nonce),
-    };
-    reply.say(row);
-}
-
 /// Says the answer of a profile by its own call, or the `Debug` text of the answer.
-fn step_itself(
+fn own_step(
     row: &mut Row<'_>,
     profile: &mut SaslProfile,
     hostname: Option<&str>,
@@ -75,14 +65,8 @@ fn step_itself(
     };
     match reply {
         reply if call == "shown" => row.show(&reply),
-        Ok(Negotiation::Init(init)) => {
-            row.say("Init");
-            say_body(row, Frame::Init(init));
-        }
-        Ok(Negotiation::Response(response)) => {
-            row.say("Response");
-            say_body(row, Frame::Response(response));
-        }
+        Ok(Negotiation::Init(init)) => say_frame(row, "Init", Frame::Init(init)),
+        Ok(Negotiation::Response(it)) => say_frame(row, "Response", Frame::Response(it)),
         Ok(Negotiation::Outcome(outcome)) => say_outcome(row, outcome),
         Err(error) => row.show(&error),
     }
@@ -111,10 +95,7 @@ fn say_initial_response(row: &mut Row<'_>, profile: &mut SaslProfile, nonce: &[u
     let response =
         call!(row: "SaslProfile::initial_response" => profile.initial_response(row.alloc, nonce));
     match response {
-        Ok(Some(response)) => {
-            let text = row.made(str::from_utf8(&response.0), "");
-            row.show(&text);
-        }
+        Ok(Some(response)) => row.show_made(&str::from_utf8(&response.0)),
         Ok(None) => row.say("none"),
         Err(error) => row.show(&error),
     }
@@ -138,7 +119,7 @@ fn run_scram(
         call!(row: "scram_client_run_with_options" =>
             scram_client_run_with_options(alloc, user, password, version, options, events))
     };
-    say_all(row, &replies);
+    say_all(row, replies);
 }
 
 /// Checks a client of SCRAM: `VERSION USER PASSWORD`, of a kind: `client` with a limit on the count or with none,
@@ -154,10 +135,7 @@ pub fn check_scram(row: &mut Row<'_>, run: &Run<'_>, kind: &str) {
         _ => options.limits.max_iterations = row.number(),
     }
     let words = (user.as_str(), password.as_str(), version);
-    run_scram(row, words, options, &run.events);
-    if row.ran_out() {
-        run_scram(row, words, options, &run.events);
-    }
+    again!(row: run_scram(row, words, options, &run.events));
     run.agree(row);
     let client = ScramClient::new(user, password, version)
         .with_iteration_limit(options.limits.max_iterations)
@@ -176,54 +154,37 @@ pub fn check_profile(row: &mut Row<'_>, run: &Run<'_>, kind: &str) {
     } else {
         profile_of(row, kind)
     };
-    match client_of(row, profile) {
-        Some(mut client) => check_side(row, run, &mut client),
-        None => run.agree(row),
+    if let Some(mut client) = client_of(row, profile) {
+        return check_side(row, run, &mut client);
     }
+    row.say("no profile");
+    run.agree(row);
 }
 
-/// Returns a profile with the hostname of the words that are left, or says that there is none.
+/// Returns a profile with the hostname of the words that are left.
 fn client_of(row: &mut Row<'_>, profile: Option<SaslProfile>) -> Option<Client> {
+    let profile = Box::new(row.alloc, profile?).ok()?;
     let hostname = if row.is_over() || row.takes("none") {
         None
     } else {
         Some(row.text_of_digits())
     };
-    match profile.map(|profile| Box::new(row.alloc, profile)) {
-        Some(Ok(profile)) => Some(Client { profile, hostname }),
-        _ => {
-            row.say("no profile");
-            None
-        }
-    }
+    Some(Client { profile, hostname })
 }
 
-/// Returns the profile of a user by a secret of a kind:
-///
-/// - `profile`: `MECHANISM USER PASSWORD LIMIT`;
-/// - `keyed`: `MECHANISM USER KEYS LIMIT`;
-/// - `both`: `MECHANISM USER PASSWORD KEYS LEAST LIMIT`;
-/// - `checked`: `PLAIN USER PASSWORD`, if a message can have both;
-/// - `prepared`: `MECHANISM USER PASSWORD`, with a prepared password;
-/// - `prepared-both`: `MECHANISM USER PASSWORD KEYS`, with prepared passwords.
-///
-/// The profile accepts the iteration counts from `LEAST` to `LIMIT`.
+/// Returns the profile of a user by a secret of a kind, as the heads of `named-runs.txt` and `clients.txt` have them.
 fn profile_of(row: &mut Row<'_>, kind: &str) -> Option<SaslProfile> {
     let (mechanism, user) = (row.word(), row.text_of_digits());
-    let password = match kind {
-        "keyed" => String::new(row.alloc),
-        _ => row.text_of_digits(),
-    };
-    let keys = match kind {
-        "keyed" | "both" | "prepared-both" => keys_of(row, mechanism, kind),
-        _ => None,
+    let (password, keys) = match kind {
+        "keyed" => (String::new(row.alloc), keys_for(row, mechanism, kind)),
+        "both" | "prepared-both" => (row.text_of_digits(), keys_for(row, mechanism, kind)),
+        _ => (row.text_of_digits(), None),
     };
     let least = if kind == "both" { row.number() } else { 1 };
-    let limit = if row.is_over() {
-        u32::MAX
-    } else {
-        row.number()
-    };
+    let mut limit = u32::MAX;
+    if !row.is_over() {
+        limit = row.number();
+    }
     match mechanism {
         "ANONYMOUS" => Some(SaslProfile::Anonymous),
         "EXTERNAL" => Some(SaslProfile::External),
@@ -233,44 +194,35 @@ fn profile_of(row: &mut Row<'_>, kind: &str) -> Option<SaslProfile> {
         "PLAIN" => Some(SaslProfile::plain(user, password)),
         name => {
             let version = ScramVersion::from_mechanism(name)?;
-            let secret = secret_of(kind, &password, &keys)?;
+            let secret = secret_of(kind, &password, &keys);
             let client = ScramClient::with_secret(row.alloc, user, secret, version).ok()?;
-            let client = client
-                .with_min_iterations(least)
-                .with_iteration_limit(limit);
-            Some(SaslProfile::from(client))
+            let client = client.with_min_iterations(least);
+            Some(SaslProfile::from(client.with_iteration_limit(limit)))
         }
     }
 }
 
 /// Returns keys: `PASSWORD SALT COUNT`, of a password that is prepared if that of the kind is.
-fn keys_of(row: &mut Row<'_>, mechanism: &str, kind: &str) -> Option<CachedKeys> {
-    let (alloc, version) = (row.alloc, ScramVersion::from_mechanism(mechanism)?);
-    let (password, salt, count) = (row.text_of_digits(), row.digits(), row.number());
-    let password = match kind {
-        "prepared-both" => Password::Prepared(&password),
-        _ => Password::Typed(&password),
-    };
-    let keys = CachedKeys::from_password(alloc, version, password, &salt, count, &mut Meter::new());
-    keys.ok()
+fn keys_for(row: &mut Row<'_>, mechanism: &str, kind: &str) -> Option<CachedKeys> {
+    let version = ScramVersion::from_mechanism(mechanism)?;
+    let password = row.text_of_digits();
+    keys_of(row, version, password_of(kind, &password))
+}
+
+/// Returns a password of a kind: prepared, or typed.
+fn password_of<'a>(kind: &str, text: &'a str) -> Password<'a> {
+    match kind {
+        "prepared" | "prepared-both" => Password::Prepared(text),
+        _ => Password::Typed(text),
+    }
 }
 
 /// Returns the secret of a kind.
-fn secret_of<'a>(
-    kind: &str,
-    password: &'a str,
-    keys: &'a Option<CachedKeys>,
-) -> Option<ClientSecret<'a>> {
-    let password = match kind {
-        "prepared" | "prepared-both" => Password::Prepared(password),
-        _ => Password::Typed(password),
-    };
-    match (kind, keys) {
-        ("profile" | "prepared", None) => Some(ClientSecret::Password(password)),
-        ("keyed", Some(keys)) => Some(ClientSecret::Keys(keys)),
-        ("both" | "prepared-both", Some(keys)) => {
-            Some(ClientSecret::PasswordAndKeys { password, keys })
-        }
-        _ => None,
+fn secret_of<'a>(kind: &str, password: &'a str, keys: &'a Option<CachedKeys>) -> ClientSecret<'a> {
+    let password = password_of(kind, password);
+    match keys {
+        Some(keys) if kind == "keyed" => ClientSecret::Keys(keys),
+        Some(keys) => ClientSecret::PasswordAndKeys { password, keys },
+        None => ClientSecret::Password(password),
     }
 }

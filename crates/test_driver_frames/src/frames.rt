@@ -1,12 +1,10 @@
 //! Bodies of SASL frames: what they are read as, how long they are, and what is written for them.
 
+use crate::replies::say_named;
 use bytes::BytesMut;
-use fe2o3_sasl_wire::{
-    Array, Binary, Frame, FrameCodec, FrameView, SaslInit, SaslMechanisms, SaslResponse, Symbol,
-    SymbolsView, view_frame,
-};
+use fe2o3_sasl_wire::*;
 use std::fmt::Write;
-use test_rows::Row;
+use test_rows::{Row, call};
 
 /// Says what a body is read as, how long that is, and what is written for its frame, or how the body is rejected.
 pub fn answer(row: &mut Row<'_>) {
@@ -20,7 +18,7 @@ pub fn answer(row: &mut Row<'_>) {
             if body.get(len..) != Some(buffer.as_slice()) {
                 row.refuse("decode takes another length");
             }
-            say_frame(row, view, len, frame);
+            say_read(row, view, len, frame);
         }
         (Err(fault), Err(error)) => {
             if fault != error || buffer.as_slice() != body.as_slice() {
@@ -35,16 +33,13 @@ pub fn answer(row: &mut Row<'_>) {
 }
 
 /// Says a frame that is read from a body, its length, and what is written for it after other bytes.
-fn say_frame(row: &mut Row<'_>, view: FrameView<'_>, len: usize, frame: Frame) {
+fn say_read(row: &mut Row<'_>, view: FrameView<'_>, len: usize, frame: Frame) {
     let mut written = BytesMut::new(row.alloc);
     let encoded = call!(row: "FrameCodec::encode" => FrameCodec {}.encode(frame, &mut written));
-    if let Err(error) = encoded {
-        return row.show(&error);
-    }
     row.say("read");
     row.say(len);
     say_fields(row, view);
-    row.say("written");
+    row.judge(&encoded, "written");
     row.say_digits(&written);
 }
 
@@ -52,28 +47,18 @@ fn say_frame(row: &mut Row<'_>, view: FrameView<'_>, len: usize, frame: Frame) {
 fn say_fields(row: &mut Row<'_>, view: FrameView<'_>) {
     match view {
         FrameView::Mechanisms(symbols) if symbols.is_empty() => row.say("Mechanisms empty"),
-        FrameView::Mechanisms(symbols) => {
-            row.say("Mechanisms");
-            say_names(row, &symbols);
-        }
+        FrameView::Mechanisms(symbols) => say_names(row, &symbols),
         FrameView::Init {
             mechanism,
             initial_response,
             hostname,
         } => {
-            row.say("Init");
-            row.say_digits(mechanism.as_bytes());
+            say_named(row, "Init", mechanism.as_bytes());
             say_optional(row, initial_response);
             say_optional(row, hostname.map(|name| name.as_bytes()));
         }
-        FrameView::Challenge(challenge) => {
-            row.say("Challenge");
-            row.say_digits(challenge);
-        }
-        FrameView::Response(response) => {
-            row.say("Response");
-            row.say_digits(response);
-        }
+        FrameView::Challenge(challenge) => say_named(row, "Challenge", challenge),
+        FrameView::Response(response) => say_named(row, "Response", response),
         FrameView::Outcome {
             code,
             additional_data,
@@ -85,7 +70,7 @@ fn say_fields(row: &mut Row<'_>, view: FrameView<'_>) {
     }
 }
 
-/// Says the symbols of a list, joined by commas.
+/// Says the symbols of an offer, joined by commas.
 fn say_names(row: &mut Row<'_>, symbols: &SymbolsView<'_>) {
     let mut names = String::new(row.alloc);
     for symbol in symbols.iter() {
@@ -95,6 +80,7 @@ fn say_names(row: &mut Row<'_>, symbols: &SymbolsView<'_>) {
         let digits = if digits.is_empty() { "-" } else { &digits };
         row.made(write!(names, "{comma}{digits}"), ());
     }
+    row.say("Mechanisms");
     row.say(names);
 }
 
@@ -106,11 +92,11 @@ fn say_optional(row: &mut Row<'_>, bytes: Option<&[u8]>) {
     }
 }
 
-/// Says the canonical body of a frame.
-pub fn say_body(row: &mut Row<'_>, frame: Frame) {
+/// Says a name and the canonical body of a frame.
+pub fn say_frame(row: &mut Row<'_>, name: &str, frame: Frame) {
     let mut body = BytesMut::new(row.alloc);
     row.made(FrameCodec {}.encode(frame, &mut body), ());
-    row.say_digits(&body);
+    say_named(row, name, &body);
 }
 
 /// Returns the body of a frame: hexadecimal digits, `init MECHANISM RESPONSE`, of which the last word may be
@@ -127,16 +113,16 @@ pub fn body_of(row: &mut Row<'_>) -> Vec<u8> {
         return row.digits();
     };
     let mut body = BytesMut::new(row.alloc);
-    match frame {
-        Some(frame) => row.made(FrameCodec {}.encode(frame, &mut body), ()),
-        None => row.refuse("no symbol"),
+    if let Some(frame) = frame {
+        row.made(FrameCodec {}.encode(frame, &mut body), ());
     }
     row.made(body.into_vec(), Vec::new(row.alloc))
 }
 
 /// Returns the init of a mechanism.
 fn init_of(row: &mut Row<'_>) -> Option<Frame> {
-    let mechanism = Symbol::new(row.alloc, row.word()).ok()?;
+    let mechanism = Symbol::new(row.alloc, row.word());
+    let mechanism = row.get(mechanism)?;
     let initial_response = if row.is_over() || row.takes("none") {
         None
     } else {
@@ -153,7 +139,7 @@ fn init_of(row: &mut Row<'_>) -> Option<Frame> {
 fn mechanisms_of(row: &mut Row<'_>) -> Option<Frame> {
     let mut symbols = Vec::new(row.alloc);
     for name in row.word().split(',') {
-        let symbol = Symbol::new(row.alloc, name).ok()?;
+        let symbol = row.get(Symbol::new(row.alloc, name))?;
         row.push(&mut symbols, symbol);
     }
     Some(Frame::Mechanisms(SaslMechanisms {

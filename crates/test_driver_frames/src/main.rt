@@ -1,21 +1,11 @@
 //! Answers the rows of `data/` about frames, mechanisms, runs over bodies of frames, and audits.
 #![tactic(auto)]
 
-/// Marks a call that may run out of memory, by its name, and returns its result.
-macro_rules! call {
-    ($row:ident: $name:expr => $made:expr) => {{
-        $row.begin($name);
-        let made: Result<_, _> = $made;
-        $row.end();
-        made
-    }};
-}
-
-/// Marks a call that may run out of memory, and says its result.
+/// Makes a call that may run out of memory, and says its result.
 macro_rules! show_call {
     ($row:ident: $name:expr => $made:expr) => {{
         let made = call!($row: $name => $made);
-        say_made($row, &made)
+        $row.show_made(&made)
     }};
 }
 
@@ -32,27 +22,6 @@ mod words;
 
 use std::process::ExitCode;
 use test_rows::{Answers, Row, replay};
-
-/// The files of rows.
-static FILES: [&str; 17] = [
-    "calls.txt",
-    "calls-runs.txt",
-    "calls-audits.txt",
-    "texts.txt",
-    "values.txt",
-    "offers.txt",
-    "clients.txt",
-    "frames.txt",
-    "worked-frames.txt",
-    "peers.txt",
-    "runs.txt",
-    "peer-runs.txt",
-    "named-runs.txt",
-    "cbind-flag-y-runs.txt",
-    "audits.txt",
-    "named-audits.txt",
-    "channel-audits.txt",
-];
 
 /// Answers rows.
 #[derive(Drop)]
@@ -94,5 +63,5 @@ impl Answers for Driver {
 }
 
 fn main(rt: HostRuntime) -> ExitCode {
-    replay(&rt, &mut Driver, &FILES)
+    replay(&rt, &mut Driver)
 }

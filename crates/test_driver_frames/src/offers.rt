@@ -1,13 +1,12 @@
 //! Servers of several mechanisms over records of users.
 
-use crate::replies::made;
 use crate::runs::Run;
 use crate::servers::serve;
 use crate::words::{channels, version};
 use fe2o3_sasl::*;
 use std::fmt::Write;
 use std::sync::Arc;
-use test_rows::Row;
+use test_rows::{Row, again, call};
 
 /// Returns the users of the words `user NAME RECORD`.
 fn users_of(row: &mut Row<'_>) -> MultiRecordStore {
@@ -34,41 +33,23 @@ fn rights_of(row: &mut Row<'_>) -> ActingRights {
     rights
 }
 
-/// Returns the form of passwords of a name.
-fn form_of(row: &mut Row<'_>) -> PlainPasswords {
-    match row.word() {
-        "Typed" => PlainPasswords::Typed,
-        "Prepared" => PlainPasswords::Prepared,
-        _ => PlainPasswords::Saslprep,
-    }
-}
-
-/// The words of a server that are no options of its builder.
-#[derive(Clone, Copy)]
-struct Words<'a> {
-    extra: ExtraChallenges,
-    only: &'a str,
-}
-
-/// Returns a builder with the options of the words that are left, and the other words.
+/// Returns a builder with the options of the words that are left, the extra challenges, and the mechanisms of `only`.
 fn options_of<'a: 'b, 'b>(
     row: &mut Row<'a>,
     mut builder: PasswordServerBuilder<'b>,
-) -> (PasswordServerBuilder<'b>, Words<'a>) {
-    let (extra, only) = (ExtraChallenges::default(), "");
-    let mut words = Words { extra, only };
+) -> (PasswordServerBuilder<'b>, ExtraChallenges, &'a str) {
+    let (mut extra, mut only) = (ExtraChallenges::default(), "");
     for _ in 0..12 {
-        if row.is_over() {
-            break;
-        }
-        match row.word() {
-            "asks" => words.extra.initial_response = true,
-            "signs" => words.extra.signature = true,
-            "only" => words.only = row.word(),
-            word => builder = option_of(row, builder, word),
+        if !row.is_over() {
+            match row.word() {
+                "asks" => extra.initial_response = true,
+                "signs" => extra.signature = true,
+                "only" => only = row.word(),
+                word => builder = option_of(row, builder, word),
+            }
         }
     }
-    (builder, words)
+    (builder, extra, only)
 }
 
 /// Returns a builder with the option of a word and of those after it.
@@ -79,7 +60,11 @@ fn option_of<'a: 'b, 'b>(
 ) -> PasswordServerBuilder<'b> {
     match word {
         "plain" => builder.plain_records(version(row), row.number()),
-        "passwords" => builder.plain_passwords(form_of(row)),
+        "passwords" => builder.plain_passwords(match row.word() {
+            "Typed" => PlainPasswords::Typed,
+            "Prepared" => PlainPasswords::Prepared,
+            _ => PlainPasswords::Saslprep,
+        }),
         "external" => builder.external(row.word()),
         "mock" => {
             let (secret, len, count) = (row.word(), row.number() as usize, row.number());
@@ -115,48 +100,38 @@ pub fn check<'a>(row: &mut Row<'a>, run: &Run<'a>) {
         .plain_under_tls(has("PLAIN"))
         .anonymous(has("ANONYMOUS"))
         .acting_rights(&rights);
-    let (builder, words) = options_of(row, builder);
-    let mut server = built(row, &builder);
-    if row.ran_out() {
-        server = built(row, &builder);
+    let (builder, extra, only) = options_of(row, builder);
+    if !only.is_empty() {
+        let mut restricted = None;
+        again!(row: restricted = restricted_of(row, &builder, only));
+        return serve(row, run, restricted, "RestrictMechanisms::clone");
     }
-    let Some(server) = server else {
-        return run.agree(row);
-    };
-    if words.only.is_empty() && words.extra == ExtraChallenges::default() {
+    let mut server = None;
+    again!(row: server = built(row, &builder));
+    if extra == ExtraChallenges::default() {
         return serve(row, run, server, "PasswordServer::clone");
     }
-    if words.only.is_empty() {
-        let asking = WithExtraChallenges::new(server, words.extra);
-        return serve(row, run, asking, "WithExtraChallenges::clone");
-    }
-    let mut only = restricted(row, words.only, server);
-    if row.ran_out() {
-        only = built(row, &builder).and_then(|server| restricted(row, words.only, server));
-    }
-    match only {
-        Some(only) => serve(row, run, only, "RestrictMechanisms::clone"),
-        None => run.agree(row),
-    }
+    let asking = server.map(|server| WithExtraChallenges::new(server, extra));
+    serve(row, run, asking, "WithExtraChallenges::clone");
 }
 
 /// Returns a server, or says why there is none.
 fn built(row: &mut Row<'_>, builder: &PasswordServerBuilder<'_>) -> Option<PasswordServer> {
     let server = call!(row: "PasswordServerBuilder::build" => builder.build(row.alloc));
-    made(row, server)
+    row.get(server)
 }
 
 /// Returns a server that offers only these of its mechanisms, or says why there is none.
-fn restricted(
+fn restricted_of(
     row: &mut Row<'_>,
+    builder: &PasswordServerBuilder<'_>,
     only: &str,
-    server: PasswordServer,
 ) -> Option<RestrictMechanisms<PasswordServer>> {
-    let mut names = Vec::new(row.alloc);
+    let (server, mut names) = (built(row, builder)?, Vec::new(row.alloc));
     for name in only.split(',') {
         row.push(&mut names, name);
     }
     let restricted =
         call!(row: "RestrictMechanisms::new" => RestrictMechanisms::new(row.alloc, server, &names));
-    made(row, restricted)
+    row.get(restricted)
 }

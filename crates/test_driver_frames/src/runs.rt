@@ -4,13 +4,7 @@ use crate::frames::body_of;
 use crate::{clients, offers, servers};
 use fe2o3_sasl::Event;
 use std::fmt::Write;
-use test_rows::Row;
-
-/// The kinds of servers of SCRAM.
-static SERVERS: [&str; 4] = ["server", "cbind_flag_y", "reject_misplaced", "server_plus"];
-
-/// The kinds of clients of SCRAM.
-static CLIENTS: [&str; 3] = ["client", "client_plus", "client_unoffered"];
+use test_rows::{Row, again};
 
 /// A paragraph of a file.
 #[derive(Drop)]
@@ -100,10 +94,7 @@ pub trait Side {
 /// Checks the answers of a side in a whole run, unless another call than a step answers an event, and step by step.
 pub fn check_side<S: Side>(row: &mut Row<'_>, run: &Run<'_>, side: &mut S) {
     if run.calls.iter().all(|call| *call == "step") {
-        side.run(row, &run.events);
-        if row.ran_out() {
-            side.run(row, &run.events);
-        }
+        again!(row: side.run(row, &run.events));
         run.agree(row);
     }
     check_steps(row, run, side);
@@ -113,10 +104,7 @@ pub fn check_side<S: Side>(row: &mut Row<'_>, run: &Run<'_>, side: &mut S) {
 pub fn check_steps<S: Side>(row: &mut Row<'_>, run: &Run<'_>, side: &mut S) {
     let asked = run.events.iter().zip(run.calls.iter());
     for ((event, call), wanted) in asked.zip(run.wanted.iter()) {
-        side.step(row, call, event);
-        if row.ran_out() {
-            side.step(row, call, event);
-        }
+        again!(row: side.step(row, call, event));
         row.agree(wanted);
     }
 }
@@ -124,13 +112,16 @@ pub fn check_steps<S: Side>(row: &mut Row<'_>, run: &Run<'_>, side: &mut S) {
 /// Checks the answers of the side of a paragraph.
 pub fn check<'a>(row: &mut Row<'a>, run: &Run<'a>) {
     row.turn_to(run.side);
-    match row.word() {
+    let kind = row.word();
+    match kind {
         "acceptor" => servers::check_acceptor(row, run),
         "offers" => offers::check(row, run),
         "records" => servers::check_records(row, run),
-        kind if SERVERS.contains(&kind) => servers::check_scram(row, run, kind),
-        kind if CLIENTS.contains(&kind) => clients::check_scram(row, run, kind),
-        kind => clients::check_profile(row, run, kind),
+        "server" | "server_plus" | "cbind_flag_y" | "reject_misplaced" => {
+            servers::check_scram(row, run, kind)
+        }
+        "client" | "client_plus" | "client_unoffered" => clients::check_scram(row, run, kind),
+        _ => clients::check_profile(row, run, kind),
     }
 }
 

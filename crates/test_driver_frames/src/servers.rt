@@ -1,82 +1,70 @@
 //! Servers and acceptors.
 
-use crate::frames::say_body;
-use crate::replies::{Reply, made, say_all, say_made, say_outcome};
+use crate::frames::say_frame;
+use crate::replies::{Reply, say_all, say_outcome};
 use crate::runs::{Run, Side, check_side, check_steps};
 use crate::words::{channels, version};
 use fe2o3_sasl::scram_messages::ServerRules;
 use fe2o3_sasl::*;
-use fe2o3_sasl_wire::{Error, Frame, FrameView, view_frame};
-use test_rows::Row;
+use fe2o3_sasl_wire::{Error, Frame, view_frame};
+use test_rows::{Row, again, call};
 
-/// A server as a side.
-#[derive(Drop)]
-struct Server<A: HasMechanism>(WithLastAttempt<A>);
-
-impl<A: HasMechanism + Drop> Side for Server<A> {
+impl<A: HasMechanism + Drop> Side for WithLastAttempt<A> {
     fn run(&self, row: &mut Row<'_>, events: &[Event]) {
-        let copy = call!(row: "WithLastAttempt::clone" => self.0.clone());
-        if let Some(mut copy) = made(row, copy) {
+        let copy = call!(row: "WithLastAttempt::clone" => self.clone());
+        if let Some(mut copy) = row.get(copy) {
             let replies = call!(row: "run_acceptor" => run_acceptor(row.alloc, &mut copy, events));
-            say_all(row, &replies);
+            say_all(row, replies);
         }
     }
 
-    /// Says the answer by one of the steps, or what a server says of itself.
+    /// Says the answer to an event by a call: one of the steps, one of the server's own, or what it says of itself. `body`
+    /// and `frame` count the HMAC values, and name the user. `brief` says only the kind of the answer, and why it rejects.
     fn step(&mut self, row: &mut Row<'_>, call: &str, event: &Event) {
-        match (call, self.0.last_attempt()) {
-            ("mechanisms", _) =>
-                show_call!(row: "SaslAcceptor::mechanisms" => self.0.mechanisms(row.alloc)),
-            ("offer", _) =>
-                show_call!(row: "SaslAcceptorExt::sasl_mechanisms" => self.0.sasl_mechanisms(row.alloc)),
-            ("claims", Some(attempt)) => show_call!(row: "LoginAttempt::clone" => attempt.clone()),
-            ("claims", None) => row.say("none"),
-            _ => step(row, &mut self.0, call, event),
+        let (alloc, mut meter) = (row.alloc, Meter::new());
+        let Event { body, nonce } = event;
+        let reply = match (call, view_frame(body)) {
+            ("step" | "brief", _) =>
+                call!(row: "acceptor_step" => acceptor_step(alloc, self, event)),
+            ("body", _) =>
+                call!(row: "acceptor_body_step" => acceptor_body_step(alloc, self, body, nonce, &mut meter)),
+            ("frame", Ok((view, _))) =>
+                call!(row: "acceptor_frame_step" => acceptor_frame_step(alloc, self, view, nonce, &mut meter)),
+            (_, Ok(_)) => return own_step(row, self, call, event),
+            _ => return say_part(row, self, call),
+        };
+        match (call, &reply) {
+            ("brief", _) => return say_briefly(row, &reply, self.last_rejection()),
+            ("step", _) | (_, Err(_)) => return reply.say(row),
+            _ => reply.say(row),
         }
+        row.say("hmacs");
+        row.say(meter.count());
+        say_user(row, self);
     }
 }
 
-/// Says the answer of a server to an event by a call: one of the steps, or one of its own. `body` and `frame` count the
-/// HMAC values, and name the user. `brief` says only the kind of the answer, and why the server rejects.
-fn step<A: HasMechanism>(
-    row: &mut Row<'_>,
-    server: &mut WithLastAttempt<A>,
-    call: &str,
-    event: &Event,
-) {
-    let (alloc, mut meter) = (row.alloc, Meter::new());
-    let Event { body, nonce } = event;
-    let reply = match (call, view_frame(body)) {
-        ("step" | "brief", _) => call!(row: "acceptor_step" => acceptor_step(alloc, server, event)),
-        ("frame", Ok((view, _))) =>
-            call!(row: "acceptor_frame_step" => acceptor_frame_step(alloc, server, view, nonce, &mut meter)),
-        ("on" | "metered", Ok((view, _))) => return step_itself(row, server, call, view, nonce),
-        _ =>
-            call!(row: "acceptor_body_step" => acceptor_body_step(alloc, server, body, nonce, &mut meter)),
-    };
-    match (call, &reply) {
-        ("brief", _) => return say_briefly(row, &reply, server.last_rejection()),
-        ("step", _) | (_, Err(_)) => return reply.say(row),
-        _ => reply.say(row),
+/// Says what a server says of itself.
+fn say_part<A: HasMechanism>(row: &mut Row<'_>, server: &WithLastAttempt<A>, call: &str) {
+    match (call, server.last_attempt()) {
+        ("mechanisms", _) =>
+            show_call!(row: "SaslAcceptor::mechanisms" => server.mechanisms(row.alloc)),
+        ("offer", _) =>
+            show_call!(row: "SaslAcceptorExt::sasl_mechanisms" => server.sasl_mechanisms(row.alloc)),
+        (_, Some(attempt)) => show_call!(row: "LoginAttempt::clone" => attempt.clone()),
+        (_, None) => row.say("none"),
     }
-    row.say("hmacs");
-    row.say(meter.count());
-    say_user(row, server);
 }
 
 /// Says the kind of a reply, and why it rejects.
-fn say_briefly(
-    row: &mut Row<'_>,
-    reply: &Result<ServerReply, Error>,
-    rejection: Option<Rejection>,
-) {
+fn say_briefly(row: &mut Row<'_>, reply: &Result<ServerReply, Error>, reason: Option<Rejection>) {
     match reply {
         Ok(ServerReply::Challenge { .. }) => row.say("Challenge"),
         Ok(ServerReply::Outcome { code, .. }) => row.show(code),
         Err(error) => row.show(error),
     }
-    if let Some(rejection) = rejection {
-        row.show(&rejection);
+    if let Some(reason) = reason {
+        row.show(&reason);
     }
 }
 
@@ -93,14 +81,11 @@ fn say_user<A: AuthenticatedUser>(row: &mut Row<'_>, acceptor: &A) {
 }
 
 /// Says the answer of an acceptor by its own call.
-fn step_itself<A: AuthenticatedUser>(
-    row: &mut Row<'_>,
-    acceptor: &mut A,
-    call: &str,
-    view: FrameView<'_>,
-    nonce: &[u8; 32],
-) {
-    let (alloc, mut meter) = (row.alloc, Meter::new());
+fn own_step<A: AuthenticatedUser>(row: &mut Row<'_>, acceptor: &mut A, call: &str, event: &Event) {
+    let (alloc, nonce, mut meter) = (row.alloc, &event.nonce, Meter::new());
+    let Ok((view, _)) = view_frame(&event.body) else {
+        return row.refuse("no frame");
+    };
     let reply = match (view.to_frame(alloc), call) {
         (Ok(Frame::Init(init)), "metered") =>
             call!(row: "SaslAcceptor::on_init_metered" => acceptor.on_init_metered(alloc, init, nonce, &mut meter)),
@@ -113,10 +98,7 @@ fn step_itself<A: AuthenticatedUser>(
         _ => return row.refuse("neither an init nor a response"),
     };
     match reply {
-        Ok(SaslServerFrame::Challenge(challenge)) => {
-            row.say("Challenge");
-            say_body(row, Frame::Challenge(challenge));
-        }
+        Ok(SaslServerFrame::Challenge(it)) => say_frame(row, "Challenge", Frame::Challenge(it)),
         Ok(SaslServerFrame::Outcome(outcome)) => say_outcome(row, outcome),
         Ok(SaslServerFrame::Rejected(reason)) => {
             row.say("Rejected");
@@ -127,27 +109,24 @@ fn step_itself<A: AuthenticatedUser>(
     say_user(row, acceptor);
 }
 
-/// Checks a server of this acceptor, or copies the acceptor by a call of this name.
+/// Checks a server of this acceptor, or copies the acceptor by a call of this name. If there is none, the row says why.
 pub fn serve<A: HasMechanism + Drop>(
     row: &mut Row<'_>,
     run: &Run<'_>,
-    acceptor: A,
+    acceptor: Option<A>,
     clone: &'static str,
 ) {
+    let Some(acceptor) = acceptor else {
+        return run.agree(row);
+    };
     if run.calls.first() != Some(&"clone") {
-        return check_side(row, run, &mut Server(WithLastAttempt::new(acceptor)));
+        return check_side(row, run, &mut WithLastAttempt::new(acceptor));
     }
-    copy(row, &acceptor, clone);
-    if row.ran_out() {
-        copy(row, &acceptor, clone);
-    }
+    again!(row: {
+        let copy = call!(row: clone => acceptor.clone());
+        row.judge(&copy, "copied");
+    });
     run.agree(row);
-}
-
-/// Says whether an acceptor is copied, by a call of this name.
-fn copy<A: HasMechanism + Drop>(row: &mut Row<'_>, acceptor: &A, clone: &'static str) {
-    let copy = call!(row: clone => acceptor.clone());
-    row.judge(&copy, "copied");
 }
 
 /// Checks an acceptor: `MECHANISM,.. NAME PASSWORD`, of which `ANONYMOUS` has no further words, and `EXTERNAL` no
@@ -155,33 +134,30 @@ fn copy<A: HasMechanism + Drop>(row: &mut Row<'_>, acceptor: &A, clone: &'static
 pub fn check_acceptor(row: &mut Row<'_>, run: &Run<'_>) {
     let (anonymous, names) = (SaslAnonymousMechanism::new(), row.word());
     if names == "ANONYMOUS" {
-        return serve(row, run, anonymous, "SaslAnonymousMechanism::clone");
+        return serve(row, run, Some(anonymous), "SaslAnonymousMechanism::clone");
     }
     let user = row.text_of_digits();
     if names == "EXTERNAL" {
-        return match ExternalServer::new(user) {
-            Ok(external) => serve(row, run, external, "ExternalServer::clone"),
-            Err(error) => row.refuse(error),
-        };
+        let external = row.get(ExternalServer::new(user));
+        return serve(row, run, external, "ExternalServer::clone");
     }
     let plain = SaslPlainMechanism::new(user, row.text_of_digits());
     if row.takes("strict") {
-        return serve(row, run, plain.strict(), "StrictPlainMechanism::clone");
+        let strict = plain.strict();
+        return serve(row, run, Some(strict), "StrictPlainMechanism::clone");
     }
     if names == "PLAIN" {
-        return serve(row, run, plain, "SaslPlainMechanism::clone");
+        return serve(row, run, Some(plain), "SaslPlainMechanism::clone");
     }
     let both = AnyMechanism::new(plain, anonymous);
-    serve(row, run, both, "AnyMechanism::clone");
+    serve(row, run, Some(both), "AnyMechanism::clone");
 }
 
 /// Returns the credential of a server: `USER PASSWORD SALT`.
-pub fn credential_of(
-    row: &mut Row<'_>,
-    version: ScramVersion,
-) -> Result<SingleScramCredential, ServerScramErrorKind> {
+pub fn credential_of(row: &mut Row<'_>, version: ScramVersion) -> Option<SingleScramCredential> {
     let (user, password, salt) = (row.text_of_digits(), row.text_of_digits(), row.nonce());
-    SingleScramCredential::new(row.alloc, user, &password, version, salt)
+    let credential = SingleScramCredential::new(row.alloc, user, &password, version, salt);
+    row.get(credential)
 }
 
 /// Checks a server of one user: `VERSION USER PASSWORD SALT`, of a kind: `server`, `server_plus` that binds the channel
@@ -197,9 +173,8 @@ pub fn check_scram(row: &mut Row<'_>, run: &Run<'_>, kind: &str) {
         "server_plus" => rules.channels = channels(row),
         _ => {}
     }
-    match credential {
-        Ok(credential) => check_stored(row, run, rules, credential),
-        Err(error) => row.refuse(error),
+    if let Some(credential) = credential {
+        check_stored(row, run, rules, credential);
     }
 }
 
@@ -209,12 +184,11 @@ pub fn check_records(row: &mut Row<'_>, run: &Run<'_>) {
     let version = version(row);
     let mut store = RecordStore::new(row.alloc, version);
     for _ in 0..4 {
-        if row.is_over() {
-            break;
+        if !row.is_over() {
+            let (name, salt, count) = (row.text_of_digits(), row.digits(), row.number());
+            let record = ScramRecord::from_parts(version, salt, count, row.digits(), row.digits());
+            row.made(store.add(name, record), ());
         }
-        let (name, salt, count) = (row.text_of_digits(), row.digits(), row.number());
-        let record = ScramRecord::from_parts(version, salt, count, row.digits(), row.digits());
-        row.made(store.add(name, record), ());
     }
     check_stored(row, run, ServerRules::new(), store);
 }
@@ -227,14 +201,11 @@ fn check_stored<C: ScramCredentialProvider + Drop>(
     credentials: C,
 ) {
     if run.calls.iter().all(|call| *call == "step") {
-        run_stored(row, run, rules, &credentials);
-        if row.ran_out() {
-            run_stored(row, run, rules, &credentials);
-        }
+        again!(row: run_stored(row, run, rules, &credentials));
         run.agree(row);
     }
     let server = ScramAuthenticator::new(credentials).with_rules(rules);
-    check_steps(row, run, &mut Server(WithLastAttempt::new(server)));
+    check_steps(row, run, &mut WithLastAttempt::new(server));
 }
 
 /// Says the answers of a server of these credentials in a whole run.
@@ -249,5 +220,5 @@ fn run_stored<C: ScramCredentialProvider>(
     } else {
         call!(row: "scram_server_run_with_rules" => scram_server_run_with_rules(row.alloc, rules, credentials, &run.events))
     };
-    say_all(row, &replies);
+    say_all(row, replies);
 }

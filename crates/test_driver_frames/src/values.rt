@@ -2,23 +2,21 @@
 
 use crate::clients::say_init;
 use crate::frames::body_of;
-use crate::replies::say_made;
-use crate::words::{channel, version};
+use crate::words::{channel, keys_of, version};
 use bytes::BytesMut;
 use fe2o3_sasl::plain_server::{plain_identity, plain_user};
 use fe2o3_sasl::*;
 use fe2o3_sasl_wire::{
     Frame, FrameView, ProtocolHeader, ProtocolHeaderCodec, SaslMechanisms, Symbol, view_frame,
 };
-use test_rows::Row;
+use test_rows::{Row, call};
 use url::Url;
 
 /// Says the view of a body.
 pub fn view(row: &mut Row<'_>) {
     let body = body_of(row);
-    match view_frame(&body) {
-        Ok((view, _)) => row.show(&view),
-        Err(error) => row.show(&error),
+    if let Some((view, _)) = row.get(view_frame(&body)) {
+        row.show(&view);
     }
 }
 
@@ -29,25 +27,22 @@ pub fn frame_copy(row: &mut Row<'_>) {
         return row.refuse("no frame");
     };
     let frame = call!(row: "FrameView::to_frame" => view.to_frame(alloc));
+    let Some(frame) = row.get(frame) else {
+        return;
+    };
     match (&frame, part) {
-        (Ok(frame), "view") => row.show(frame),
-        (Ok(frame), "frame") => show_call!(row: "Frame::clone" => frame.clone()),
-        (Ok(Frame::Mechanisms(offer)), "array") =>
-            show_call!(row: "Array::clone" => offer.sasl_server_mechanisms.clone()),
-        (Ok(Frame::Mechanisms(offer)), _) =>
-            show_call!(row: "SaslMechanisms::clone" => offer.clone()),
-        (Ok(Frame::Init(init)), "symbol") =>
-            show_call!(row: "Symbol::clone" => init.mechanism.clone()),
-        (Ok(Frame::Init(init)), _) => show_call!(row: "SaslInit::clone" => init.clone()),
-        (Ok(Frame::Challenge(it)), "binary") =>
+        (_, "view") => row.show(&frame),
+        (_, "frame") => show_call!(row: "Frame::clone" => frame.clone()),
+        (Frame::Mechanisms(it), "array") =>
+            show_call!(row: "Array::clone" => it.sasl_server_mechanisms.clone()),
+        (Frame::Mechanisms(it), _) => show_call!(row: "SaslMechanisms::clone" => it.clone()),
+        (Frame::Init(it), "symbol") => show_call!(row: "Symbol::clone" => it.mechanism.clone()),
+        (Frame::Init(it), _) => show_call!(row: "SaslInit::clone" => it.clone()),
+        (Frame::Challenge(it), "binary") =>
             show_call!(row: "Binary::clone" => it.challenge.clone()),
-        (Ok(Frame::Challenge(challenge)), _) =>
-            show_call!(row: "SaslChallenge::clone" => challenge.clone()),
-        (Ok(Frame::Response(response)), _) =>
-            show_call!(row: "SaslResponse::clone" => response.clone()),
-        (Ok(Frame::Outcome(outcome)), _) =>
-            show_call!(row: "SaslOutcome::clone" => outcome.clone()),
-        (Err(error), _) => row.show(error),
+        (Frame::Challenge(it), _) => show_call!(row: "SaslChallenge::clone" => it.clone()),
+        (Frame::Response(it), _) => show_call!(row: "SaslResponse::clone" => it.clone()),
+        (Frame::Outcome(it), _) => show_call!(row: "SaslOutcome::clone" => it.clone()),
     }
 }
 
@@ -75,9 +70,8 @@ pub fn header(row: &mut Row<'_>) {
     }
     let written =
         call!(row: "ProtocolHeaderCodec::encode" => ProtocolHeaderCodec::new().encode(header, &mut buffer));
-    match written {
-        Ok(()) => row.show(&ProtocolHeaderCodec::new().decode(&mut buffer)),
-        Err(error) => row.show(&error),
+    if row.get(written).is_some() {
+        row.show(&ProtocolHeaderCodec::new().decode(&mut buffer));
     }
 }
 
@@ -104,16 +98,13 @@ pub fn restored(row: &mut Row<'_>) {
     let server = PlainServer::new(users, 1);
     let server =
         call!(row: "PlainServer::restore_authenticated" => server.restore_authenticated(alloc, "user", Some("admin")));
-    match server {
-        Ok(server) if is_copy => {
+    if let Some(server) = row.get(server) {
+        if is_copy {
             let copy = call!(row: "PlainServer::clone" => server.clone());
-            row.judge(&copy, "copied");
+            return row.judge(&copy, "copied");
         }
-        Ok(server) => {
-            row.show(&server.authenticated_user());
-            row.show(&server.acts_for());
-        }
-        Err(error) => row.show(&error),
+        row.show(&server.authenticated_user());
+        row.show(&server.acts_for());
     }
 }
 
@@ -121,30 +112,26 @@ pub fn restored(row: &mut Row<'_>) {
 pub fn event(row: &mut Row<'_>) {
     let (nonce, body) = (row.word(), row.word());
     let event = call!(row: "Event::from_hex" => Event::from_hex(row.alloc, nonce, body));
-    match &event {
-        Ok(event) => {
-            row.say_digits(&event.nonce);
-            row.say_digits(&event.body);
-            row.show(event);
-        }
-        Err(error) => row.show(error),
+    if let Some(event) = row.get(event) {
+        row.say_digits(&event.nonce);
+        row.say_digits(&event.body);
+        row.show(&event);
     }
 }
 
 /// Says the user and the password of the profile of an address.
 pub fn from_url(row: &mut Row<'_>) {
     let url = Url::parse(row.alloc, row.word());
-    let Ok(url) = &url else {
-        return row.refuse("no address");
+    let Some(url) = row.get(url) else {
+        return;
     };
-    let profile = call!(row: "SaslProfile::from_url" => SaslProfile::from_url(row.alloc, url));
+    let profile = call!(row: "SaslProfile::from_url" => SaslProfile::from_url(row.alloc, &url));
     match &profile {
         Ok(SaslProfile::Plain { username, password }) => {
             row.show(&username.as_str());
             row.show(&password.as_str());
         }
-        Ok(_) => row.refuse("not PLAIN"),
-        Err(error) => row.show(error),
+        _ => row.show_made(&profile),
     }
 }
 
@@ -152,19 +139,15 @@ pub fn from_url(row: &mut Row<'_>) {
 fn policy(row: &mut Row<'_>) -> ClientPolicy {
     let mut policy = ClientPolicy::scram_from(version(row));
     for _ in 0..6 {
-        if row.is_over() {
-            break;
+        if !row.is_over() {
+            policy = match row.word() {
+                "or_external" => policy.or_external(),
+                "allow_plain" => policy.allow_plain(),
+                "or_anonymous" => policy.or_anonymous(),
+                "must_bind" => policy.must_bind(),
+                _ => channel(row).map_or(policy, |channel| policy.bind_channel(channel)),
+            };
         }
-        policy = match (row.word(), policy) {
-            ("or_external", policy) => policy.or_external(),
-            ("allow_plain", policy) => policy.allow_plain(),
-            ("or_anonymous", policy) => policy.or_anonymous(),
-            ("must_bind", policy) => policy.must_bind(),
-            (_, policy) => match channel(row) {
-                Some(channel) => policy.bind_channel(channel),
-                None => policy,
-            },
-        };
     }
     policy
 }
@@ -179,33 +162,24 @@ pub fn select(row: &mut Row<'_>) {
     let secret = ClientSecret::Password(Password::Typed(&password));
     let selected =
         call!(row: "select_mechanism" => select_mechanism(alloc, &offer, &user, &secret, policy));
-    match selected {
-        Ok(mut profile) => say_init(row, &mut profile),
-        Err(error) => row.show(&error),
+    if let Some(mut profile) = row.get(selected) {
+        say_init(row, &mut profile);
     }
 }
 
 /// Says the client of SCRAM-SHA-256 with keys, `USER PASSWORD SALT COUNT`, or its copy.
 pub fn keyed(row: &mut Row<'_>) {
-    let (alloc, is_copy, user) = (row.alloc, row.takes("copy"), row.text());
-    let (password, salt, count) = (row.text(), row.digits(), row.number());
-    let (typed, mut meter) = (Password::Typed(&password), Meter::new());
-    let keys = CachedKeys::from_password(
-        alloc,
-        ScramVersion::Sha256,
-        typed,
-        &salt,
-        count,
-        &mut meter,
-    );
-    let Ok(keys) = &keys else {
-        return row.refuse("no keys");
+    let (alloc, is_copy) = (row.alloc, row.takes("copy"));
+    let (user, password) = (row.text(), row.text());
+    let keys = keys_of(row, ScramVersion::Sha256, Password::Typed(&password));
+    let Some(keys) = &keys else {
+        return;
     };
     let secret = ClientSecret::Keys(keys);
     let client =
         call!(row: "SaslScram::with_secret" => SaslScramSha256::with_secret(alloc, user, secret));
     match &client {
         Ok(client) if is_copy => show_call!(row: "SaslScram::clone" => client.clone()),
-        _ => say_made(row, &client),
+        _ => row.show_made(&client),
     }
 }

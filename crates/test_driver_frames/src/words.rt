@@ -9,34 +9,29 @@ pub fn version(row: &mut Row<'_>) -> ScramVersion {
     row.made(version, ScramVersion::Sha1)
 }
 
+/// Returns the keys of a password, a salt and a count, or says why there are none.
+pub fn keys_of(row: &mut Row<'_>, version: ScramVersion, text: Password<'_>) -> Option<CachedKeys> {
+    let (alloc, salt, count) = (row.alloc, row.digits(), row.number());
+    let keys = CachedKeys::from_password(alloc, version, text, &salt, count, &mut Meter::new());
+    row.get(keys)
+}
+
 /// Returns the channel of a kind, by its registered name, and of data in hexadecimal digits.
 pub fn channel(row: &mut Row<'_>) -> Option<ChannelBinding> {
-    let (kind, data) = (ChannelKind::from_name(row.word()), row.digits());
-    match (kind, ChannelData::new(&data)) {
-        (Some(kind), Ok(cbind_data)) => Some(ChannelBinding { kind, cbind_data }),
-        _ => {
-            row.refuse("no channel");
-            None
-        }
-    }
+    let (kind, data) = (ChannelKind::from_name(row.word())?, row.digits());
+    let cbind_data = row.get(ChannelData::new(&data))?;
+    Some(ChannelBinding { kind, cbind_data })
 }
 
 /// Returns what a client says of the channel of a kind and data that it binds.
 pub fn bound_channel(row: &mut Row<'_>) -> ClientChannel {
-    match channel(row) {
-        Some(channel) => ClientChannel::Bound(channel),
-        None => ClientChannel::Absent,
-    }
+    channel(row).map_or(ClientChannel::Absent, |it| ClientChannel::Bound(it))
 }
 
 /// Returns what a server knows of the channel of a kind and data, by no other kind.
 pub fn channels(row: &mut Row<'_>) -> Option<ChannelBindings> {
     let channel = channel(row)?;
-    let of = |kind| if channel.kind == kind {
-        Some(channel.cbind_data)
-    } else {
-        None
-    };
+    let of = |kind| (channel.kind == kind).then_some(channel.cbind_data);
     Some(ChannelBindings {
         tls_unique: of(ChannelKind::TlsUnique),
         tls_server_end_point: of(ChannelKind::TlsServerEndPoint),

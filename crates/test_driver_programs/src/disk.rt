@@ -1,5 +1,6 @@
 //! A mock system for the tests: files in memory, one call of which can fail, and known random bytes.
 
+use crate::streams::tell_lines;
 use std::alloc::Global;
 use std::cell::Cell;
 use std::fs::{Metadata, OpenFile, OpenOptions, Permissions};
@@ -20,18 +21,11 @@ pub struct Node {
     mode: Cell<u32>,
 }
 
-/// A file with its name.
-#[derive(Drop)]
-struct Stored {
-    name: String,
-    node: Rc<Node>,
-}
-
-/// The files, the number of calls, and the number of the failing one, counted from 1.
+/// The files by name, the number of calls, and the number of the failing one, counted from 1.
 #[derive(Drop)]
 struct System {
     alloc: Global,
-    stored: Cell<Vec<Stored>>,
+    stored: Cell<Vec<(String, Rc<Node>)>>,
     calls: Cell<u32>,
     failing: u32,
     private: Metadata,
@@ -117,7 +111,7 @@ impl Disk {
     pub fn append(&self, bytes: &[u8]) -> Result<()> {
         let stored = self.system.stored.replace(Vec::new(self.alloc()));
         let appended = match stored.last() {
-            Some(file) => self.system.append(&file.node, bytes),
+            Some((_, node)) => self.system.append(node, bytes),
             None => Ok(()),
         };
         self.system.stored.set(stored);
@@ -139,7 +133,7 @@ impl Disk {
     fn name(&self, name: &str, node: Rc<Node>) -> Result<()> {
         let name = name.to_string(self.alloc())?;
         let mut stored = self.system.stored.replace(Vec::new(self.alloc()));
-        let pushed = stored.push(Stored { name, node });
+        let pushed = stored.push((name, node));
         self.system.stored.set(stored);
         Ok(pushed?)
     }
@@ -147,8 +141,8 @@ impl Disk {
     /// Returns the file of a name.
     fn find(&self, name: &str) -> Result<Rc<Node>> {
         let stored = self.system.stored.replace(Vec::new(self.alloc()));
-        let found = match stored.iter().find(|file| file.name.as_str() == name) {
-            Some(file) => file.node.clone().map_err(Error::from),
+        let found = match stored.iter().find(|file| file.0.as_str() == name) {
+            Some((_, node)) => node.clone().map_err(Error::from),
             None => Err(Error::from(ErrorKind::NotFound)),
         };
         self.system.stored.set(stored);
@@ -158,24 +152,19 @@ impl Disk {
     /// Removes a file, if there is one.
     fn remove(&self, name: &str) {
         let mut stored = self.system.stored.replace(Vec::new(self.alloc()));
-        stored.retain(|file| file.name.as_str() != name);
+        stored.retain(|file| file.0.as_str() != name);
         self.system.stored.set(stored);
     }
 
     /// Writes each file as the lines of a paragraph: `F NAME MODE`, and `+ LINE` for each line.
     pub fn tell(&self, text: &mut String) -> Result<()> {
         let stored = self.system.stored.replace(Vec::new(self.alloc()));
-        for file in stored.iter().skip(1) {
-            let (name, mode) = (&file.name, file.node.mode.get() & 0o777);
+        for (name, node) in stored.iter().skip(1) {
+            let mode = node.mode.get() & 0o777;
             write!(text, "F {name} {mode:o}\n")?;
-            let bytes = file.node.bytes.replace(Vec::new(self.alloc()));
-            for line in String::from_utf8_lossy(self.alloc(), &bytes)?
-                .as_str()
-                .lines()
-            {
-                write!(text, "+ {line}\n")?;
-            }
-            file.node.bytes.set(bytes);
+            let bytes = node.bytes.replace(Vec::new(self.alloc()));
+            tell_lines(text, "+", &bytes)?;
+            node.bytes.set(bytes);
         }
         self.system.stored.set(stored);
         Ok(())

@@ -30,24 +30,6 @@ impl Answers for Programs {
     }
 }
 
-/// The files of runs.
-static FILES: [&str; 14] = [
-    "words.txt",
-    "records.txt",
-    "users.txt",
-    "forms.txt",
-    "logins.txt",
-    "names.txt",
-    "frames.txt",
-    "channels.txt",
-    "identities.txt",
-    "explained.txt",
-    "bodies.txt",
-    "audits.txt",
-    "brokers.txt",
-    "commands.txt",
-];
-
 /// Returns the metadata of a file that only its owner can use. The file is made for this and removed.
 fn private(rt: &HostRuntime) -> io::Result<Metadata> {
     let mut options = OpenOptions::new();
@@ -59,7 +41,7 @@ fn private(rt: &HostRuntime) -> io::Result<Metadata> {
 
 fn main(rt: HostRuntime) -> ExitCode {
     match private(&rt) {
-        Ok(private) => replay(&rt, &mut Programs { private }, &FILES),
+        Ok(private) => replay(&rt, &mut Programs { private }),
         Err(_) => ExitCode::FAILURE,
     }
 }

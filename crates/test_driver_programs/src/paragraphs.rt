@@ -58,7 +58,10 @@ pub fn read(alloc: Global, text: &str, private: &Metadata, failing: u32) -> Resu
 
 /// Parses a line.
 fn read_line(alloc: Global, run: &mut Run, mark: &str, text: &str) -> Result<()> {
-    let plain = unescaped(alloc, text)?;
+    let mut plain = unescaped(alloc, text)?;
+    if matches!(mark, "<" | "-") {
+        plain.push('\n')?;
+    }
     match mark {
         "#" => {}
         "$" => {
@@ -66,11 +69,7 @@ fn read_line(alloc: Global, run: &mut Run, mark: &str, text: &str) -> Result<()>
                 run.words.push(unescaped(alloc, word)?)?;
             }
         }
-        "<-" => run.input.extend_from_slice(plain.as_bytes())?,
-        "<" => {
-            run.input.extend_from_slice(plain.as_bytes())?;
-            run.input.push(b'\n')?;
-        }
+        "<" | "<-" => run.input.extend_from_slice(plain.as_bytes())?,
         "x" => {
             run.is_binary = true;
             run.input = hex::decode(alloc, text).unwrap_or(Vec::new(alloc));
@@ -86,16 +85,10 @@ fn read_line(alloc: Global, run: &mut Run, mark: &str, text: &str) -> Result<()>
         "r" => run.disk.random = hex::decode(alloc, text).unwrap_or(Vec::new(alloc)),
         "f" => store(&run.disk, text, 0)?,
         "d" => store(&run.disk, text, FOLDER)?,
-        "~" => run.disk.append(plain.as_bytes())?,
-        "-" => {
-            run.disk.append(plain.as_bytes())?;
-            run.disk.append(b"\n")?;
-        }
+        "-" | "~" => run.disk.append(plain.as_bytes())?,
         "?" => run.fails = true,
         "t" => run.is_terminal = true,
-        _ => {
-            write!(run.wanted, "{mark} {text}\n")?;
-        }
+        _ => write!(run.wanted, "{mark} {text}\n")?,
     }
     Ok(())
 }

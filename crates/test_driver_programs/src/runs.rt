@@ -1,7 +1,7 @@
 //! Runs of a program, and what each prints.
 
 use crate::paragraphs::{Run, read};
-use crate::streams::End;
+use crate::streams::{End, tell_lines};
 use example_broker_lib::log_in;
 use sasl_lab_lib::sides::audit;
 use scram_base_lib::database::NoDatabase;
@@ -12,21 +12,18 @@ use test_rows::Row;
 /// Answers the run of a paragraph. If the paragraph says so, each call of files and of random bytes fails in turn, and
 /// then the status must be 4 and the files unchanged.
 pub fn answer(row: &mut Row<'_>, text: &str, private: &Metadata) -> Result<()> {
-    let mut run = read(row.alloc, text, private, 0)?;
-    let mut before = String::from_str(row.alloc, "= 4\n")?;
+    let run = read(row.alloc, text, private, 0)?;
+    let (mut before, mut calls) = (String::from_str(row.alloc, "= 4\n")?, 0u32);
     run.disk.tell(&mut before)?;
-    let piece = if run.is_binary { 1 } else { 4096 };
-    let told = play(&mut run, piece)?;
-    row.say(told);
-    row.agree(&run.wanted);
-    for piece in [7, 4096] {
-        if run.is_binary {
-            let told = play(&mut read(row.alloc, text, private, 0)?, piece)?;
+    for piece in [1, 7, 4096] {
+        if run.is_binary || piece == 4096 {
+            let mut again = read(row.alloc, text, private, 0)?;
+            let told = play(&mut again, piece)?;
             row.say(told);
             row.agree(&run.wanted);
+            calls = if run.fails { again.disk.calls() } else { 0 };
         }
     }
-    let calls = if run.fails { run.disk.calls() } else { 0 };
     if run.fails && calls == 0 {
         row.refuse("no call");
     }
@@ -98,17 +95,7 @@ fn run_program<I: BufRead>(run: &mut Run, input: &mut I) -> Result<u8> {
         "sasl_lab" => Ok(sasl_lab_lib::run(run.disk.alloc(), words, input, output, errors)),
         _ => {
             let (disk, words, tty, none) = (&run.disk, &run.words, run.is_terminal, &NoDatabase);
-            let status = scram_lib::run(disk, words, tty, input, output, errors, audit, none);
-            Ok(status)
+            Ok(scram_lib::run(disk, words, tty, input, output, errors, audit, none))
         }
     }
-}
-
-/// Writes lines, each after a mark.
-fn tell_lines(told: &mut String, mark: &str, bytes: &[u8]) -> Result<()> {
-    let text = String::from_utf8_lossy(*told.allocator(), bytes)?;
-    for line in text.as_str().lines() {
-        write!(told, "{mark} {line}\n")?;
-    }
-    Ok(())
 }

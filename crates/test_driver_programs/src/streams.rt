@@ -1,4 +1,4 @@
-//! An output with limited room, and the end of an input.
+//! An output with limited room, the end of an input, and lines after a mark.
 
 use std::alloc::Global;
 use std::io::{Error, ErrorKind, Read, Result, Write};
@@ -55,4 +55,13 @@ impl Read for End {
             None => Ok(0),
         }
     }
+}
+
+/// Writes lines, each after a mark.
+pub fn tell_lines(told: &mut String, mark: &str, bytes: &[u8]) -> Result<()> {
+    let text = String::from_utf8_lossy(*told.allocator(), bytes)?;
+    for line in text.as_str().lines() {
+        write!(told, "{mark} {line}\n")?;
+    }
+    Ok(())
 }

@@ -1,13 +1,11 @@
 //! Answers the rows of `data/`, on values and texts of SCRAM and of SASLprep.
 #![tactic(auto)]
 
-/// Makes a call between the marks of its begin and its end, for `tools/test_memory`.
-macro_rules! marked {
-    ($row:ident, $call:literal, $made:expr) => {{
-        $row.begin($call);
-        let made = $made;
-        $row.end();
-        made
+/// Makes a call that may run out of memory, by its name, and says this word or the error.
+macro_rules! judge {
+    ($row:ident: $name:literal => $made:expr, $word:literal) => {{
+        let made = call!($row: $name => $made);
+        $row.judge(&made, $word);
     }};
 }
 
@@ -26,33 +24,6 @@ mod words;
 use std::process::ExitCode;
 use test_rows::{Answers, Row, replay};
 
-/// The files of rows.
-static FILES: [&str; 23] = [
-    "brokers.txt",
-    "calls-logins.txt",
-    "calls.txt",
-    "channels.txt",
-    "client-secrets.txt",
-    "code-points.txt",
-    "differences.txt",
-    "error-texts.txt",
-    "hashes.txt",
-    "identities.txt",
-    "logins.txt",
-    "messages.txt",
-    "moved-attributes.txt",
-    "names.txt",
-    "odd-records.txt",
-    "prepared-records.txt",
-    "prepared-secrets.txt",
-    "record-texts.txt",
-    "rfc4013.txt",
-    "stores.txt",
-    "strict-logins.txt",
-    "strict-messages.txt",
-    "texts.txt",
-];
-
 /// The calls of the libraries.
 #[derive(Drop)]
 struct Calls;
@@ -63,15 +34,21 @@ impl Answers for Calls {
             "digest" => hashes::digest(row),
             "hmac" => hashes::hmac(row),
             "salted-password" => hashes::salted_password(row),
+            "keys" => hashes::keys(row),
+            "cached-keys" => hashes::cached_keys(row),
             "mechanism" => names::mechanism(row),
             "password" => names::password(row),
             "escape" => names::user_name(row),
             "unescape" => names::sent_name(row),
+            "right" => names::right(row),
             "client-first" => messages::client_first(row),
+            "new-client-first" => messages::new_client_first(row),
             "client-secret" => messages::client_secret(row),
+            "client-password" => messages::client_password(row),
             "client-final" => messages::client_final(row),
             "server-final" => messages::server_final(row),
             "server-error" => messages::server_error(row),
+            "auth-message" => messages::auth_message(row),
             "strict-message" => readings::message(row),
             "exchange" => sides::exchange(row),
             "prepared" => prepared::text(row),
@@ -81,7 +58,11 @@ impl Answers for Calls {
             "record-lines" => records::record_lines(row),
             "mock-record" => records::made_up(row),
             "prepared-record" => records::prepared_record(row),
-            word => more(row, word),
+            "store" => stores::store(row),
+            "versions" => stores::versions(row),
+            "clone" => texts::clone(row),
+            "text" => texts::text(row),
+            word => row.refuse(word),
         }
     }
 
@@ -90,22 +71,6 @@ impl Answers for Calls {
     }
 }
 
-/// Answers a row of the other calls.
-fn more(row: &mut Row<'_>, word: &str) {
-    match word {
-        "keys" => hashes::keys(row),
-        "cached-keys" => hashes::cached_keys(row),
-        "auth-message" => messages::auth_message(row),
-        "right" => names::right(row),
-        "new-client-first" => messages::new_client_first(row),
-        "store" => stores::store(row),
-        "versions" => stores::versions(row),
-        "clone" => texts::clone(row),
-        "text" => texts::text(row),
-        word => row.refuse(word),
-    }
-}
-
 fn main(rt: HostRuntime) -> ExitCode {
-    replay(&rt, &mut Calls, &FILES)
+    replay(&rt, &mut Calls)
 }

@@ -1,16 +1,9 @@
 //! Clients and servers as rows describe them: users, secrets, and options.
 
 use crate::words::{Secret, channel_of, data_of, version};
-use fe2o3_scram::ActingRights;
-use fe2o3_scram::channel_binding::ChannelBindings;
-use fe2o3_scram::credentials::{
-    RecordStore, ScramCredentialProvider, ScramRecord, SingleScramCredential, UserRecord,
-};
-use fe2o3_scram::scram_client::ScramClient;
-use fe2o3_scram::scram_messages::{ClientChannel, ServerRules};
-use fe2o3_scram::scram_server::ScramAuthenticator;
+use fe2o3_scram::*;
 use std::sync::Arc;
-use test_rows::Row;
+use test_rows::{Row, call};
 
 /// Reads the record with these very values: `VERSION SALT COUNT STORED-KEY SERVER-KEY`, in base64.
 pub fn record_of(row: &mut Row<'_>) -> ScramRecord {
@@ -52,81 +45,52 @@ const NO_CHANNELS: ChannelBindings = ChannelBindings {
     tls_exporter: None,
 };
 
-/// What a server is set to.
-#[derive(Drop)]
-pub struct ServerOptions {
-    rules: ServerRules,
-    rights: ActingRights,
-    mock: Option<(Vec<u8>, u32, u32)>,
-}
-
-impl ServerOptions {
-    /// Reads options, up to the end of the words or the word `.`.
-    pub fn read(row: &mut Row<'_>) -> ServerOptions {
-        let mut options = ServerOptions {
-            rules: ServerRules::new(),
-            rights: ActingRights::new(row.alloc),
-            mock: None,
-        };
-        for _ in 0..9 {
-            if row.is_over() || row.takes(".") {
-                break;
-            }
-            options.add(row);
+/// Reads the options of a server, up to the end of the words or the word `.`: its rules, the rights of its users, and the
+/// secret, the length of the salts and the count of its mock users.
+fn options_of(row: &mut Row<'_>) -> (ServerRules, ActingRights, Option<(Vec<u8>, u32, u32)>) {
+    let (mut rules, mut channels) = (ServerRules::new(), NO_CHANNELS);
+    let (mut rights, mut mock) = (ActingRights::new(row.alloc), None);
+    for _ in 0..9 {
+        if row.is_over() || row.takes(".") {
+            break;
         }
-        options
-    }
-
-    /// Reads an option.
-    fn add(&mut self, row: &mut Row<'_>) {
-        let word = row.word();
-        match word {
-            "strict" => self.rules.strict = true,
-            "reject_misplaced" => self.rules.reject_misplaced = true,
-            "cbind_flag_y" => self.rules.accept_cbind_flag_y = true,
-            "authzid" => self.rules.accept_authzid = true,
-            "channels" => self.rules.channels = Some(NO_CHANNELS),
+        match row.word() {
+            "strict" => rules.strict = true,
+            "reject_misplaced" => rules.reject_misplaced = true,
+            "cbind_flag_y" => rules.accept_cbind_flag_y = true,
+            "authzid" => rules.accept_authzid = true,
+            "channels" => rules.channels = Some(NO_CHANNELS),
+            "tls-unique" => channels.tls_unique = data_of(row),
+            "tls-server-end-point" => channels.tls_server_end_point = data_of(row),
+            "tls-exporter" => channels.tls_exporter = data_of(row),
             "right" => {
                 let (user, acts_for) = (row.text(), row.text());
-                let allowed = self.rights.allow(row.alloc, &user, &acts_for);
-                row.made(allowed, ());
+                row.made(rights.allow(row.alloc, &user, &acts_for), ());
             }
-            "mock" => self.mock = Some((row.bytes(), row.number(), row.number())),
-            kind => self.add_channel(row, kind),
+            "mock" => mock = Some((row.bytes(), row.number(), row.number())),
+            word => row.refuse(word),
         }
     }
-
-    /// Reads the data of a channel by this kind.
-    fn add_channel(&mut self, row: &mut Row<'_>, kind: &str) {
-        let mut channels = self.rules.channels.unwrap_or(NO_CHANNELS);
-        let data = Some(data_of(row));
-        match kind {
-            "tls-unique" => channels.tls_unique = data,
-            "tls-server-end-point" => channels.tls_server_end_point = data,
-            "tls-exporter" => channels.tls_exporter = data,
-            kind => row.refuse(kind),
-        }
-        self.rules.channels = Some(channels);
+    if channels != NO_CHANNELS {
+        rules.channels = Some(channels);
     }
+    (rules, rights, mock)
+}
 
-    /// Returns a server of these users with the options, or `None` if its salts are too long.
-    pub fn server<C: ScramCredentialProvider + Drop>(
-        self,
-        row: &mut Row<'_>,
-        users: C,
-    ) -> Option<ScramAuthenticator<C>> {
-        let server = ScramAuthenticator::new(users).with_rules(self.rules);
-        let server = match Arc::new(row.alloc, self.rights) {
-            Ok(rights) => server.with_acting_rights(rights),
-            Err(_) => return None,
-        };
-        match self.mock {
-            Some((secret, salt_len, count)) => {
-                let server = server.mock_unknown_users(secret, salt_len as usize, count);
-                server.ok()
-            }
-            None => Some(server),
-        }
+/// Reads the options of a server, and returns a server of these users with them, or `None` if its salts are too long.
+pub fn server_of<C: ScramCredentialProvider + Drop>(
+    row: &mut Row<'_>,
+    users: C,
+) -> Option<ScramAuthenticator<C>> {
+    let (rules, rights, mock) = options_of(row);
+    let server = ScramAuthenticator::new(users).with_rules(rules);
+    let server = match Arc::new(row.alloc, rights) {
+        Ok(rights) => server.with_acting_rights(rights),
+        Err(_) => return None,
+    };
+    match mock {
+        Some((secret, len, count)) => server.mock_unknown_users(secret, len as usize, count).ok(),
+        None => Some(server),
     }
 }
 
@@ -134,45 +98,35 @@ impl ServerOptions {
 pub fn client_of(row: &mut Row<'_>) -> Option<ScramClient> {
     let (alloc, version, name) = (row.alloc, version(row), row.text());
     let secret = Secret::read(row);
-    let Some(secret) = secret.get() else {
-        row.refuse("no secret");
+    let client = call!(row: "ScramClient::with_secret" =>
+        ScramClient::with_secret(alloc, name, secret.get(), version));
+    let Some(client) = row.get(client) else {
+        row.rest();
         return None;
     };
-    row.begin("ScramClient::with_secret");
-    let client = ScramClient::with_secret(alloc, name, secret, version);
-    row.end();
-    match client {
-        Ok(client) => Some(with_options(row, client)),
-        Err(error) => {
-            row.rest();
-            row.show(&error);
-            None
-        }
-    }
+    Some(with_options(row, client))
 }
 
-/// Reads the options of a client, up to the end of the words or the word `.`.
-fn with_options(row: &mut Row<'_>, client: ScramClient) -> ScramClient {
-    let (mut strict, mut by_challenge, mut least, mut most) = (false, false, 1, u32::MAX);
-    let (mut channel, mut acts_for) = (ClientChannel::Absent, None);
+/// Returns the client with the options of the words, up to their end or the word `.`.
+fn with_options(row: &mut Row<'_>, mut client: ScramClient) -> ScramClient {
     for _ in 0..9 {
         if row.is_over() || row.takes(".") {
             break;
         }
-        match row.word() {
-            "strict" => strict = true,
-            "by_challenge" => by_challenge = true,
-            "limits" => (least, most) = (row.number(), row.number()),
-            "channel" => channel = channel_of(row),
-            "acts_for" => acts_for = Some(row.text()),
-            word => row.refuse(word),
-        }
+        client = match row.word() {
+            "strict" => client.strict(true),
+            "by_challenge" => client.signature_by_challenge(true),
+            "limits" => {
+                let client = client.with_min_iterations(row.number());
+                client.with_iteration_limit(row.number())
+            }
+            "channel" => client.with_channel(channel_of(row)),
+            "acts_for" => client.acting_for(Some(row.text())),
+            word => {
+                row.refuse(word);
+                client
+            }
+        };
     }
     client
-        .with_channel(channel)
-        .acting_for(acts_for)
-        .strict(strict)
-        .signature_by_challenge(by_challenge)
-        .with_min_iterations(least)
-        .with_iteration_limit(most)
 }

@@ -3,16 +3,14 @@
 use saslprep::{SaslprepError, Unassigned, saslprep};
 use std::borrow::CowStr;
 use std::fmt::Write;
-use test_rows::Row;
+use test_rows::{Row, call};
 
 /// Says what each code point by itself is prepared to, once for neighbors with one answer: `FIRST-LAST`. The answer is that
 /// of a stored text, and `unassigned` for a point that a query keeps, or changes.
 pub fn code_points(row: &mut Row<'_>) {
     let points = row.word();
     let (first, last) = points.split_once('-').unwrap_or((points, points));
-    let (Some(first), Some(last)) = (code_of(first), code_of(last)) else {
-        return row.refuse("no code points");
-    };
+    let (first, last) = (code_of(row, first), code_of(row, last));
     let mut before = String::new(row.alloc);
     for code in first..=last {
         if let Some(c) = char::from_u32(code) {
@@ -47,18 +45,14 @@ fn say_point(row: &mut Row<'_>, text: &str) {
 pub fn text(row: &mut Row<'_>) {
     let (alloc, points, mut text) = (row.alloc, row.word(), String::new(row.alloc));
     for point in points.split('+') {
-        let c = code_of(point).and_then(char::from_u32);
-        row.made(text.push(c.unwrap_or(char::REPLACEMENT_CHARACTER)), ());
+        let c = char::from_u32(code_of(row, point)).unwrap_or(char::REPLACEMENT_CHARACTER);
+        row.made(text.push(c), ());
     }
-    let words = row.rest();
-    let (mode, _) = words.split_once(',').unwrap_or((words, ""));
-    let unassigned = match mode {
-        "query" => Unassigned::Allowed,
+    let unassigned = match row.rest().split(',').next() {
+        Some("query") => Unassigned::Allowed,
         _ => Unassigned::Refused,
     };
-    row.begin("saslprep");
-    let prepared = saslprep(alloc, &text, unassigned);
-    row.end();
+    let prepared = call!(row: "saslprep" => saslprep(alloc, &text, unassigned));
     say_prepared(row, &text, &prepared);
 }
 
@@ -91,6 +85,6 @@ fn say_points(row: &mut Row<'_>, text: &str) {
 }
 
 /// Returns the number of hexadecimal digits.
-fn code_of(digits: &str) -> Option<u32> {
-    u32::from_str_radix(digits, 16).ok()
+fn code_of(row: &mut Row<'_>, digits: &str) -> u32 {
+    row.made(u32::from_str_radix(digits, 16), 0)
 }

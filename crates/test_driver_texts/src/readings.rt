@@ -1,13 +1,8 @@
-//! The four messages of an exchange, as sides read them that test the grammar.
+//! Messages of an exchange, as sides read them that test the grammar, and as one without options reads them.
 
 use base64::engine::general_purpose::STANDARD;
-use fe2o3_scram::client_secret::{ClientSecret, IterationLimits};
-use fe2o3_scram::hmac::ScramVersion;
-use fe2o3_scram::passwords::Password;
-use fe2o3_scram::scram_messages::{
-    ClientChannel, ClientFinal, ClientFirst, ClientHeader, ServerFirst, ServerRules,
-};
-use test_rows::Row;
+use fe2o3_scram::*;
+use test_rows::{Row, call};
 
 /// The client's nonce, that of both sides, and the server's signature in base64 (RFC 5802, section 5).
 const CLIENT_NONCE: &str = "fyko+d2lbbFgONRv9qkxdawL";
@@ -16,65 +11,51 @@ const BOTH: &[u8] = b"fyko+d2lbbFgONRv9qkxdawL3rfcNHYJY1ZVvWVs7j";
 
 const SIGNATURE: &[u8] = b"rmF9pqV8S7suAoZWja4dJRkFsKQ=";
 
-/// Says whether a side reads a message: `SIDE KIND MESSAGE`, where the side is `strict`, or `reject_misplaced`: a server with
-/// that rule, and a client that says `y,,`.
+/// Says whether a side reads a message: `SIDE KIND MESSAGE`, where the side is `plain`, without options, `strict`, or
+/// `reject_misplaced`: a server with that rule, and a client that says `y,,`.
 pub fn message(row: &mut Row<'_>) {
-    let (alloc, strict) = (row.alloc, row.word() == "strict");
+    let (alloc, side, kind, message) = (row.alloc, row.word(), row.word(), row.bytes());
     let (mut rules, mut channel) = (ServerRules::new(), ClientChannel::Absent);
-    if strict {
-        rules.strict = true;
-    } else {
-        rules.reject_misplaced = true;
-        channel = ClientChannel::NotOffered;
+    match side {
+        "plain" => (),
+        "strict" => rules.strict = true,
+        _ => {
+            rules.reject_misplaced = true;
+            channel = ClientChannel::NotOffered;
+        }
     }
-    let header = ClientHeader::new(channel, None);
-    match row.word() {
-        "client-first" => {
-            let message = row.bytes();
-            row.begin("ClientFirst::parse_with_rules");
-            let read = ClientFirst::parse_with_rules(alloc, &message, rules);
-            row.end();
-            row.judge(&read, "read");
+    let (header, strict) = (ClientHeader::new(channel, None), rules.strict);
+    match (side, kind) {
+        ("plain", "client-first") => judge!(row: "ClientFirst::parse" =>
+            ClientFirst::parse(alloc, &message), "read"),
+        ("plain", "client-final") => judge!(row: "ClientFinal::parse" =>
+            ClientFinal::parse(alloc, BOTH, &message), "read"),
+        ("plain", "server-final") => judge!(row: "ServerFinal::parse" =>
+            ServerFinal::parse(alloc, &message), "read"),
+        (_, "client-first") => judge!(row: "ClientFirst::parse_with_rules" =>
+            ClientFirst::parse_with_rules(alloc, &message, rules), "read"),
+        (_, "client-final") => {
+            let (header, strict) = (ClientHeader::plain(), rules.is_strict());
+            judge!(row: "ClientFinal::parse_with_header" =>
+                ClientFinal::parse_with_header(alloc, &header, strict, BOTH, &message), "read");
         }
-        "client-final" => {
-            let (message, header) = (row.bytes(), ClientHeader::plain());
-            row.begin("ClientFinal::parse_with_header");
-            let (strict, nonce) = (rules.is_strict(), BOTH);
-            let read = ClientFinal::parse_with_header(alloc, &header, strict, nonce, &message);
-            row.end();
-            row.judge(&read, "read");
-        }
-        "server-first" => server_first(row, &header, strict),
-        "server-final" => server_final(row, &header, strict),
-        kind => row.refuse(kind),
+        (_, "server-first") => server_first(row, &header, strict, &message),
+        (_, "server-final") => server_final(row, &header, strict, &message),
+        _ => row.refuse(kind),
     }
 }
 
-fn server_first(row: &mut Row<'_>, header: &ClientHeader<'_>, strict: bool) {
-    let (alloc, text) = (row.alloc, row.text());
+fn server_first(row: &mut Row<'_>, header: &ClientHeader<'_>, strict: bool, message: &[u8]) {
+    let (alloc, text) = (row.alloc, row.made(str::from_utf8(message), ""));
     let secret = ClientSecret::Password(Password::Typed("pencil"));
-    let limits = IterationLimits::up_to(u32::MAX);
-    row.begin("ServerFirst::parse_with_header");
-    let read = ServerFirst::parse_with_header(
-        alloc,
-        header,
-        strict,
-        CLIENT_NONCE,
-        secret,
-        limits,
-        &text,
-    );
-    row.end();
-    row.judge(&read, "read");
+    let (nonce, limits) = (CLIENT_NONCE, IterationLimits::none());
+    judge!(row: "ServerFirst::parse_with_header" =>
+        ServerFirst::parse_with_header(alloc, header, strict, nonce, secret, limits, text), "read");
 }
 
-fn server_final(row: &mut Row<'_>, header: &ClientHeader<'_>, strict: bool) {
-    let (alloc, message, version) = (row.alloc, row.bytes(), ScramVersion::Sha1);
+fn server_final(row: &mut Row<'_>, header: &ClientHeader<'_>, strict: bool, message: &[u8]) {
+    let (alloc, version) = (row.alloc, ScramVersion::Sha1);
     let signature = row.made(STANDARD.decode(alloc, SIGNATURE), Vec::new(alloc));
-    row.begin("ScramVersion::validate_server_final_with_header");
-    let verified = version.validate_server_final_with_header(
-        alloc, header, strict, &message, &signature,
-    );
-    row.end();
-    row.judge(&verified, "read");
+    judge!(row: "ScramVersion::validate_server_final_with_header" =>
+        version.validate_server_final_with_header(alloc, header, strict, message, &signature), "read");
 }

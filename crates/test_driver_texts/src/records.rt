@@ -1,30 +1,21 @@
 //! Texts of records, lines of users, and mock records.
 
+use crate::stores::say_record;
 use crate::words::{compare_text, version};
-use fe2o3_scram::credentials::{RecordStore, ScramRecord};
-use fe2o3_scram::hmac::{Meter, ScramVersion};
-use fe2o3_scram::passwords::Password;
+use fe2o3_scram::{Meter, Password, RecordStore, ScramRecord, ScramVersion};
 use saslprep::{Unassigned, saslprep};
-use test_rows::Row;
+use test_rows::{Row, call};
 
 /// Says whether a record is written as it was read, and made again of its password: `RECORD PASSWORD`.
 pub fn record(row: &mut Row<'_>) {
     let (alloc, text, password) = (row.alloc, row.word(), row.text());
-    let read = marked!(row, "ScramRecord::parse", ScramRecord::parse(alloc, text));
-    match &read {
-        Ok(record) => say_copies(row, record, text, &password),
-        Err(error) => row.show(error),
-    }
-}
-
-/// Says whether a record is written as this text, and made again of its password.
-fn say_copies(row: &mut Row<'_>, record: &ScramRecord, text: &str, password: &str) {
-    let written = row.made(record.to_text(row.alloc), String::new(row.alloc));
-    let made = made_again(row, record, Password::Typed(password));
-    if made.as_str() == text {
+    let read = call!(row: "ScramRecord::parse" => ScramRecord::parse(alloc, text));
+    if let Some(record) = row.get(read) {
+        let written = row.made(record.to_text(alloc), String::new(alloc));
         compare_text(row, &written, text, "written and");
+        let made = made_again(row, &record, Password::Typed(&password));
+        compare_text(row, &made, text, "made again");
     }
-    compare_text(row, &made, text, "made again");
 }
 
 /// Says what a typed password is prepared to, whether that meets the record and makes it again, and which record the
@@ -37,9 +28,8 @@ pub fn prepared_record(row: &mut Row<'_>) {
         return row.refuse("no record, or not prepared");
     };
     let (kept, version) = (record.as_stored_password(), *record.scram_version());
-    let prepared = prepared.as_str();
-    row.say(prepared);
-    let prepared = Password::Prepared(prepared);
+    row.say(prepared.as_str());
+    let prepared = Password::Prepared(prepared.as_str());
     if !kept.verify_password(version, prepared, &mut Meter::new()) {
         row.say("not met");
     }
@@ -52,15 +42,14 @@ pub fn prepared_record(row: &mut Row<'_>) {
 
 /// Returns the text of the record of a password with the salt and the count of another, or the name of the error.
 fn made_again(row: &mut Row<'_>, record: &ScramRecord, password: Password<'_>) -> String {
-    let (version, kept, alloc) = (
+    let (alloc, version, kept) = (
+        row.alloc,
         *record.scram_version(),
         record.as_stored_password(),
-        row.alloc,
     );
-    let (salt, count, meter) = (kept.salt, kept.iterations, &mut Meter::new());
-    row.begin("ScramRecord::from_password");
-    let made = ScramRecord::from_password(alloc, version, password, salt, count, meter);
-    row.end();
+    let (salt, count, mut meter) = (kept.salt, kept.iterations, Meter::new());
+    let made = call!(row: "ScramRecord::from_password" =>
+        ScramRecord::from_password(alloc, version, password, salt, count, &mut meter));
     let text = match &made {
         Ok(record) => record.to_text(alloc),
         Err(kind) => format!(in alloc; "{kind:?}"),
@@ -97,14 +86,11 @@ fn refusal(row: &mut Row<'_>, version: ScramVersion, text: &str) {
 /// length is the salt's.
 pub fn made_up(row: &mut Row<'_>) {
     let (alloc, version, secret, name) = (row.alloc, version(row), row.bytes(), row.text());
-    let (len, count) = (row.number() as usize, row.number());
-    let mut meter = Meter::new();
-    row.begin("ScramRecord::mock");
-    let made = ScramRecord::mock(alloc, version, &secret, &name, len, count, &mut meter);
-    row.end();
-    match made.and_then(|record| record.to_text(alloc)) {
-        Ok(text) => row.say(text),
-        Err(error) => row.show(&error),
+    let (len, count, mut meter) = (row.number() as usize, row.number(), Meter::new());
+    let made = call!(row: "ScramRecord::mock" =>
+        ScramRecord::mock(alloc, version, &secret, &name, len, count, &mut meter));
+    if let Some(record) = row.get(made) {
+        say_record(row, &record);
     }
     row.say(meter.count());
 }

@@ -1,16 +1,11 @@
 //! A client and a server, call after call: a little machine. A paragraph has a line `server` for each server that its
-//! calls are made on.
+//! calls are made on. The word `short` after those of a call asks for its short form, which counts no HMAC values.
 
-use crate::options::{ServerOptions, client_of, many_of, single_of, user_of, users_of};
+use crate::options::{client_of, many_of, server_of, single_of, user_of, users_of};
 use crate::words::say_keys;
-use fe2o3_scram::OutOfMemory;
-use fe2o3_scram::credentials::ScramCredentialProvider;
-use fe2o3_scram::hmac::{Meter, ScramVersion};
-use fe2o3_scram::scram_client::ScramClient;
-use fe2o3_scram::scram_messages::ServerScramErrorKind;
-use fe2o3_scram::scram_server::ScramAuthenticator;
+use fe2o3_scram::*;
 use std::rc::Rc;
-use test_rows::Row;
+use test_rows::{Row, again, call};
 
 /// The nonces in base64, of 32 bytes 01 and of 32 bytes 02.
 const CLIENT_NONCE: &str = "AQEBAQEBAQEBAQEBAQEBAQEBAQEBAQEBAQEBAQEBAQE=";
@@ -19,16 +14,10 @@ const SERVER_NONCE: &str = "AgICAgICAgICAgICAgICAgICAgICAgICAgICAgICAgI=";
 
 /// Returns the next message, with a nonce in the place of each `$` and `&`.
 fn message(row: &mut Row<'_>) -> String {
-    let mut text = String::new(row.alloc);
-    for c in row.word().chars() {
-        let pushed = match c {
-            '$' => text.push_str(CLIENT_NONCE),
-            '&' => text.push_str(SERVER_NONCE),
-            c => text.push(c),
-        };
-        row.made(pushed, ());
-    }
-    text
+    let text = row.word().replace(row.alloc, "$", CLIENT_NONCE);
+    let text = row.made(text, String::new(row.alloc));
+    let text = text.replace(row.alloc, "&", SERVER_NONCE);
+    row.made(text, String::new(row.alloc))
 }
 
 /// Says which message is rejected and why, or that the exchange is accepted: `READER CLIENT . USER OPTION.. . MESSAGE..`,
@@ -38,8 +27,8 @@ pub fn exchange(row: &mut Row<'_>) {
     let Some(client) = client_of(row) else {
         return;
     };
-    let (users, options) = (many_of(row), ServerOptions::read(row));
-    let Some(server) = options.server(row, users) else {
+    let users = many_of(row);
+    let Some(server) = server_of(row, users) else {
         return row.refuse("no server");
     };
     let mut sides = Sides { client, server };
@@ -68,28 +57,24 @@ pub fn exchange(row: &mut Row<'_>) {
 pub fn paragraph<'a>(row: &mut Row<'a>) {
     let text = row.rest();
     for line in text.lines() {
-        if let Some(words) = line.strip_prefix("server ") {
-            row.turn_to(words);
-            serve(row, text);
-        }
-    }
-}
-
-/// Makes the calls on a server of the users that the words describe.
-fn serve<'a>(row: &mut Row<'a>, text: &'a str) {
-    match row.word() {
-        "record" => play(user_of(row), row, text),
-        "many" => play(many_of(row), row, text),
-        "lines" => play(users_of(row), row, text),
-        "one" => {
-            if let Some(user) = single_of(row) {
-                play(user, row, text);
+        let Some(words) = line.strip_prefix("server ") else {
+            continue;
+        };
+        row.turn_to(words);
+        match row.word() {
+            "record" => play(user_of(row), row, text),
+            "many" => play(many_of(row), row, text),
+            "lines" => play(users_of(row), row, text),
+            "one" => {
+                if let Some(user) = single_of(row) {
+                    play(user, row, text);
+                }
             }
+            _ => match Rc::new(row.alloc, many_of(row)) {
+                Ok(users) => play(users, row, text),
+                Err(_) => row.refuse("no memory"),
+            },
         }
-        _ => match Rc::new(row.alloc, many_of(row)) {
-            Ok(users) => play(users, row, text),
-            Err(_) => row.refuse("no memory"),
-        },
     }
 }
 
@@ -97,19 +82,13 @@ fn serve<'a>(row: &mut Row<'a>, text: &'a str) {
 fn play<'a, C: ScramCredentialProvider + Drop>(users: C, row: &mut Row<'a>, text: &'a str) {
     let (name, password) = (String::new(row.alloc), String::new(row.alloc));
     let client = ScramClient::new(name, password, ScramVersion::Sha1);
-    let options = ServerOptions::read(row);
-    let Some(server) = options.server(row, users) else {
+    let Some(server) = server_of(row, users) else {
         return row.refuse("no server");
     };
     let mut sides = Sides { client, server };
     for line in text.lines() {
         if let Some((asked, wanted)) = line.split_once(" => ") {
-            row.turn_to(asked);
-            sides.call(row);
-            if row.ran_out() {
-                row.turn_to(asked);
-                sides.call(row);
-            }
+            again!(row: sides.call(row, asked));
             row.agree(wanted);
         }
     }
@@ -127,13 +106,14 @@ impl<C: ScramCredentialProvider + Drop> Sides<C> {
     fn answer(&mut self, row: &mut Row<'_>, call: &str, text: &str) -> String {
         let words = format!(in row.alloc; "{call} \"{text}\"");
         let words = row.made(words, String::new(row.alloc));
-        let mut again = Row::new(row.alloc, &words);
-        self.call(&mut again);
-        again.take_answer()
+        let mut inner = Row::new(row.alloc, "");
+        self.call(&mut inner, &words);
+        inner.take_answer()
     }
 
-    /// Makes a call.
-    fn call(&mut self, row: &mut Row<'_>) {
+    /// Makes the call of these words.
+    fn call<'a>(&mut self, row: &mut Row<'a>, words: &'a str) {
+        row.turn_to(words);
         match row.word() {
             "clones" => self.clones(row),
             "server-debug" => row.show(&self.server),
@@ -147,40 +127,45 @@ impl<C: ScramCredentialProvider + Drop> Sides<C> {
 
     /// Replaces both sides by their clones.
     fn clones(&mut self, row: &mut Row<'_>) {
-        row.begin("ScramClient::clone");
-        let client: Result<ScramClient, OutOfMemory> = self.client.clone();
-        row.end();
-        row.begin("ScramAuthenticator::clone");
-        let server: Result<ScramAuthenticator<C>, OutOfMemory> = self.server.clone();
-        row.end();
-        match (client, server) {
-            (Ok(client), Ok(server)) => {
-                self.client = client;
+        let client = call!(row: "ScramClient::clone" => self.client.clone());
+        if let Some(client) = row.get(client) {
+            self.client = client;
+            let server = call!(row: "ScramAuthenticator::clone" => self.server.clone());
+            if let Some(server) = row.get(server) {
                 self.server = server;
                 row.say("the same");
             }
-            _ => row.say("OutOfMemory"),
         }
     }
 
-    /// Says the answer to a client-first message: `NONCE MESSAGE`.
+    /// Says the answer to a client-first message, and the HMAC values that it costs: `NONCE MESSAGE`.
     fn server_reads_first(&mut self, row: &mut Row<'_>) {
         let (alloc, nonce, text, mut meter) = (row.alloc, row.nonce(), row.bytes(), Meter::new());
         let server = &mut self.server;
-        row.begin("ScramAuthenticator::compute_server_first_message_metered");
-        let answer = server.compute_server_first_message_metered(alloc, &text, &nonce, &mut meter);
-        row.end();
-        say_served(row, &answer, &meter);
+        if row.takes("short") {
+            let answer = call!(row: "ScramAuthenticator::compute_server_first_message" =>
+                server.compute_server_first_message(alloc, &text, &nonce));
+            return say_served(row, &answer);
+        }
+        let answer = call!(row: "ScramAuthenticator::compute_server_first_message_metered" =>
+            server.compute_server_first_message_metered(alloc, &text, &nonce, &mut meter));
+        say_served(row, &answer);
+        row.say(meter.count());
     }
 
-    /// Says the answer to a client-final message: `MESSAGE`.
+    /// Says the answer to a client-final message, and the HMAC values that it costs: `MESSAGE`.
     fn server_reads_final(&mut self, row: &mut Row<'_>) {
         let (alloc, text, mut meter) = (row.alloc, row.bytes(), Meter::new());
         let server = &mut self.server;
-        row.begin("ScramAuthenticator::compute_server_final_message_metered");
-        let answer = server.compute_server_final_message_metered(alloc, &text, &mut meter);
-        row.end();
-        say_served(row, &answer, &meter);
+        if row.takes("short") {
+            let answer = call!(row: "ScramAuthenticator::compute_server_final_message" =>
+                server.compute_server_final_message(alloc, &text));
+            return say_served(row, &answer);
+        }
+        let answer = call!(row: "ScramAuthenticator::compute_server_final_message_metered" =>
+            server.compute_server_final_message_metered(alloc, &text, &mut meter));
+        say_served(row, &answer);
+        row.say(meter.count());
     }
 
     /// Says the server's mechanism, the challenge that is open, and who has logged in.
@@ -202,34 +187,27 @@ impl<C: ScramCredentialProvider + Drop> Sides<C> {
 
     /// Replaces the server by another one with these options, to which its state was moved: `OPTION..`.
     fn server_restored(&mut self, row: &mut Row<'_>) {
-        let options = ServerOptions::read(row);
         let Ok(users) = self.server.credentials().clone() else {
             return row.refuse("no users");
         };
-        let Some(other) = options.server(row, users) else {
+        let Some(other) = server_of(row, users) else {
             return row.refuse("no server");
         };
-        match restored(row, &self.server, other) {
-            Ok(other) => {
-                self.server = other;
-                row.say("restored");
-            }
-            Err(error) => row.show(&error),
+        let other = restored(row, &self.server, other);
+        if let Some(other) = row.get(other) {
+            self.server = other;
+            row.say("restored");
         }
     }
 }
 
-/// The answer of a server.
-type Served = Result<Option<Vec<u8>>, ServerScramErrorKind>;
-
-/// Adds the server's answer, and what it costs.
-fn say_served(row: &mut Row<'_>, answer: &Served, meter: &Meter) {
+/// Adds the server's answer.
+fn say_served(row: &mut Row<'_>, answer: &Result<Option<Vec<u8>>, ServerScramErrorKind>) {
     match answer {
         Ok(Some(message)) => row.say_message(message),
         Ok(None) => row.say("unknown user"),
         Err(kind) => row.show(kind),
     }
-    row.say(meter.count());
 }
 
 /// Returns the other server with the state of this one.
@@ -243,18 +221,14 @@ fn restored<C: ScramCredentialProvider + Drop>(
         let Some(stored) = server.credentials().get_stored_password(open.username) else {
             return Err(OutOfMemory);
         };
-        row.begin("ScramAuthenticator::restore_challenge");
-        let other = other.restore_challenge(alloc, &open, &stored);
-        row.end();
-        return other;
+        return call!(row: "ScramAuthenticator::restore_challenge" =>
+            other.restore_challenge(alloc, &open, &stored));
     }
     let Some(user) = server.authenticated_user() else {
         return Ok(other);
     };
-    row.begin("ScramAuthenticator::restore_authenticated");
-    let other = other.restore_authenticated(alloc, user, server.acts_for());
-    row.end();
-    other
+    call!(row: "ScramAuthenticator::restore_authenticated" =>
+        other.restore_authenticated(alloc, user, server.acts_for()))
 }
 
 /// Makes a call of a client.
@@ -267,47 +241,45 @@ fn call_client(row: &mut Row<'_>, word: &str, client: &mut ScramClient) {
                 *client = made;
             }
         }
-        "start" => start(row, client),
-        "client-reads-first" => {
-            let (text, meter) = (row.text(), &mut Meter::new());
-            row.begin("ScramClient::compute_client_final_message_metered");
-            let answer = client.compute_client_final_message_metered(alloc, &text, meter);
-            row.end();
-            row.say_answer(&answer);
-            row.say(meter.count());
+        "start" => {
+            let nonce = row.nonce();
+            let first = call!(row: "ScramClient::compute_client_first_message" =>
+                client.compute_client_first_message(alloc, &nonce));
+            if let Some(message) = row.get(first) {
+                row.say_message(&message);
+            }
         }
+        "client-reads-first" => client_reads_first(row, client),
         "client-shows" => client_shows(row, client),
         "client-debug" => row.show(client),
         "client-restored" => client_restored(row, client),
         "client-ends" => row.judge(&client.conclude_without_data(), "ended"),
         "client-reads-final" => {
             let text = row.bytes();
-            row.begin("ScramClient::validate_server_final");
-            let verdict = client.validate_server_final(alloc, &text);
-            row.end();
-            row.judge(&verdict, "verified");
+            judge!(row: "ScramClient::validate_server_final" =>
+                client.validate_server_final(alloc, &text), "verified");
         }
         "client-reads-challenge" => {
             let text = row.bytes();
-            row.begin("ScramClient::validate_signature_challenge");
-            let verdict = client.validate_signature_challenge(alloc, &text);
-            row.end();
-            row.judge(&verdict, "verified");
+            judge!(row: "ScramClient::validate_signature_challenge" =>
+                client.validate_signature_challenge(alloc, &text), "verified");
         }
         word => row.refuse(word),
     }
 }
 
-/// Says the client-first message: `NONCE`.
-fn start(row: &mut Row<'_>, client: &mut ScramClient) {
-    let (alloc, nonce) = (row.alloc, row.nonce());
-    row.begin("ScramClient::compute_client_first_message");
-    let first = client.compute_client_first_message(alloc, &nonce);
-    row.end();
-    match &first {
-        Ok(message) => row.say_message(message),
-        Err(error) => row.show(error),
+/// Says the answer to a server-first message, and the HMAC values that it costs: `MESSAGE`.
+fn client_reads_first(row: &mut Row<'_>, client: &mut ScramClient) {
+    let (alloc, text, mut meter) = (row.alloc, row.text(), Meter::new());
+    if row.takes("short") {
+        let answer = call!(row: "ScramClient::compute_client_final_message" =>
+            client.compute_client_final_message(alloc, &text));
+        return row.say_answer(&answer);
     }
+    let answer = call!(row: "ScramClient::compute_client_final_message_metered" =>
+        client.compute_client_final_message_metered(alloc, &text, &mut meter));
+    row.say_answer(&answer);
+    row.say(meter.count());
 }
 
 /// Says the client's mechanism, the identity that it acts for, its nonce, the signature that it waits for, and its keys.
@@ -337,10 +309,7 @@ fn client_restored(row: &mut Row<'_>, client: &mut ScramClient) {
     let Some(mut other) = client_of(row) else {
         return;
     };
-    let keys = match client.answer_keys() {
-        Some(keys) => keys.clone().ok(),
-        None => None,
-    };
+    let keys = client.answer_keys().and_then(|keys| keys.clone().ok());
     if let Some(nonce) = client.nonce() {
         let sent = other.compute_client_first_message(row.alloc, nonce);
         row.judge(&sent, "sent");

@@ -2,31 +2,20 @@
 
 use crate::options::{record_of, single_of, user_of, users_of};
 use crate::words::keys_of;
-use fe2o3_scram::credentials::{
-    AddRecordError, MultiRecordStore, RecordError, RecordTextError, WriteLinesError,
-};
-use fe2o3_scram::{
-    ChannelDataLength, ClientSecretError, KeyError, NormalizeError, OutOfMemory, SaltTooLong,
-    ScramErrorKind, ServerScramErrorKind, UnescapeError, UnknownMechanism, XorLengthMismatch,
-};
+use fe2o3_scram::secrets::{SecretBytes, SecretText};
+use fe2o3_scram::*;
 use saslprep::SaslprepError;
-use std::fmt::{Debug, Display};
-use test_rows::Row;
+use std::fmt::Debug;
+use test_rows::{Row, call};
 
 /// Says the text of the kind of an error that has this name.
 macro_rules! say_kind {
     ($row:ident, $type:ident: $($kind:ident)*) => {
         match $row.word() {
-            $(stringify!($kind) => say($row, $type::$kind),)*
+            $(stringify!($kind) => $row.say($type::$kind),)*
             word => $row.refuse(word),
         }
     };
-}
-
-/// Adds a text to the answer, after the word `is`: no answer begins with `OutOfMemory`, as if memory had run out.
-fn say<T: Display + Drop>(row: &mut Row<'_>, text: T) {
-    row.say("is");
-    row.say(text);
 }
 
 /// Says the text of an error: `TYPE KIND`, or `TYPE` of one without kinds.
@@ -51,49 +40,40 @@ pub fn text(row: &mut Row<'_>) {
         "WriteLinesError" => say_kind!(row, WriteLinesError: UserNotWritable OutOfMemory),
         "ClientSecretError" => say_kind!(row, ClientSecretError: VersionMismatch OutOfMemory),
         "SaslprepError" => say_kind!(row, SaslprepError: MixedDirections OutOfMemory),
-        "Prohibited" => say(row, SaslprepError::ProhibitedCharacter('\u{7}')),
-        "Unassigned" => say(row, SaslprepError::UnassignedCodePoint('\u{1D7CA}')),
-        "ChannelDataLength" => say(row, ChannelDataLength),
-        "NormalizeError" => say(row, NormalizeError),
-        "SaltTooLong" => say(row, SaltTooLong),
-        "UnknownMechanism" => say(row, UnknownMechanism),
-        "XorLengthMismatch" => say(row, XorLengthMismatch),
+        "Prohibited" => row.say(SaslprepError::ProhibitedCharacter('\u{7}')),
+        "Unassigned" => row.say(SaslprepError::UnassignedCodePoint('\u{1D7CA}')),
+        "ChannelDataLength" => row.say(ChannelDataLength),
+        "NormalizeError" => row.say(NormalizeError),
+        "SaltTooLong" => row.say(SaltTooLong),
+        "UnknownMechanism" => row.say(UnknownMechanism),
+        "XorLengthMismatch" => row.say(XorLengthMismatch),
         "lines" => {
             if let Err(error) = MultiRecordStore::parse_lines(row.alloc, &row.text()) {
-                say(row, error);
+                row.say(error);
             }
         }
         word => row.refuse(word),
     }
 }
 
-/// Clones a value, and says the `Debug` text of the clone.
-fn show_clone<T: Clone + Debug + Drop>(value: T, row: &mut Row<'_>, call: &'static str) {
-    row.begin(call);
-    let copy: Result<T, OutOfMemory> = value.clone();
-    row.end();
-    match &copy {
-        Ok(copy) => row.show(copy),
-        Err(error) => row.show(error),
+/// Clones a value, if it was made, and says the `Debug` text of the clone.
+fn show_clone<T: Clone + Debug + Drop>(value: Option<T>, row: &mut Row<'_>, call: &'static str) {
+    if let Some(value) = value {
+        let copy = call!(row: call => value.clone());
+        row.show_made(&copy);
     }
 }
 
-/// Says the `Debug` text of a clone: `KIND` and the words of the value. No key and no password is in it.
+/// Says the `Debug` text of a clone, without keys and passwords, or the clone of a secret: `KIND` and the words of the value.
 pub fn clone(row: &mut Row<'_>) {
     match row.word() {
-        "record" => show_clone(record_of(row), row, "ScramRecord::clone"),
-        "user" => show_clone(user_of(row), row, "UserRecord::clone"),
-        "users" => show_clone(users_of(row), row, "RecordStore::clone"),
-        "one" => {
-            if let Some(user) = single_of(row) {
-                show_clone(user, row, "SingleScramCredential::clone");
-            }
-        }
-        "keys" => {
-            if let Some(keys) = keys_of(row) {
-                show_clone(keys, row, "CachedKeys::clone");
-            }
-        }
+        "record" => show_clone(Some(record_of(row)), row, "ScramRecord::clone"),
+        "user" => show_clone(Some(user_of(row)), row, "UserRecord::clone"),
+        "users" => show_clone(Some(users_of(row)), row, "RecordStore::clone"),
+        "one" => show_clone(single_of(row), row, "SingleScramCredential::clone"),
+        "keys" => show_clone(keys_of(row), row, "CachedKeys::clone"),
+        "secret-text" => secret_text(row),
+        "secret-bytes" => secret_bytes(row),
         "stored" => {
             let record = record_of(row);
             row.show(&record.as_stored_password());
@@ -104,5 +84,29 @@ pub fn clone(row: &mut Row<'_>) {
             }
         }
         word => row.refuse(word),
+    }
+}
+
+/// Says the clone of a secret text: `TEXT`.
+fn secret_text(row: &mut Row<'_>) {
+    let (alloc, text) = (row.alloc, row.text());
+    let secret = call!(row: "SecretText::from_str" => SecretText::from_str(alloc, &text));
+    if let Some(secret) = row.get(secret) {
+        let copy = call!(row: "SecretText::clone" => secret.clone());
+        if let Some(copy) = row.get(copy) {
+            row.say(copy.as_str());
+        }
+    }
+}
+
+/// Says the clone of secret bytes: `BYTES`, in hexadecimal digits.
+fn secret_bytes(row: &mut Row<'_>) {
+    let (alloc, bytes) = (row.alloc, row.digits());
+    let secret = call!(row: "SecretBytes::from_slice" => SecretBytes::from_slice(alloc, &bytes));
+    if let Some(secret) = row.get(secret) {
+        let copy = call!(row: "SecretBytes::clone" => secret.clone());
+        if let Some(copy) = row.get(copy) {
+            row.say_digits(copy.as_slice());
+        }
     }
 }

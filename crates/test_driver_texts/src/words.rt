@@ -1,19 +1,7 @@
 //! Words that several calls read, and answers that several say.
 
-use fe2o3_scram::cached_keys::CachedKeys;
-use fe2o3_scram::channel_binding::{ChannelBinding, ChannelData, ChannelKind};
-use fe2o3_scram::client_secret::ClientSecret;
-use fe2o3_scram::hmac::ScramVersion;
-use fe2o3_scram::passwords::Password;
-use fe2o3_scram::scram_messages::ClientChannel;
-use std::fmt::Debug;
+use fe2o3_scram::*;
 use test_rows::Row;
-
-/// No data of a channel.
-const NO_DATA: ChannelData = ChannelData {
-    bytes: [0; 64],
-    len: 0,
-};
 
 /// Returns the version that the next word names.
 pub fn version(row: &mut Row<'_>) -> ScramVersion {
@@ -26,14 +14,6 @@ pub fn compare_text(row: &mut Row<'_>, text: &str, wanted: &str, word: &str) {
     row.say(if text == wanted { word } else { text });
 }
 
-/// Adds bytes to the answer, in hexadecimal digits, or the name of the error.
-pub fn say_made<E: Debug>(row: &mut Row<'_>, made: &Result<Vec<u8>, E>) {
-    match made {
-        Ok(bytes) => row.say_digits(bytes),
-        Err(error) => row.show(error),
-    }
-}
-
 /// Returns the password of a kind: `prepared`, or as typed.
 pub fn password_of<'a>(kind: &str, text: &'a str) -> Password<'a> {
     match kind {
@@ -42,11 +22,11 @@ pub fn password_of<'a>(kind: &str, text: &'a str) -> Password<'a> {
     }
 }
 
-/// A secret of a client: a password, cached keys, or both.
+/// A secret of a client: the text of a password, cached keys, or both.
 #[derive(Drop)]
 pub struct Secret<'a> {
     kind: &'a str,
-    password: String,
+    text: String,
     keys: Option<CachedKeys>,
 }
 
@@ -55,7 +35,7 @@ impl<'a> Secret<'a> {
     /// PASSWORD KEYS` of a prepared password.
     pub fn read(row: &mut Row<'a>) -> Secret<'a> {
         let kind = row.word();
-        let password = match kind {
+        let text = match kind {
             "keys" => String::new(row.alloc),
             _ => row.text(),
         };
@@ -63,24 +43,17 @@ impl<'a> Secret<'a> {
             "password" | "prepared" => None,
             _ => keys_of(row),
         };
-        Secret {
-            kind,
-            password,
-            keys,
-        }
+        Secret { kind, text, keys }
     }
 
-    /// Returns the secret, or `None` for words that are none.
-    pub fn get(&self) -> Option<ClientSecret<'_>> {
-        let password = password_of(self.kind, &self.password);
-        Some(match (self.kind, &self.keys) {
-            ("password" | "prepared", None) => ClientSecret::Password(password),
+    /// Returns the secret.
+    pub fn get(&self) -> ClientSecret<'_> {
+        let password = password_of(self.kind, &self.text);
+        match (self.kind, &self.keys) {
+            (_, None) => ClientSecret::Password(password),
             ("keys", Some(keys)) => ClientSecret::Keys(keys),
-            ("both" | "prepared-both", Some(keys)) => {
-                ClientSecret::PasswordAndKeys { password, keys }
-            }
-            _ => return None,
-        })
+            (_, Some(keys)) => ClientSecret::PasswordAndKeys { password, keys },
+        }
     }
 }
 
@@ -88,7 +61,7 @@ impl<'a> Secret<'a> {
 pub fn keys_of(row: &mut Row<'_>) -> Option<CachedKeys> {
     let (version, salt, count) = (version(row), row.base64(), row.number());
     let (client_key, server_key) = (row.base64(), row.base64());
-    CachedKeys::from_parts(version, salt, count, &client_key, &server_key).ok()
+    row.get(CachedKeys::from_parts(version, salt, count, &client_key, &server_key))
 }
 
 /// Adds the words of cached keys to the answer.
@@ -101,9 +74,9 @@ pub fn say_keys(row: &mut Row<'_>, keys: &CachedKeys) {
 }
 
 /// Reads the data of a channel, in hexadecimal digits.
-pub fn data_of(row: &mut Row<'_>) -> ChannelData {
+pub fn data_of(row: &mut Row<'_>) -> Option<ChannelData> {
     let data = ChannelData::new(&row.digits());
-    row.made(data, NO_DATA)
+    row.get(data)
 }
 
 /// Reads what a client says of its channel: `absent`, `unoffered`, or `KIND DATA` of a channel that it binds.
@@ -112,10 +85,10 @@ pub fn channel_of(row: &mut Row<'_>) -> ClientChannel {
     match (word, ChannelKind::from_name(word)) {
         ("absent", _) => ClientChannel::Absent,
         ("unoffered", _) => ClientChannel::NotOffered,
-        (_, Some(kind)) => ClientChannel::Bound(ChannelBinding {
-            kind,
-            cbind_data: data_of(row),
-        }),
+        (_, Some(kind)) => match data_of(row) {
+            Some(cbind_data) => ClientChannel::Bound(ChannelBinding { kind, cbind_data }),
+            None => ClientChannel::Absent,
+        },
         _ => {
             row.refuse(word);
             ClientChannel::Absent

@@ -132,13 +132,10 @@ fn replay_file<A: Answers, W: Write>(
     Ok(counts)
 }
 
-/// Answers the rows of the files that the program's arguments name, or of all of these, and returns whether each
-/// answer is the row's.
-fn replay_all<A: Answers>(rt: &HostRuntime, answers: &mut A, files: &[&str]) -> io::Result<bool> {
-    let (mut output, mut differ, mut is_named) = (io::writer(rt), 0u64, false);
-    let alloc = rt.alloc();
+/// Answers the rows of the files that the program's arguments name, and returns whether each answer is the row's.
+fn replay_all<A: Answers>(rt: &HostRuntime, answers: &mut A) -> io::Result<bool> {
+    let (mut output, mut differ, alloc) = (io::writer(rt), 0u64, rt.alloc());
     for name in env::args(rt)?.skip(1) {
-        is_named = true;
         let text = fs::read_to_string(rt, name.as_str())?;
         let file = File {
             alloc,
@@ -147,24 +144,13 @@ fn replay_all<A: Answers>(rt: &HostRuntime, answers: &mut A, files: &[&str]) -> 
         };
         differ = differ.saturating_add(replay_file(answers, file, &mut output)?.differ);
     }
-    if !is_named {
-        for name in files {
-            let text = fs::read_to_string(rt, *name)?;
-            let file = File {
-                alloc,
-                name,
-                text: &text,
-            };
-            differ = differ.saturating_add(replay_file(answers, file, &mut output)?.differ);
-        }
-    }
     Ok(differ == 0)
 }
 
-/// Answers the rows of the files that the program's arguments name, or of all of these. Prints the rows whose answer
-/// differs, and how many rows each file has, and succeeds if no answer differs.
-pub fn replay<A: Answers>(rt: &HostRuntime, answers: &mut A, files: &[&str]) -> ExitCode {
-    match replay_all(rt, answers, files) {
+/// Answers the rows of the files that the program's arguments name. Prints the rows whose answer differs, and how many rows
+/// each file has, and succeeds if no answer differs.
+pub fn replay<A: Answers>(rt: &HostRuntime, answers: &mut A) -> ExitCode {
+    match replay_all(rt, answers) {
         Ok(true) => ExitCode::SUCCESS,
         _ => ExitCode::FAILURE,
     }

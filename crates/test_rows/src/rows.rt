@@ -84,11 +84,12 @@ impl<'a> Row<'a> {
         }
     }
 
-    /// Returns whether the answer says that the last call ran out of memory. If it does, the row notes the call and
-    /// drops the answer, so that the call can be made again.
+    /// Returns whether the answer says that a call ran out of memory. If it does, the row notes the last call and drops
+    /// the answer, so that the call can be made again.
     pub fn ran_out(&mut self) -> bool {
-        let answer = self.answer.as_str();
-        let ran_out = answer.starts_with("OutOfMemory") || answer.starts_with("AllocError");
+        let mut words = self.answer.as_str().split([' ', '(', ')']);
+        let ran_out = !self.call.is_empty()
+            && words.any(|word| word == "OutOfMemory" || word == "AllocError");
         if ran_out {
             self.is_sound &= writeln!(self.ran_out, "{}", self.call).is_ok();
             self.answer.clear();
@@ -298,6 +299,25 @@ impl<'a> Row<'a> {
         match verdict {
             Ok(_) => self.say(word),
             Err(kind) => self.show(kind),
+        }
+    }
+
+    /// Returns what a call made, or adds the name of the error to the answer.
+    pub fn get<T: Drop, E: Debug + Drop>(&mut self, made: Result<T, E>) -> Option<T> {
+        match made {
+            Ok(value) => Some(value),
+            Err(error) => {
+                self.show(&error);
+                None
+            }
+        }
+    }
+
+    /// Adds the name of a value or of the error to the answer.
+    pub fn show_made<T: Debug, E: Debug>(&mut self, made: &Result<T, E>) {
+        match made {
+            Ok(value) => self.show(value),
+            Err(error) => self.show(error),
         }
     }
 

@@ -85,16 +85,19 @@ class Memory(unittest.TestCase):
                       ["-shared", "-fPIC", "-o", "refuse.so", TOP / "tools/test_memory/refuse.c"]):
             subprocess.run(["cc", *words], cwd=cls.folder, check=True)
 
-    def found(self, rows):
+    def found(self, rows, name="calls.txt"):
         """The calls that ran out, the refused requests, the rows, and the number of faults."""
-        (self.folder / "calls.txt").write_text(rows)
-        *counts, wrong = test_memory.tried(self.folder / "driver", self.folder / "calls.txt", str(self.folder / "refuse.so"))
+        (self.folder / name).write_text(rows)
+        *counts, wrong = test_memory.tried(self.folder / "driver", self.folder / name, str(self.folder / "refuse.so"))
         return *counts, len(wrong)
 
     def test_calls(self):
         for rows, wanted in (("one\none\n", ({"one"}, 4, 2, 0)), ("two\none\n", ({"one", "two"}, 6, 2, 0)),
                              ("hide\n", (set(), 2, 1, 2)), ("keep\n", ({"keep"}, 2, 1, 1)), ("free\n", (set(), 0, 1, 1))):
             self.assertEqual(self.found(rows), wanted)
+
+    def test_hints(self):
+        self.assertEqual(self.found("hide\n", test_memory.HINTS), (set(), 2, 1, 0))
 
     def test_list(self):
         calls = test_memory.calls_of([test_memory.signatures.Library("fe2o3_sasl_wire")])["fe2o3_sasl_wire"]

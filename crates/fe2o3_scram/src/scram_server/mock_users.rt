@@ -3,7 +3,7 @@
 ghost use Rattle.std.specs.Prelude.{◌≡◌, ◌≤◌, ◌<◌, ◌+◌, ◌^◌, Option, Some, MatchResult, option_map};
 ghost use Rattle.fe2o3_scram.specs.Credentials.{Record, record_at, kept};
 ghost use Rattle.fe2o3_scram.specs.MockSettings.{mock_cost, mock_record, stored_or};
-ghost use Rattle.fe2o3_scram.specs.ScramServer.{provider_in, state_in, rights_in, rules_in, mock_in};
+ghost use Rattle.fe2o3_scram.specs.ScramServer.{lent_mock, provider_in, state_in, rights_in, rules_in, mock_in};
 
 use crate::credentials::MockValues;
 use crate::hmac::{Meter, ScramVersion};
@@ -22,16 +22,33 @@ const MAX_SALT_LEN: usize = 64;
 #[error("Salt too long")]
 pub struct SaltTooLong;
 
-/// The settings of mock authentication.
+/// The settings of mock authentication for a version: a secret of at least 32 random bytes, the length of a salt, of which
+/// at most 64 bytes count, and the iteration count.
+#[derive(Clone, Copy)]
+pub struct MockUsers<'a> {
+    /// The version of the records.
+    pub scram_version: ScramVersion,
+
+    /// The secret.
+    pub secret: &'a [u8],
+
+    /// The length of a salt, in bytes.
+    pub salt_len: usize,
+
+    /// The iteration count.
+    pub iterations: u32,
+}
+
+/// Settings of mock authentication with a secret of their own.
 #[derive(Drop)]
-pub(crate) struct MockUsers {
+pub(crate) struct KeptMock {
     scram_version: ScramVersion,
     secret: SecretBytes,
     salt_len: usize,
     iterations: u32,
 }
 
-impl Model for MockUsers {
+impl Model for KeptMock {
     ghost use Rattle.fe2o3_scram.specs.MockSettings.{MockSettings};
 
     ghost Value = { MockSettings };
@@ -44,7 +61,21 @@ impl Model for MockUsers {
     } };
 }
 
-impl Clone for MockUsers {
+impl KeptMock {
+    /// Lends the settings.
+    pub(crate) fn lent(&self) -> MockUsers<'_>
+        ensures { lent_mock result ≡ self.now }
+    {
+        MockUsers {
+            scram_version: self.scram_version,
+            secret: self.secret.as_slice(),
+            salt_len: self.salt_len,
+            iterations: self.iterations,
+        }
+    }
+}
+
+impl Clone for KeptMock {
     ghost is_clone = { λ users copy. copy ≡ users };
 
     fn clone(&self) -> Result<Self, AllocError> {
@@ -89,7 +120,7 @@ impl<C: ScramCredentialProvider> ScramAuthenticator<C> {
             credentials: self.credentials,
             rules: self.rules,
             rights: self.rights,
-            mock: Some(MockUsers {
+            mock: Some(KeptMock {
                 scram_version,
                 secret: SecretBytes::new(secret),
                 salt_len,
@@ -100,21 +131,22 @@ impl<C: ScramCredentialProvider> ScramAuthenticator<C> {
     }
 }
 
-/// Computes the mock record of a user, if mock authentication is set. It allocates nothing, and no store is a
+/// Computes the mock record of a user, if there are mock users. It allocates nothing, and no store is a
 /// parameter: a known user has the same cost. The meter counts three HMAC values.
 pub(crate) fn mock_values(
-    mock: &Option<MockUsers>,
+    mock: Option<MockUsers<'_>>,
     username: &str,
     meter: &mut Meter,
 ) -> Option<MockValues>
     requires { meter.old ≤ 2 ^ 63 }
-    ensures record { result ≡ option_map (λ settings. mock_record settings username.now) mock.now }
-    ensures counted { meter.new ≡ meter.old + mock_cost mock.now }
+    ensures record { result
+        ≡ option_map (λ settings. mock_record settings username.now) (option_map lent_mock mock.entry) }
+    ensures counted { meter.new ≡ meter.old + mock_cost (option_map lent_mock mock.entry) }
 {
-    let users = mock.as_ref()?;
+    let users = mock?;
     Some(MockValues::new(
         users.scram_version,
-        users.secret.as_slice(),
+        users.secret,
         username,
         users.salt_len,
         users.iterations,

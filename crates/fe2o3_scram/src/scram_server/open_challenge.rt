@@ -1,15 +1,14 @@
 //! Saves a server between two messages as plain texts, and restores it.
 
-ghost use Rattle.std.specs.Prelude.{◌≡◌, IfOk, option_map, string_bytes};
+ghost use Rattle.std.specs.Prelude.{◌≡◌, IfOk, option_map};
 ghost use Rattle.fe2o3_scram.specs.Credentials.{kept};
 ghost use Rattle.fe2o3_scram.specs.ScramServer.{ServerFinalSent, ServerFirstSent, challenge_kept, open_challenge, provider_in, state_in, rights_in, rules_in, mock_in};
 
 use crate::OutOfMemory;
 use crate::provider::{ScramCredentialProvider, StoredPassword};
 use crate::scram_messages::ChannelBindingFlag;
-use crate::scram_server::kept_record::KeptRecord;
+use crate::scram_server::exchange::{ServerExchange, copied};
 use crate::scram_server::{ScramAuthenticator, ScramAuthenticatorState};
-use bytes::Bytes;
 use std::alloc::Global;
 
 /// An open challenge: what a server keeps between its two messages, each text as it was sent or received. The texts
@@ -42,22 +41,7 @@ impl<C: ScramCredentialProvider> ScramAuthenticator<C> {
         ensures { option_map challenge_kept result ≡ open_challenge (state_in self.now) }
     {
         match &self.state {
-            ScramAuthenticatorState::ServerFirstSent {
-                username,
-                header,
-                acts_for,
-                client_first_message_bare,
-                client_server_nonce,
-                server_first_message,
-                stored: _,
-            } => Some(OpenChallenge {
-                username,
-                header: *header,
-                acts_for: acts_for.as_deref(),
-                client_first_message_bare,
-                client_server_nonce,
-                server_first_message,
-            }),
+            ScramAuthenticatorState::ServerFirstSent(exchange) => Some(exchange.open_challenge()),
             _ => None,
         }
     }
@@ -93,21 +77,9 @@ impl<C: ScramCredentialProvider> ScramAuthenticator<C> {
             rules: self.rules,
             rights: self.rights,
             mock: self.mock,
-            state: ScramAuthenticatorState::ServerFirstSent {
-                username: challenge.username.to_string(alloc)?,
-                header: challenge.header,
-                acts_for: copied(alloc, challenge.acts_for)?,
-                client_first_message_bare: Bytes::copy_from_slice(
-                    alloc,
-                    challenge.client_first_message_bare,
-                )?,
-                client_server_nonce: Bytes::copy_from_slice(alloc, challenge.client_server_nonce)?,
-                server_first_message: Bytes::copy_from_slice(
-                    alloc,
-                    challenge.server_first_message,
-                )?,
-                stored: KeptRecord::of(alloc, stored)?,
-            },
+            state: ScramAuthenticatorState::ServerFirstSent(ServerExchange::restore(
+                alloc, challenge, stored,
+            )?),
         })
     }
 
@@ -139,15 +111,5 @@ impl<C: ScramCredentialProvider> ScramAuthenticator<C> {
                 acts_for: copied(alloc, acts_for)?,
             },
         })
-    }
-}
-
-/// Returns a copy of the identity, if there is one.
-fn copied(alloc: Global, acts_for: Option<&str>) -> Result<Option<String>, OutOfMemory>
-    ensures { IfOk result (λ name. option_map string_bytes name ≡ option_map (λ text. text.now) acts_for.entry) }
-{
-    match acts_for {
-        Some(name) => Ok(Some(name.to_string(alloc)?)),
-        None => Ok(None),
     }
 }
