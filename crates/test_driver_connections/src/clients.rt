@@ -68,15 +68,18 @@ impl Side for ClientNegotiation {
 
     fn restore(&mut self, row: &mut Row<'_>, is_copy: bool) {
         let hostname = text_after(row, "hostname");
-        if let Some(profile) = row.get(self.profile().clone()) {
-            let restored = if is_copy {
-                call!(row: "restored_client" => restored_client(row.alloc, self, profile, hostname))
-            } else {
-                call!(row: "ClientNegotiation::restore" =>
-                    ClientNegotiation::restore(row.alloc, profile, hostname, &self.snapshot()))
-            };
-            take_restored(row, self, restored);
-        }
+        // By `match`: `Row::get` has no contract, and `restored_client` requires a profile in the same state.
+        let profile = match self.profile().clone() {
+            Ok(profile) => profile,
+            Err(error) => return row.refuse(error),
+        };
+        let restored = if is_copy {
+            call!(row: "restored_client" => restored_client(row.alloc, self, profile, hostname))
+        } else {
+            call!(row: "ClientNegotiation::restore" =>
+                ClientNegotiation::restore(row.alloc, profile, hostname, &self.snapshot()))
+        };
+        take_restored(row, self, restored);
     }
 }
 

@@ -208,19 +208,20 @@ impl<A: AuthenticatedUser + Saved + Drop> Side for ServerNegotiation<A> {
     }
 
     fn restore(&mut self, row: &mut Row<'_>, is_copy: bool) {
-        let acceptor = if is_copy {
-            row.get(self.acceptor().clone())
-        } else {
-            self.acceptor().continued(row)
-        };
-        let Some(acceptor) = acceptor else {
-            return row.refuse("no server");
-        };
         let restored = if is_copy {
-            call!(row: "restored_server" => restored_server(row.alloc, self, acceptor))
+            // By `match`: `Row::get` has no contract, and `restored_server` requires an acceptor in the same state.
+            match self.acceptor().clone() {
+                Ok(acceptor) => {
+                    call!(row: "restored_server" => restored_server(row.alloc, self, acceptor))
+                }
+                Err(error) => return row.refuse(error),
+            }
         } else {
-            call!(row: "ServerNegotiation::restore" =>
-                ServerNegotiation::restore(row.alloc, acceptor, &self.snapshot()))
+            match self.acceptor().continued(row) {
+                Some(acceptor) => call!(row: "ServerNegotiation::restore" =>
+                    ServerNegotiation::restore(row.alloc, acceptor, &self.snapshot())),
+                None => return row.refuse("no server"),
+            }
         };
         take_restored(row, self, restored);
     }
