@@ -12,18 +12,16 @@ use test_rows::Row;
 /// Answers the run of a paragraph. If the paragraph says so, each call of files and of random bytes fails in turn, and
 /// then the status must be 4 and the files unchanged.
 pub fn answer(row: &mut Row<'_>, text: &str, private: &Metadata) -> Result<()> {
-    let run = read(row.alloc, text, private, 0)?;
-    let (mut before, mut calls) = (String::from_str(row.alloc, "= 4\n")?, 0u32);
+    let mut run = read(row.alloc, text, private, 0)?;
+    let mut before = String::from_str(row.alloc, "= 4\n")?;
     run.disk.tell(&mut before)?;
-    for piece in [1, 7, 4096] {
-        if run.is_binary || piece == 4096 {
-            let mut again = read(row.alloc, text, private, 0)?;
-            let told = play(&mut again, piece)?;
-            row.say(told);
-            row.agree(&run.wanted);
-            calls = if run.fails { again.disk.calls() } else { 0 };
+    if run.is_binary {
+        for piece in [1, 7] {
+            answer_pieces(row, &mut read(row.alloc, text, private, 0)?, piece)?;
         }
     }
+    answer_pieces(row, &mut run, 4096)?;
+    let calls = if run.fails { run.disk.calls() } else { 0 };
     if run.fails && calls == 0 {
         row.refuse("no call");
     }
@@ -36,6 +34,14 @@ pub fn answer(row: &mut Row<'_>, text: &str, private: &Metadata) -> Result<()> {
             row.say(told);
         }
     }
+    Ok(())
+}
+
+/// Answers a run with an input in pieces of this length.
+fn answer_pieces(row: &mut Row<'_>, run: &mut Run, piece: usize) -> Result<()> {
+    let told = play(run, piece)?;
+    row.say(told);
+    row.agree(&run.wanted);
     Ok(())
 }
 
