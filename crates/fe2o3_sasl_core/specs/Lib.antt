@@ -37,5 +37,6 @@ pub mod ChallengeCounts
 pub mod StepLaws
 pub mod CostLaws
 pub mod UnknownUsers
+pub mod Servers
 pub mod Headline
 pub mod private

@@ -156,7 +156,7 @@ recorded_hmacs hmacs server frame n = hmacs server.inner frame n
 -- the claim that a value is
 abbrev pub attempt_of : LoginAttempt → Attempt
 attempt_of attempt = record {
-  mechanism = attempt.mechanism;
+  mechanism = string_bytes attempt.mechanism;
   user = option_map string_bytes attempt.claimed_user;
   hostname = option_map string_bytes attempt.hostname;
 }

@@ -21,6 +21,7 @@ pub mod restrict_mechanisms;
 pub mod sasl_acceptor;
 pub mod sasl_profile;
 mod scram_acceptor;
+pub mod server;
 pub mod steps;
 pub mod strict_plain;
 pub mod whole_runs;
@@ -45,6 +46,8 @@ pub use crate::sasl_profile::{
     Negotiation, ProfileError, SaslProfile, SaslScramSha1, SaslScramSha256, SaslScramSha512,
     SingleMessage, UrlError,
 };
+pub use crate::server::Server;
+pub use crate::server::options::{Mechanisms, MockAuthentication, ServerOptions, Transport};
 pub use crate::steps::{
     acceptor_body_step, acceptor_frame_step, acceptor_step, profile_body_step, profile_frame_step,
     profile_step,

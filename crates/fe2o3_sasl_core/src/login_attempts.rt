@@ -4,6 +4,8 @@
 ghost use Rattle.std.specs.Prelude.{◌≡◌, ◌≢◌, ◌⊎◌, ◌≤◌, ◌^◌, ℕ, Bool, List, None, Ok, IfOk, IfErr, OnErr, MatchOption, option_map, string_bytes};
 ghost use Rattle.std.specs.Cow.{cow_str_bytes};
 ghost use Rattle.fe2o3_sasl_wire.specs.AmqpTypes.{binary_bytes, init_frame, response_frame};
+ghost use Rattle.fe2o3_sasl_wire.specs.FrameView.{shown};
+ghost use Rattle.fe2o3_sasl_wire.specs.SaslFrames.{Init};
 ghost use Rattle.fe2o3_scram.specs.ChannelBinding.{mechanism_of};
 ghost use Rattle.fe2o3_scram.specs.ClientFirst.{ClientFirst as FirstValues, HasEscapes, ReadsClientFirst};
 ghost use Rattle.fe2o3_scram.specs.declared.hmac.ScramVersion.{ScramVersion as VersionOf};
@@ -34,7 +36,7 @@ use std::alloc::{AllocError, Global};
 #[derive(Debug, Drop)]
 pub struct LoginAttempt {
     /// The mechanism that the init names, also one that the server does not offer.
-    pub mechanism: Symbol,
+    pub mechanism: String,
 
     /// The user name that the initial response claims, as [`claimed_user`] returns it. `None` if the init has no initial
     /// response, up to a response that claims one in its place.
@@ -45,19 +47,29 @@ pub struct LoginAttempt {
 }
 
 impl LoginAttempt {
-    /// Copies what the init claims.
-    fn of_init(alloc: Global, init: &SaslInit) -> Result<Self, OutOfMemory>
-        ensures { IfOk result (λ attempt. IsAttempt (init_frame init.now) (attempt_of attempt)) }
+    /// Copies what an init of this mechanism, initial response and hostname claims.
+    pub(crate) fn of_init(
+        alloc: Global,
+        mechanism: &str,
+        initial_response: Option<&[u8]>,
+        hostname: Option<&str>,
+    ) -> Result<Self, OutOfMemory>
+        ensures { IfOk result (λ attempt. IsAttempt
+            (Init mechanism.now (shown initial_response.entry) (shown hostname.entry)) (attempt_of attempt)) }
     {
         Ok(Self {
-            mechanism: init.mechanism.clone()?,
-            claimed_user: user_of_init(alloc, init)?,
-            hostname: init.hostname.clone()?,
+            mechanism: mechanism.to_string(alloc)?,
+            claimed_user: user_of_init(alloc, mechanism, initial_response)?,
+            hostname: copied(alloc, hostname)?,
         })
     }
 
     /// Returns the user that a response claims: if the init claims none, the response may be its initial response.
-    fn late_user(&self, alloc: Global, response: &[u8]) -> Result<Option<String>, OutOfMemory>
+    pub(crate) fn late_user(
+        &self,
+        alloc: Global,
+        response: &[u8],
+    ) -> Result<Option<String>, OutOfMemory>
         ensures ok { IfOk result (λ user. LateClaim (attempt_of self.now).user (attempt_of self.now).mechanism
             response.now (option_map string_bytes user)) }
         ensures memory { IfErr result (λ _. ((attempt_of self.now).user ≡ None)
@@ -175,13 +187,36 @@ fn headers_of(plus: bool, accept_authzid: bool) -> ServerRules
     }
 }
 
-/// Returns the user name that an init claims by its initial response, or `None` if it has none.
-fn user_of_init(alloc: Global, init: &SaslInit) -> Result<Option<String>, OutOfMemory>
-    ensures { IfOk result (λ user. ClaimIn init.now.mechanism (option_map binary_bytes init.now.initial_response)
-        (option_map string_bytes user)) }
+/// Returns the user name that an init of this mechanism claims by its initial response, or `None` if it has none.
+fn user_of_init(
+    alloc: Global,
+    mechanism: &str,
+    initial_response: Option<&[u8]>,
+) -> Result<Option<String>, OutOfMemory>
+    ensures { IfOk result (λ user. ClaimIn mechanism.now (shown initial_response.entry) (option_map string_bytes user)) }
+{
+    match initial_response {
+        Some(message) => claimed_user(alloc, mechanism, message),
+        None => Ok(None),
+    }
+}
+
+/// Returns the initial response of an init, if it has one.
+pub(crate) fn response_of(init: &SaslInit) -> Option<&[u8]>
+    ensures { shown result ≡ option_map binary_bytes init.now.initial_response }
 {
     match &init.initial_response {
-        Some(message) => claimed_user(alloc, init.mechanism.as_str(), &message.0),
+        Some(response) => Some(&response.0),
+        None => None,
+    }
+}
+
+/// Returns a copy of the text, if there is one.
+pub(crate) fn copied(alloc: Global, text: Option<&str>) -> Result<Option<String>, OutOfMemory>
+    ensures { IfOk result (λ copy. option_map string_bytes copy ≡ shown text.entry) }
+{
+    match text {
+        Some(text) => Ok(Some(text.to_string(alloc)?)),
         None => Ok(None),
     }
 }
@@ -291,7 +326,7 @@ impl<A: HasMechanism> WithLastAttempt<A> {
 }
 
 /// Returns the claim of an init, with the user of a late initial response if the init claims none.
-fn with_late(last: Option<LoginAttempt>, late: Option<String>) -> Option<LoginAttempt>
+pub(crate) fn with_late(last: Option<LoginAttempt>, late: Option<String>) -> Option<LoginAttempt>
     ensures { option_map attempt_of result
         ≡ option_map (λ attempt. with_late attempt (option_map string_bytes late)) (option_map attempt_of last) }
 {
@@ -312,7 +347,7 @@ fn with_late(last: Option<LoginAttempt>, late: Option<String>) -> Option<LoginAt
 }
 
 /// Returns the reason of a reply that rejects the login.
-fn rejection_of(reply: &SaslServerFrame) -> Option<Rejection>
+pub(crate) fn rejection_of(reply: &SaslServerFrame) -> Option<Rejection>
     ensures { result ≡ reason_in reply.now }
 {
     match reply {
@@ -428,7 +463,12 @@ impl<A: HasMechanism> SaslAcceptor for WithLastAttempt<A> {
         ensures rejection { IfOk result (λ reply. rejection_in self.new ≡ reason_in reply) }
         ensures unchanged { OnErr result (rejection_in self.new ≡ rejection_in self.old) }
     {
-        let attempt = LoginAttempt::of_init(alloc, &init)?;
+        let attempt = LoginAttempt::of_init(
+            alloc,
+            init.mechanism.as_str(),
+            response_of(&init),
+            init.hostname.as_deref(),
+        )?;
         let reply = self.acceptor.on_init_metered(alloc, init, nonce, meter)?;
         self.last = Some(attempt);
         self.rejection = rejection_of(&reply);

@@ -176,7 +176,12 @@ impl<C: ScramCredentialProvider> PlainServer<C> {
             return Ok(None);
         };
         // The right is tested after the password, so that a client learns it only by the password.
-        if self.has_password(alloc, &message, meter)? && self.may_act(&message) {
+        let test = PasswordTest {
+            credentials: &self.credentials,
+            iterations: self.iterations,
+            passwords: self.passwords,
+        };
+        if test.has_password(alloc, &message, meter)? && self.may_act(&message) {
             Ok(Some(message))
         } else {
             Ok(None)
@@ -197,10 +202,20 @@ impl<C: ScramCredentialProvider> PlainServer<C> {
             },
         }
     }
+}
 
+/// What PLAIN tests a password against: the records of a store, with this iteration count for an unknown user.
+#[derive(Drop)]
+pub(crate) struct PasswordTest<'a, C: ScramCredentialProvider> {
+    pub(crate) credentials: &'a C,
+    pub(crate) iterations: u32,
+    pub(crate) passwords: PlainPasswords,
+}
+
+impl<C: ScramCredentialProvider> PasswordTest<'_, C> {
     /// Returns whether the message has the password of its user. The meter counts the HMAC values. The only error is
     /// `OutOfMemory`, for a password that is prepared.
-    fn has_password(
+    pub(crate) fn has_password(
         &self,
         alloc: Global,
         message: &PlainMessage<'_>,
@@ -208,9 +223,9 @@ impl<C: ScramCredentialProvider> PlainServer<C> {
     ) -> Result<bool, OutOfMemory>
         requires { meter.old ≤ 2 ^ 63 }
         ensures verdict { IfOk result (λ has. IsTrue has
-            ↔ HasPassword self.now.passwords (C.meaning self.now.credentials) (parts_of message.now)) }
+            ↔ HasPassword self.now.passwords (C.meaning self.now.credentials.now) (parts_of message.now)) }
         ensures cost { IfOk result (λ _. TestingCosts self.now.passwords message.now.password.now (count_or self.now.iterations
-            (record_at (C.meaning self.now.credentials).records message.now.username.now)) meter.old meter.new) }
+            (record_at (C.meaning self.now.credentials.now).records message.now.username.now)) meter.old meter.new) }
         ensures memory { IfErr result (λ _. (self.now.passwords ≡ FormSaslprep) × ¬ IsAscii message.now.password.now
             × (meter.new ≡ meter.old)) }
     {
@@ -233,9 +248,9 @@ impl<C: ScramCredentialProvider> PlainServer<C> {
     fn meets(&self, username: &str, password: Password<'_>, meter: &mut Meter) -> bool
         requires { meter.old ≤ 2 ^ 63 }
         ensures verdict { IsTrue result
-            ↔ MeetsUser (C.meaning self.now.credentials) username.now (password_of password.entry) }
+            ↔ MeetsUser (C.meaning self.now.credentials.now) username.now (password_of password.entry) }
         ensures cost { CheckingCosts (password_of password.entry) (count_or self.now.iterations
-            (record_at (C.meaning self.now.credentials).records username.now)) meter.old meter.new }
+            (record_at (C.meaning self.now.credentials.now).records username.now)) meter.old meter.new }
     {
         let scram_version = *self.credentials.scram_version();
         match self.credentials.get_stored_password(username) {
@@ -397,7 +412,7 @@ impl<'a> PlainMessage<'a> {
     }
 
     /// Returns the identity that the message asks to act for, or `None` if its user acts for itself.
-    fn asked_identity(&self) -> Option<&'a str>
+    pub(crate) fn asked_identity(&self) -> Option<&'a str>
         ensures { option_map (λ name. name.now) result ≡ asked_identity (parts_of self.now) }
     {
         if self.identity.is_empty() {

@@ -263,7 +263,10 @@ fn conclusion(answer: Option<Vec<u8>>) -> SaslServerFrame
 }
 
 /// Maps every SCRAM error to a rejection for this reason, except `OutOfMemory`, which is returned as an error.
-fn refusal(kind: ServerScramErrorKind, reason: Rejection) -> Result<SaslServerFrame, OutOfMemory>
+pub(crate) fn refusal(
+    kind: ServerScramErrorKind,
+    reason: Rejection,
+) -> Result<SaslServerFrame, OutOfMemory>
     ensures auth { IfOk result (λ frame. (kind ≢ ScramOutOfMemory) × (sent_frame frame ≡ ends_with Auth)) }
     ensures reason { IfOk result (λ frame. reason_in frame ≡ Some reason) }
     ensures memory { IfErr result (λ _. kind ≡ ScramOutOfMemory) }
@@ -308,7 +311,11 @@ fn unknown(records: &HashRecords, username: &str) -> Rejection
 }
 
 /// Returns the reason for the error of a client-first message.
-fn reason_of_first(rules: ServerRules, client_first: &[u8], kind: ServerScramErrorKind) -> Rejection
+pub(crate) fn reason_of_first(
+    rules: ServerRules,
+    client_first: &[u8],
+    kind: ServerScramErrorKind,
+) -> Rejection
     ensures { result ≡ reason_of_first rules client_first.now kind }
 {
     match kind {

@@ -35,7 +35,7 @@ fn body_of(alloc: Global, frame: Frame) -> Result<Vec<u8>, Error>
 }
 
 /// Writes an acceptor's frame as a reply.
-fn write_reply(alloc: Global, frame: SaslServerFrame) -> Result<ServerReply, Error>
+pub(crate) fn write_reply(alloc: Global, frame: SaslServerFrame) -> Result<ServerReply, Error>
     ensures { Writes server_reply (server_says (sent_frame frame)) (canonical (sent_frame frame)) result }
 {
     match frame {

@@ -31,3 +31,4 @@ pub mod LastAttemptLemmas
 pub mod LastAnsweredInitLemmas
 pub mod OfferedScramLemmas
 pub mod RejectionLemmas
+pub mod ServerAnswerLemmas

@@ -1,0 +1,106 @@
+-- What the parts of a server's answer say of its machine.
+use Rattle.std.proofs.Common.{◌≡◌, ◌≢◌, ◌⊎◌, inl, inr, ℕ, Bool, List, Option, Some, None, Result, Ok, Err, ap, sym, subst, refl, arith}
+use Rattle.std.specs.Prelude.{IfErr, IfOk, IsAscii, codes, option_map}
+use Rattle.fe2o3_sasl_core.proofs.lemmas.frames.SpellingLemmas.{IsAscii-mechanism_of}
+use Rattle.fe2o3_sasl_wire.proofs.lemmas.reading.TextLemmas.{IsAscii-from_is_ascii}
+use Rattle.fe2o3_sasl_wire.specs.SaslFrames.{SaslFrame, canonical}
+use Rattle.fe2o3_sasl_wire.specs.declared.sasl_frames.error.Error.{Error}
+use Rattle.fe2o3_sasl_wire.specs.declared.sasl_frames.error.Error.TheVariants as faults
+use Rattle.fe2o3_sasl_core.specs.Bodies.{server_says}
+use Rattle.fe2o3_sasl_core.specs.Events.{Failed, ServerSays}
+use Rattle.fe2o3_sasl_core.specs.Runs.{AcceptorAnswers, SendsCanonical, server_reply}
+use Rattle.std.specs.Prelude.{Vec}
+use Rattle.std.specs.declared.alloc.Global.{Global}
+use Rattle.fe2o3_scram.specs.Credentials.{with_rights}
+use Rattle.fe2o3_scram.specs.Readings.{Gives}
+use Rattle.fe2o3_scram.specs.ScramServer.{ServerFirstSent, ServerFinalSent}
+use Rattle.fe2o3_scram.specs.ServerFinal.{AnswersClientFinal, FinalCosts}
+use Rattle.fe2o3_scram.specs.ServerFirst.{OpenExchange}
+use Rattle.fe2o3_scram.specs.declared.hmac.ScramVersion.{ScramVersion}
+use Rattle.fe2o3_scram.specs.declared.scram_messages.error.ServerScramErrorKind.{ServerScramErrorKind}
+use Rattle.fe2o3_scram.specs.declared.scram_messages.error.ServerScramErrorKind.TheVariants.{OutOfMemory}
+use Rattle.fe2o3_sasl_core.specs.PlainServer.{IsLetIn, PlainParts, SpellsPlain}
+use Rattle.fe2o3_sasl_core.specs.Servers.{ExchangeOpen, NotStarted, MessageLetsIn, ServerSettings, ServerStage, plain_by_settings, provider_by, response_hmacs, exchange_server, way_name}
+use Rattle.fe2o3_sasl_core.specs.declared.server.stage.Move.{Move}
+use Rattle.fe2o3_sasl_core.specs.declared.server.stage.Move.TheVariants as moves
+use Rattle.fe2o3_sasl_core.specs.private.ServerMoves.{TakesAtMost, after, restarted}
+use Rattle.fe2o3_sasl_core.proofs.lemmas.machines.PlainMessageLemmas.{one_message}
+use Rattle.fe2o3_sasl_core.proofs.lemmas.machines.ResponseCostLemmas.{response_costs}
+use Rattle.fe2o3_sasl_core.specs.declared.events.ServerReply.{ServerReply}
+use Rattle.fe2o3_sasl_core.specs.private.Writing.{Writes}
+use Rattle.fe2o3_sasl_core.specs.declared.server.ways.Way.{Way}
+use Rattle.fe2o3_sasl_core.specs.declared.server.ways.Way.TheVariants as ways
+
+-- the name of a mechanism is ASCII
+pub IsAscii-way_name : (way : Way) → IsAscii (way_name way)
+IsAscii-way_name (ways.Scram version plus) = IsAscii-mechanism_of version plus
+IsAscii-way_name ways.Plain = IsAscii-from_is_ascii (codes "PLAIN") refl
+IsAscii-way_name ways.Anonymous = IsAscii-from_is_ascii (codes "ANONYMOUS") refl
+IsAscii-way_name ways.External = IsAscii-from_is_ascii (codes "EXTERNAL") refl
+
+-- a reply that is written is that of the machine
+pub written_answer : {S : Type 0} (machine : S → List ℕ → SaslFrame → SaslFrame → S → Type 0) (state moved next : S)
+    (nonce : List ℕ) (frame reply : SaslFrame) (says : ServerSays) → machine state nonce frame reply moved
+    → (body : List ℕ) × (canonical reply ≡ Some body) × (says ≡ server_says reply body) → next ≡ moved
+    → AcceptorAnswers machine state nonce frame says next
+written_answer machine state moved next nonce frame reply says made spelled same = inr (
+  reply,
+  moved,
+  made,
+  subst (λ (b : Option (List ℕ)). SendsCanonical (Failed faults.TooLarge) (server_says reply) b state moved says next)
+      (sym spelled.1) (spelled.2, same),
+)
+
+-- one that is not written changes nothing
+pub unwritten_answer : {S : Type 0} (machine : S → List ℕ → SaslFrame → SaslFrame → S → Type 0) (state moved : S)
+    (nonce : List ℕ) (frame reply : SaslFrame) (fault : Error) → machine state nonce frame reply moved
+    → Writes {X = ServerReply} server_reply (server_says reply) (canonical reply) (Err fault)
+    → AcceptorAnswers machine state nonce frame (Failed fault) state
+unwritten_answer machine state moved nonce frame reply faults.TooLarge made none = inr (
+  reply,
+  moved,
+  made,
+  subst (λ (b : Option (List ℕ)). SendsCanonical (Failed faults.TooLarge) (server_says reply) b state moved
+      (Failed faults.TooLarge) state) (sym none) (refl, refl),
+)
+unwritten_answer machine state moved nonce frame reply faults.OutOfMemory made none = inl (refl, refl)
+unwritten_answer machine state moved nonce frame reply faults.DecodeError made none = absurd none
+unwritten_answer machine state moved nonce frame reply faults.NotImplemented made none = absurd none
+
+-- ---- PLAIN
+
+-- a message that is not let in lets nobody in
+pub not_let_in : (settings : ServerSettings) (text : List ℕ) (parts : PlainParts) → SpellsPlain parts text
+    → ¬ IsLetIn (plain_by_settings settings) parts → (other : PlainParts) → ¬ MessageLetsIn settings text other
+not_let_in settings text parts spells wrong other is =
+    wrong (subst (IsLetIn (plain_by_settings settings)) (one_message text other parts is.0 spells) is.2)
+
+-- ---- exchanges
+
+-- what the client-final message of an exchange costs
+pub exchange_costs : (R : Type 0) (settings : ServerSettings) (version : ScramVersion) (plus : Bool)
+    (exchange : OpenExchange) (text : List ℕ) (result : Result (Vec ℕ Global) ServerScramErrorKind) (before after : ℕ)
+    → Gives OutOfMemory R (λ (message : Vec ℕ Global). message.items) result
+    (AnswersClientFinal (exchange_server settings version plus exchange) text)
+    → FinalCosts (exchange_server settings version plus exchange) text result before after
+    → TakesAtMost (response_hmacs settings (ExchangeOpen version plus exchange) text) before after
+exchange_costs R settings version plus exchange text (Ok message) before after gives costs =
+    response_costs R (λ (message : Vec ℕ Global). Some message.items)
+    (with_rights settings.rights (provider_by settings version plus))
+    (ServerFirstSent exchange.challenge exchange.stored)
+    (ServerFinalSent exchange.challenge.user exchange.challenge.header.acts_for) text (Ok message) before after
+    (gives, refl) costs
+exchange_costs R settings version plus exchange text (Err kind) before after gives costs =
+    response_costs R (λ (message : Vec ℕ Global). Some message.items)
+    (with_rights settings.rights (provider_by settings version plus))
+    (ServerFirstSent exchange.challenge exchange.stored) (ServerFirstSent exchange.challenge exchange.stored) text
+    (Err kind) before after (gives.0, λ other. (gives.1 other, refl)) costs
+
+-- ---- moves
+
+-- where a server restarts unless it moves to a stage, it is as if it had not started
+pub after_restart : (stage : ServerStage) (move : Move) → after stage (restarted move) ≡ after NotStarted move
+after_restart stage moves.Stay = refl
+after_restart stage (moves.To next) = refl
+after_restart stage moves.Sign = refl
+after_restart stage moves.Authenticate = refl
