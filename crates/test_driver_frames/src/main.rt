@@ -12,6 +12,7 @@ macro_rules! show_call {
 mod audits;
 mod clients;
 mod frames;
+mod lent;
 mod offers;
 mod replies;
 mod runs;

@@ -1,15 +1,16 @@
 //! Servers of several mechanisms over records of users.
 
+use crate::lent;
 use crate::runs::Run;
 use crate::servers::serve;
-use crate::words::{channels, version};
+use crate::words::{channels, passwords, version};
 use fe2o3_sasl::*;
 use std::fmt::Write;
 use std::sync::Arc;
 use test_rows::{Row, again, call};
 
 /// Returns the users of the words `user NAME RECORD`.
-fn users_of(row: &mut Row<'_>) -> MultiRecordStore {
+pub fn users_of(row: &mut Row<'_>) -> MultiRecordStore {
     let mut lines = String::new(row.alloc);
     for _ in 0..4 {
         if row.takes("user") {
@@ -22,7 +23,7 @@ fn users_of(row: &mut Row<'_>) -> MultiRecordStore {
 }
 
 /// Returns the rights of the words `right USER IDENTITY`.
-fn rights_of(row: &mut Row<'_>) -> ActingRights {
+pub fn rights_of(row: &mut Row<'_>) -> ActingRights {
     let (alloc, mut rights) = (row.alloc, ActingRights::new(row.alloc));
     for _ in 0..4 {
         if row.takes("right") {
@@ -60,11 +61,7 @@ fn option_of<'a: 'b, 'b>(
 ) -> PasswordServerBuilder<'b> {
     match word {
         "plain" => builder.plain_records(version(row), row.number()),
-        "passwords" => builder.plain_passwords(match row.word() {
-            "Typed" => PlainPasswords::Typed,
-            "Prepared" => PlainPasswords::Prepared,
-            _ => PlainPasswords::Saslprep,
-        }),
+        "passwords" => builder.plain_passwords(passwords(row)),
         "external" => builder.external(row.word()),
         "mock" => {
             let (secret, len, count) = (row.word(), row.number() as usize, row.number());
@@ -108,11 +105,16 @@ pub fn check<'a>(row: &mut Row<'a>, run: &Run<'a>) {
     }
     let mut server = None;
     again!(row: server = built(row, &builder));
+    let is_built = server.is_some();
     if extra == ExtraChallenges::default() {
-        return serve(row, run, server, "PasswordServer::clone");
+        serve(row, run, server, "PasswordServer::clone");
+    } else {
+        let asking = server.map(|server| WithExtraChallenges::new(server, extra));
+        serve(row, run, asking, "WithExtraChallenges::clone");
     }
-    let asking = server.map(|server| WithExtraChallenges::new(server, extra));
-    serve(row, run, asking, "WithExtraChallenges::clone");
+    if is_built {
+        lent::check(row, run);
+    }
 }
 
 /// Returns a server, or says why there is none.

@@ -31,7 +31,7 @@ impl<A: HasMechanism + Drop> Side for WithLastAttempt<A> {
             ("frame", Ok((view, _))) =>
                 call!(row: "acceptor_frame_step" => acceptor_frame_step(alloc, self, view, nonce, &mut meter)),
             (_, Ok(_)) => return own_step(row, self, call, event),
-            _ => return say_part(row, self, call),
+            _ => return say_part(row, self, self.last_attempt(), call),
         };
         match (call, &reply) {
             ("brief", _) => return say_briefly(row, &reply, self.last_rejection()),
@@ -45,8 +45,13 @@ impl<A: HasMechanism + Drop> Side for WithLastAttempt<A> {
 }
 
 /// Says what a server says of itself.
-fn say_part<A: HasMechanism>(row: &mut Row<'_>, server: &WithLastAttempt<A>, call: &str) {
-    match (call, server.last_attempt()) {
+pub fn say_part<A: SaslAcceptor>(
+    row: &mut Row<'_>,
+    server: &A,
+    attempt: Option<&LoginAttempt>,
+    call: &str,
+) {
+    match (call, attempt) {
         ("mechanisms", _) =>
             show_call!(row: "SaslAcceptor::mechanisms" => server.mechanisms(row.alloc)),
         ("offer", _) =>
@@ -57,7 +62,11 @@ fn say_part<A: HasMechanism>(row: &mut Row<'_>, server: &WithLastAttempt<A>, cal
 }
 
 /// Says the kind of a reply, and why it rejects.
-fn say_briefly(row: &mut Row<'_>, reply: &Result<ServerReply, Error>, reason: Option<Rejection>) {
+pub fn say_briefly(
+    row: &mut Row<'_>,
+    reply: &Result<ServerReply, Error>,
+    reason: Option<Rejection>,
+) {
     match reply {
         Ok(ServerReply::Challenge { .. }) => row.say("Challenge"),
         Ok(ServerReply::Outcome { code, .. }) => row.show(code),
@@ -69,7 +78,7 @@ fn say_briefly(row: &mut Row<'_>, reply: &Result<ServerReply, Error>, reason: Op
 }
 
 /// Says the user that an acceptor names, and for whom the user acts.
-fn say_user<A: AuthenticatedUser>(row: &mut Row<'_>, acceptor: &A) {
+pub fn say_user<A: AuthenticatedUser>(row: &mut Row<'_>, acceptor: &A) {
     if let Some(user) = acceptor.authenticated_user() {
         row.say("user");
         row.say(user);
@@ -81,7 +90,12 @@ fn say_user<A: AuthenticatedUser>(row: &mut Row<'_>, acceptor: &A) {
 }
 
 /// Says the answer of an acceptor by its own call.
-fn own_step<A: AuthenticatedUser>(row: &mut Row<'_>, acceptor: &mut A, call: &str, event: &Event) {
+pub fn own_step<A: AuthenticatedUser>(
+    row: &mut Row<'_>,
+    acceptor: &mut A,
+    call: &str,
+    event: &Event,
+) {
     let (alloc, nonce, mut meter) = (row.alloc, &event.nonce, Meter::new());
     let Ok((view, _)) = view_frame(&event.body) else {
         return row.refuse("no frame");

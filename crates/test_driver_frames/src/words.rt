@@ -38,3 +38,12 @@ pub fn channels(row: &mut Row<'_>) -> Option<ChannelBindings> {
         tls_exporter: of(ChannelKind::TlsExporter),
     })
 }
+
+/// Returns the form of PLAIN's passwords.
+pub fn passwords(row: &mut Row<'_>) -> PlainPasswords {
+    match row.word() {
+        "Typed" => PlainPasswords::Typed,
+        "Prepared" => PlainPasswords::Prepared,
+        _ => PlainPasswords::Saslprep,
+    }
+}
