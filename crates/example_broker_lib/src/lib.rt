@@ -4,26 +4,23 @@
 use anyhow::{Context, Result, bail, ensure};
 use bytes::BytesMut;
 use fe2o3_sasl_negotiation::{
-    AuthenticatedUser, CloseReason, DEFAULT_SALT_LEN, DEFAULT_SCRAM_ITERATIONS, Meter,
-    MultiRecordStore, PasswordServerBuilder, Progress, SaslCode, ScramHashes, ScramVersion,
-    ServerNegotiation,
+    AuthenticatedUser, CloseReason, DEFAULT_SALT_LEN, DEFAULT_SCRAM_ITERATIONS, Mechanisms, Meter,
+    MockAuthentication, MultiRecordStore, Progress, SaslCode, ScramVersion, Server,
+    ServerNegotiation, ServerOptions, Transport,
 };
 use mock_secret::{file_of, secret_of};
+use std::alloc::Global;
 use std::fs;
 use std::io::{BufRead, Write};
 use std::random::RandomSource;
 use std::rt::Files;
 
-/// What connections share: the streams; records that have one salt length and one iteration count; the secret of mock
-/// records, by which unknown users are answered; and TLS, if any, without which PLAIN would show passwords.
+/// The streams of a connection.
 #[derive(Drop)]
-struct Broker<'a, R, I, O> {
+struct Streams<'a, R, I, O> {
     rt: &'a R,
     input: &'a mut I,
     output: &'a mut O,
-    records: MultiRecordStore,
-    secret: Vec<u8>,
-    tls: bool,
 }
 
 /// Serves logins over one connection by a file of records, as `scram users add` makes one, until a user has logged in.
@@ -38,20 +35,29 @@ pub fn log_in<'a, R: Files + RandomSource + AllocGlobal, I: BufRead, O: Write>(
     output: &'a mut O,
 ) -> Result<(String, u8)> {
     let secret = secret_of(rt, path).context(file_of(rt.alloc(), path)?)?;
-    let mut broker = Broker {
-        rt,
-        input,
-        output,
-        records: MultiRecordStore::parse_lines(rt.alloc(), &fs::read_to_string(rt, path)?)?,
-        secret,
-        tls,
+    let records = MultiRecordStore::parse_lines(rt.alloc(), &fs::read_to_string(rt, path)?)?;
+    let options = options_of(rt.alloc(), &records, secret)?;
+    let transport = Transport {
+        is_tls: tls,
+        ..Transport::plaintext()
     };
+    let mut streams = Streams { rt, input, output };
     for wrong in 0..3 {
-        if let Some(user) = broker.serve()? {
+        let server = Server::new(&records, &options, transport);
+        if let Some(user) = streams.carry(server)? {
             return Ok((user, wrong));
         }
     }
     bail!("three wrong logins")
+}
+
+/// Returns what the connections of a broker have in common. Its records have one salt length and one iteration count.
+fn options_of(alloc: Global, records: &MultiRecordStore, secret: Vec<u8>) -> Result<ServerOptions> {
+    let (salt_len, iterations) = form_of(records);
+    let mut options = ServerOptions::new(alloc, Mechanisms::of_all_users(records));
+    options.mechanisms.plain = true;
+    options.mock = Some(MockAuthentication::new(secret, salt_len, iterations)?);
+    Ok(options)
 }
 
 /// Returns the salt length and the iteration count of mock records: those of the first record for the strongest hash for
@@ -70,19 +76,9 @@ fn form_of(records: &MultiRecordStore) -> (usize, u32) {
     (DEFAULT_SALT_LEN, DEFAULT_SCRAM_ITERATIONS)
 }
 
-impl<R: RandomSource + AllocGlobal, I: BufRead, O: Write> Broker<'_, R, I, O> {
-    /// Serves one login. Returns the user who has logged in, or `None` if the login was rejected.
-    fn serve(&mut self) -> Result<Option<String>> {
-        let (salt_len, iterations) = form_of(&self.records);
-        let server = PasswordServerBuilder::new(&self.records)
-            .hashes(ScramHashes::of_all_users(&self.records))
-            .mock_unknown_users(&self.secret, salt_len, iterations)
-            .plain_under_tls(self.tls)
-            .build(self.rt.alloc())?;
-        self.carry(server)
-    }
-
-    /// Serves one to its end, each call of the server with a fresh nonce.
+impl<R: RandomSource + AllocGlobal, I: BufRead, O: Write> Streams<'_, R, I, O> {
+    /// Serves one login, each call of the server with a fresh nonce. Returns the user who has logged in, or `None` if the
+    /// login was rejected.
     fn carry<A: AuthenticatedUser + Drop>(&mut self, acceptor: A) -> Result<Option<String>> {
         let (alloc, mut nonce) = (self.rt.alloc(), [0; 32]);
         let mut server = ServerNegotiation::new(alloc, acceptor);

@@ -4,26 +4,35 @@ use crate::client::new_client;
 use anyhow::Result;
 use bytes::BytesMut;
 use fe2o3_sasl_negotiation::{
-    ClientNegotiation, ConnectionSide, DEFAULT_SALT_LEN, DEFAULT_SCRAM_ITERATIONS, Endpoint, Meter,
-    MultiRecordStore, Password, PasswordServer, PasswordServerBuilder, Progress, Role, ScramRecord,
-    ScramVersion, ServerNegotiation,
+    ClientNegotiation, ConnectionSide, DEFAULT_SALT_LEN, DEFAULT_SCRAM_ITERATIONS, Endpoint,
+    Mechanisms, Meter, MockAuthentication, MultiRecordStore, Password, Progress, Role, ScramRecord,
+    ScramVersion, Server, ServerNegotiation, ServerOptions, Transport,
 };
 use std::alloc::Global;
 use std::random::RandomSource;
 
-/// The server's side of a connection, which offers SCRAM-SHA-512, SCRAM-SHA-256 and, under TLS only, PLAIN. The secret
-/// is random bytes, one for all connections.
-pub fn new_server(
+/// What all connections of a server have in common: it offers SCRAM-SHA-512, SCRAM-SHA-256 and, under TLS only, PLAIN, and
+/// answers unknown users like known ones. The secret is 32 random bytes, kept with the records.
+pub fn new_options(alloc: Global, secret: Vec<u8>) -> Result<ServerOptions> {
+    let mock = MockAuthentication::new(secret, DEFAULT_SALT_LEN, DEFAULT_SCRAM_ITERATIONS)?;
+    let mut options = ServerOptions::new(alloc, Mechanisms::scram());
+    options.mechanisms.plain = true;
+    options.mock = Some(mock);
+    Ok(options)
+}
+
+/// The server's side of a connection.
+pub fn new_server<'a>(
     alloc: Global,
-    users: &MultiRecordStore,
-    secret: &[u8; 32],
+    users: &'a MultiRecordStore,
+    options: &'a ServerOptions,
     is_tls: bool,
-) -> Result<ServerNegotiation<PasswordServer>> {
-    let server = PasswordServerBuilder::new(users)
-        .mock_unknown_users(secret, DEFAULT_SALT_LEN, DEFAULT_SCRAM_ITERATIONS)
-        .plain_under_tls(is_tls)
-        .build(alloc)?;
-    Ok(ServerNegotiation::new(alloc, server))
+) -> ServerNegotiation<Server<'a>> {
+    let transport = Transport {
+        is_tls,
+        ..Transport::plaintext()
+    };
+    ServerNegotiation::new(alloc, Server::new(users, options, transport))
 }
 
 /// The records of `user`, one for each hash. A salt is random bytes, fresh for each record.
@@ -80,7 +89,7 @@ pub fn pass<T: RandomSource, E: Endpoint<R>, R: Role>(
 pub fn meet<R: RandomSource>(
     rt: &R,
     alloc: Global,
-    server: &mut ServerNegotiation<PasswordServer>,
+    server: &mut ServerNegotiation<Server<'_>>,
 ) -> Result<()> {
     let mut to_server = BytesMut::new(alloc);
     let mut to_client = BytesMut::new(alloc);

@@ -118,7 +118,9 @@ fn print_names<W: Write>(body: &[u8], output: &mut W) -> Result<()> {
 /// A login over the bytes of a connection, whose salts, secret and nonces are random.
 fn over_connection<R: RandomSource, W: Write>(rt: &R, alloc: Global, output: &mut W) -> Result<()> {
     let users = connection::new_users(rt, alloc)?;
-    let server = connection::new_server(alloc, &users, &fresh(rt)?, false)?;
+    let secret = fresh(rt)?.to_vec(alloc)?;
+    let options = connection::new_options(alloc, secret)?;
+    let server = connection::new_server(alloc, &users, &options, false);
     let mut server = Box::new(alloc, server)?;
     connection::meet(rt, alloc, &mut server)?;
     let user = server.authenticated_user().context("no user")?;
