@@ -30,3 +30,5 @@ pub mod LoginFrameLemmas
 pub mod LoginAnswerLemmas
 pub mod ActingLemmas
 pub mod JoinedExistLemmas
+pub mod ServerLoginLemmas
+pub mod ServerFunctionLemmas

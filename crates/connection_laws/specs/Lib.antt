@@ -5,3 +5,4 @@ pub mod Unaltered
 pub mod Functions
 pub mod Hostile
 pub mod JoinedSides
+pub mod ServerLogins

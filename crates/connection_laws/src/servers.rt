@@ -4,6 +4,7 @@ ghost use Rattle.fe2o3_scram.specs.ScramServer.{Initial};
 ghost use Rattle.fe2o3_sasl_core.specs.ExternalServer.{external_machine};
 ghost use Rattle.fe2o3_sasl_core.specs.PlainServer.{plain_machine};
 ghost use Rattle.fe2o3_sasl_core.specs.SaslAcceptor.{ScramAcceptor, acceptor_machine, acceptor_user};
+ghost use Rattle.connection_laws.specs.ServerLogins.{CompletedLoginsAreLetIn, OnlyCompletedLoginsAreLetIn, SignaturesFollowProofs};
 ghost use Rattle.connection_laws.specs.Servers.{AnyMechanismServersSplit, ScramRunsServe, AnyMechanismServersActAsPart, OfferingServersPassOn, OfferingServersActAsInner, OfferingServersNameUsers, ServersStay, ExternalServersLogIn, PlainServersLogIn};
 
 use fe2o3_sasl_core::any_mechanism::HasMechanism;
@@ -46,4 +47,15 @@ pub fn external()
 pub fn plain()
     ensures logged_in { PlainServersLogIn }
     ensures stays { ServersStay plain_machine }
+{}
+
+/// Whom a [`Server`](fe2o3_sasl_core::Server) lets in, whatever came before. A frame completes a login: an init of ANONYMOUS,
+/// of EXTERNAL or of PLAIN, as the standard of each says; a client-final message that meets the open exchange; or the empty
+/// response to a signature in a challenge. The login that a frame completes is that of the server from then on. A server
+/// that is logged in after a frame was completed by it, or was there before. A signature is in a challenge only after a
+/// client-final message that meets the open exchange.
+pub fn logins()
+    ensures lets_in { CompletedLoginsAreLetIn }
+    ensures only { OnlyCompletedLoginsAreLetIn }
+    ensures signatures { SignaturesFollowProofs }
 {}

@@ -1,5 +1,6 @@
 use Rattle.fe2o3_sasl_core.proofs.lemmas.machines.OneReplyLemmas.{one_acceptor_reply}
 use Rattle.connection_laws.proofs.lemmas.FunctionLemmas as lemma
+use Rattle.connection_laws.proofs.lemmas.ServerFunctionLemmas.{server_is_function}
 use Rattle.connection_laws.proofs.cuts.functions.Goals as goal
 
 pub returns-clause-acceptors : goal.returns-clause-acceptors
@@ -17,3 +18,6 @@ returns-clause-any_mechanism g c = lemma.any_mechanism_is_function g.A.SaslAccep
 
 pub returns-clause-restrict_mechanisms : goal.returns-clause-restrict_mechanisms
 returns-clause-restrict_mechanisms g c = lemma.offering_is_function g.A.SaslAcceptor.names g.A.SaslAcceptor.machine
+
+pub returns-clause-server : goal.returns-clause-server
+returns-clause-server g c = server_is_function
