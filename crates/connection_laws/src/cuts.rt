@@ -44,9 +44,9 @@ pub fn one_negotiation<A: HasMechanism>()
 {}
 
 /// States which acceptors have at most one reply to each frame and one state after it, as [`one_result`] requires.
-/// Those of SCRAM, PLAIN and ANONYMOUS do, with mock authentication too, and so do EXTERNAL, PLAIN over records, and a `Server` of all mechanisms. A
-/// server of two acceptors does if both do, and one that offers only some mechanisms if its acceptor does. Every server
-/// that is built of these gives one result for every division of a stream.
+/// Those of SCRAM, PLAIN and ANONYMOUS do, with mock authentication too, and so do EXTERNAL, PLAIN over records, and a
+/// `Server` of all mechanisms. A server of two acceptors does if both do, and one that offers only some mechanisms if its
+/// acceptor does. Every server that is built of these gives one result for every division of a stream.
 pub fn functions<A: HasMechanism, B: HasMechanism>()
     ensures acceptors { IsFunction acceptor_machine }
     ensures external { IsFunction external_machine }

@@ -47,11 +47,11 @@ use Rattle.fe2o3_sasl_core.specs.declared.server.ways.Way.TheVariants as ways
 
 -- ---- what a server offers
 
--- what a server knows: its records; which mechanisms it may offer; what SCRAM accepts in a client's messages, with the
--- data of the connection's channel, if there are any; who may act as whom; the settings of mock records, if there are any; the hash of the
--- records that PLAIN tests passwords against, its iteration count for an unknown user, if one is set, and the form of its
--- passwords; which challenges it sends beyond those of the mechanisms; whether the connection is under TLS; and the name
--- that the transport authenticated, where the empty one is none
+-- what a server knows: its records; which mechanisms it may offer; what SCRAM accepts in a client's messages, with the data
+-- of the connection's channel, if there are any; who may act as whom; the settings of mock records, if there are any; the
+-- hash of the records that PLAIN tests passwords against, its iteration count for an unknown user, if one is set, and the
+-- form of its passwords; which challenges it sends beyond those of the mechanisms; whether the connection is under TLS; and
+-- the name that the transport authenticated, where the empty one is none
 pub record ServerSettings : Type 0 where
   pub records : MultiRecords
   pub mechanisms : Mechanisms
@@ -318,8 +318,8 @@ abbrev pub ConfirmsSignature : ServerLogin → List ℕ → SaslFrame → Server
 ConfirmsSignature login [] reply next = StageAccepts login reply next
 ConfirmsSignature login (byte ∷ text) reply next = StageRejects NotStarted reply next
 
--- a response: it completes the init that was asked for it, with the nonce of that init; is the client-final message of the open exchange (RFC
--- 5802, section 5); or confirms a signature
+-- a response: it completes the init that was asked for it, with the nonce of that init; is the client-final message of the
+-- open exchange (RFC 5802, section 5); or confirms a signature
 abbrev pub ResponseAnswers : ServerSettings → ServerStage → List ℕ → SaslFrame → ServerStage → Type 0
 ResponseAnswers settings (ResponseAsked way nonce) text reply next =
     InitAnswers settings way NotStarted nonce (Some text) reply next

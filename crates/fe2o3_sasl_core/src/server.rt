@@ -40,8 +40,8 @@ use std::mem;
 /// EXTERNAL, over records and options that its connections share. It offers those of [`Mechanisms`](options::Mechanisms)
 /// that the connection admits, in this order.
 ///
-/// It has one open exchange: an init that is accepted, whatever its mechanism, takes the place of what was before, and an
-/// init that is rejected changes nothing. It names a user from the outcome Ok to the next init that is accepted.
+/// A `Server` has one open exchange. An init that is accepted, whatever its mechanism, takes the place of the exchange or
+/// login before it, and an init that is rejected leaves that as it is. The server names a user from the outcome Ok to the next init that is accepted.
 ///
 /// ```text
 /// let options = ServerOptions::new(alloc, Mechanisms::scram());

@@ -13,12 +13,14 @@ use Rattle.fe2o3_sasl_core.proofs.server.Server.answer_scram.Goals as goal
 
 pub returns-in-Ok-Some-clause-ok : goal.returns-in-Ok-Some-clause-ok
 returns-in-Ok-Some-clause-ok c = λ kept.
-    let begins = rw (c.rules-rules.ensures, c.mock_users.ensures, c.for_version.ensures) at (rw c.in-Ok-Some.field-0-is at c.in-Ok-Some.ensures.answer) in
+    let begins = rw (c.rules-rules.ensures, c.mock_users.ensures, c.for_version.ensures)
+    at (rw c.in-Ok-Some.field-0-is at c.in-Ok-Some.ensures.answer) in
     (Ok (Some (c.in-Ok-Some.message.items, c.in-Ok-Some.exchange)), begins, (c.challenge.ensures.frame, refl))
 
 pub returns-in_ok-reason-in-Ok-None-clause-ok : goal.returns-in_ok-reason-in-Ok-None-clause-ok
 returns-in_ok-reason-in-Ok-None-clause-ok c = λ kept.
-    let begins = rw (c.rules-rules.ensures, c.mock_users.ensures, c.for_version.ensures) at (rw c.in-Ok-None.field-0-is at c.in-Ok-None.ensures.answer) in
+    let begins = rw (c.rules-rules.ensures, c.mock_users.ensures, c.for_version.ensures)
+    at (rw c.in-Ok-None.field-0-is at c.in-Ok-None.ensures.answer) in
     (Ok None, begins, (refl, refl))
 
 pub returns-in_ok-refusal-in-Err-clause-ok : goal.returns-in_ok-refusal-in-Err-clause-ok

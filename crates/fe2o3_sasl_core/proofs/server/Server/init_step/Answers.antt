@@ -15,7 +15,8 @@ returns-in-Ok-clause-answer c =
       last = claimed (sasl_server c.args.self.now).last c.in_ok-reply.claim;
     } in
     written_answer sasl_machine (sasl_server c.args.self.now) moved (sasl_server c.commit.new.self) c.args.nonce.now
-    (frames.Init c.args.mechanism.now (shown c.args.initial_response) (shown c.args.hostname)) (sent_frame c.in_ok-reply.reply) (server_reply c.in-Ok.says)
+    (frames.Init c.args.mechanism.now (shown c.args.initial_response) (shown c.args.hostname))
+    (sent_frame c.in_ok-reply.reply) (server_reply c.in-Ok.says)
     c.in_ok-reply.ensures.ok c.in-Ok.ensures c.commit.ensures.state
 
 pub returns-in-Err-clause-answer : goal.returns-in-Err-clause-answer
@@ -26,5 +27,6 @@ returns-in-Err-clause-answer c =
       last = claimed (sasl_server c.args.self.now).last c.in_ok-reply.claim;
     } in
     unwritten_answer sasl_machine (sasl_server c.args.self.now) moved c.args.nonce.now
-    (frames.Init c.args.mechanism.now (shown c.args.initial_response) (shown c.args.hostname)) (sent_frame c.in_ok-reply.reply) c.in-Err.fault
+    (frames.Init c.args.mechanism.now (shown c.args.initial_response) (shown c.args.hostname))
+    (sent_frame c.in_ok-reply.reply) c.in-Err.fault
     c.in_ok-reply.ensures.ok c.in-Err.ensures
