@@ -397,7 +397,15 @@ impl SaslAcceptor for Server<'_> {
         alloc: Global,
         init: SaslInit,
         nonce: &[u8; 32],
-    ) -> Result<SaslServerFrame, OutOfMemory> {
+    ) -> Result<SaslServerFrame, OutOfMemory>
+        ensures ok { IfOk result (λ reply. sasl_machine (sasl_server self.old) nonce.now (init_frame init)
+            (sent_frame reply) (sasl_server self.new)) }
+        ensures reason { IfOk result (λ reply. HasReason (sasl_reasons (sasl_server self.old) (init_frame init)) reply) }
+        ensures memory { IfErr result (λ _. sasl_allocates (sasl_server self.old) (init_frame init)) }
+        ensures err { OnErr result (sasl_server self.new ≡ sasl_server self.old) }
+        ensures rejection { IfOk result (λ reply. rejection_of_server self.new ≡ reason_in reply) }
+        ensures unchanged { OnErr result (rejection_of_server self.new ≡ rejection_of_server self.old) }
+    {
         self.on_init_metered(alloc, init, nonce, &mut Meter::new())
     }
 
@@ -405,7 +413,15 @@ impl SaslAcceptor for Server<'_> {
         &mut self,
         alloc: Global,
         response: SaslResponse,
-    ) -> Result<SaslServerFrame, OutOfMemory> {
+    ) -> Result<SaslServerFrame, OutOfMemory>
+        ensures ok { IfOk result (λ reply. (nonce : List ℕ) → sasl_machine (sasl_server self.old) nonce (response_frame response)
+            (sent_frame reply) (sasl_server self.new)) }
+        ensures reason { IfOk result (λ reply. HasReason (sasl_reasons (sasl_server self.old) (response_frame response)) reply) }
+        ensures memory { IfErr result (λ _. sasl_allocates (sasl_server self.old) (response_frame response)) }
+        ensures err { OnErr result (sasl_server self.new ≡ sasl_server self.old) }
+        ensures rejection { IfOk result (λ reply. rejection_of_server self.new ≡ reason_in reply) }
+        ensures unchanged { OnErr result (rejection_of_server self.new ≡ rejection_of_server self.old) }
+    {
         self.on_response_metered(alloc, response, &mut Meter::new())
     }
 
@@ -415,7 +431,17 @@ impl SaslAcceptor for Server<'_> {
         init: SaslInit,
         nonce: &[u8; 32],
         meter: &mut Meter,
-    ) -> Result<SaslServerFrame, OutOfMemory> {
+    ) -> Result<SaslServerFrame, OutOfMemory>
+        requires { meter.old ≤ 2 ^ 63 }
+        ensures ok { IfOk result (λ reply. sasl_machine (sasl_server self.old) nonce.now (init_frame init)
+            (sent_frame reply) (sasl_server self.new)) }
+        ensures reason { IfOk result (λ reply. HasReason (sasl_reasons (sasl_server self.old) (init_frame init)) reply) }
+        ensures memory { IfErr result (λ _. sasl_allocates (sasl_server self.old) (init_frame init)) }
+        ensures err { OnErr result (sasl_server self.new ≡ sasl_server self.old) }
+        ensures cost { CostsAtMost sasl_hmacs (sasl_server self.old) (init_frame init) meter.old meter.new }
+        ensures rejection { IfOk result (λ reply. rejection_of_server self.new ≡ reason_in reply) }
+        ensures unchanged { OnErr result (rejection_of_server self.new ≡ rejection_of_server self.old) }
+    {
         let name = init.mechanism.as_str();
         let hostname = init.hostname.as_deref();
         let (reply, moves, claim) = self.take_init(
@@ -436,7 +462,17 @@ impl SaslAcceptor for Server<'_> {
         alloc: Global,
         response: SaslResponse,
         meter: &mut Meter,
-    ) -> Result<SaslServerFrame, OutOfMemory> {
+    ) -> Result<SaslServerFrame, OutOfMemory>
+        requires { meter.old ≤ 2 ^ 63 }
+        ensures ok { IfOk result (λ reply. (nonce : List ℕ) → sasl_machine (sasl_server self.old) nonce (response_frame response)
+            (sent_frame reply) (sasl_server self.new)) }
+        ensures reason { IfOk result (λ reply. HasReason (sasl_reasons (sasl_server self.old) (response_frame response)) reply) }
+        ensures memory { IfErr result (λ _. sasl_allocates (sasl_server self.old) (response_frame response)) }
+        ensures err { OnErr result (sasl_server self.new ≡ sasl_server self.old) }
+        ensures cost { CostsAtMost sasl_hmacs (sasl_server self.old) (response_frame response) meter.old meter.new }
+        ensures rejection { IfOk result (λ reply. rejection_of_server self.new ≡ reason_in reply) }
+        ensures unchanged { OnErr result (rejection_of_server self.new ≡ rejection_of_server self.old) }
+    {
         let (reply, moves, claim) = self.take_response(alloc, &response.response.0, meter)?;
         let reason = rejection_of(&reply);
         self.commit(moves, claim, reason);
