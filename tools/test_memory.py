@@ -35,8 +35,6 @@ EXCEPT = {
     "Endpoint::answer": "ConnectionSide::receive makes it",
     "RecordStore::clone": "a clone shares the users and requests nothing",
     "SingleMessage::clone": "SaslProfile::clone makes it",
-    "ChallengePhase::clone": "WithExtraChallenges::clone makes it",
-    "Server::clone": "run_acceptor makes it",
     "ServerExchange::open": "ScramAuthenticator::compute_server_first_message makes it",
     "ServerExchange::conclude": "ScramAuthenticator::compute_server_final_message makes it",
     "ServerExchange::clone": "ScramAuthenticator::clone makes it",

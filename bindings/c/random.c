@@ -193,16 +193,11 @@ static void draw_asked(struct fe2o3_scram_server *server)
 {
     const char *mechanism = below(2) ? "PLAIN" : "SCRAM-SHA-256";
     memset(server, 0, sizeof *server);
-    server->state = ONE_OF(FE2O3_SCRAM_SERVER_INITIAL_RESPONSE_ASKED,
-        FE2O3_SCRAM_SERVER_INITIAL_RESPONSE_ASKED_WITH_HOSTNAME);
+    server->state = FE2O3_SCRAM_SERVER_INITIAL_RESPONSE_ASKED;
     server->first_len = (uint32_t)strlen(mechanism);
     memcpy(server->first, mechanism, server->first_len);
     server->nonce_len = 32;
     fill(server->nonce, 32);
-    if (server->state == FE2O3_SCRAM_SERVER_INITIAL_RESPONSE_ASKED_WITH_HOSTNAME) {
-        server->bare_len = 4;
-        memcpy(server->bare, "host", 4);
-    }
 }
 
 static void draw_server(struct fe2o3_scram_server *server)
@@ -307,8 +302,7 @@ static void initial_response(int plain, struct text *message)
 
 static int has_asked(const struct fe2o3_scram_server *server)
 {
-    return server->state == FE2O3_SCRAM_SERVER_INITIAL_RESPONSE_ASKED
-        || server->state == FE2O3_SCRAM_SERVER_INITIAL_RESPONSE_ASKED_WITH_HOSTNAME;
+    return server->state == FE2O3_SCRAM_SERVER_INITIAL_RESPONSE_ASKED;
 }
 
 /* Rules of random bytes, half of them with flags and lengths that a caller may set. */

@@ -536,20 +536,15 @@ static void signature_by_challenge(void)
             && rejects(&other, FE2O3_REJECTION_UNEXPECTED_RESPONSE));
 }
 
-/* A server that has asked for the initial response of SCRAM-SHA-256, with this hostname or without. */
-static struct fe2o3_scram_server asked_with(const char *hostname)
+/* A server that has asked for the initial response of SCRAM-SHA-256. */
+static struct fe2o3_scram_server asked(void)
 {
     struct fe2o3_scram_server server = fresh_server;
-    server.state = hostname == NULL ? FE2O3_SCRAM_SERVER_INITIAL_RESPONSE_ASKED
-                                    : FE2O3_SCRAM_SERVER_INITIAL_RESPONSE_ASKED_WITH_HOSTNAME;
+    server.state = FE2O3_SCRAM_SERVER_INITIAL_RESPONSE_ASKED;
     server.first_len = (uint32_t)sizeof "SCRAM-SHA-256" - 1;
     memcpy(server.first, "SCRAM-SHA-256", server.first_len);
     server.nonce_len = (uint32_t)sizeof server_nonce;
     memcpy(server.nonce, server_nonce, sizeof server_nonce);
-    if (hostname != NULL) {
-        server.bare_len = (uint32_t)strlen(hostname);
-        memcpy(server.bare, hostname, server.bare_len);
-    }
     return server;
 }
 
@@ -607,7 +602,7 @@ static void initial_response_by_challenge(void)
 {
     struct fe2o3_scram_record record = record_by(FE2O3_SHA_256);
     struct fe2o3_sasl_server_config config = config_of(&record);
-    struct fe2o3_scram_server server = fresh_server, wanted = asked_with("host"), without_host = asked_with(NULL);
+    struct fe2o3_scram_server server = fresh_server, wanted = asked();
     struct body out;
     told("SCRAM-SHA-256", "no initial response, which is not asked for",
         answers(&server, &config, TEXT(LATE_INIT), TEXT(BARE_AUTH), FE2O3_REFUSED_AUTH)
@@ -622,7 +617,7 @@ static void initial_response_by_challenge(void)
     server = fresh_server;
     told("SCRAM-SHA-256", "an init without a hostname too",
         answers(&server, &config, TEXT(LATE_INIT_WITHOUT_HOST), TEXT(EMPTY_CHALLENGE), FE2O3_IN_PROGRESS)
-            && memcmp(&server, &without_host, sizeof server) == 0
+            && memcmp(&server, &wanted, sizeof server) == 0
             && answers(&server, &config, TEXT(LATE_FIRST), TEXT(CHALLENGE), FE2O3_IN_PROGRESS)
             && answers(&server, &config, TEXT(RESPONSE), TEXT(OUTCOME_OK), FE2O3_AUTHENTICATED));
     server = fresh_server;

@@ -234,12 +234,9 @@ enum fe2o3_scram_server_state {
     /* The server's signature was sent to the user in a challenge. The user is authenticated once the client has answered
      * it. Only on a connection, and for steps over frame bodies. */
     FE2O3_SCRAM_SERVER_SIGNATURE_SENT = 4,
-    /* An empty challenge was sent for an init without an initial response and without a hostname. `first` is the name of
-     * the mechanism, and `nonce` the 32 bytes of the init's nonce. Only on a connection, and for steps over frame
-     * bodies. */
+    /* An empty challenge was sent for an init without an initial response. `first` is the name of the mechanism, and
+     * `nonce` the 32 bytes of the init's nonce. Only on a connection, and for steps over frame bodies. */
     FE2O3_SCRAM_SERVER_INITIAL_RESPONSE_ASKED = 5,
-    /* Like FE2O3_SCRAM_SERVER_INITIAL_RESPONSE_ASKED, but the init had a hostname: `bare`. */
-    FE2O3_SCRAM_SERVER_INITIAL_RESPONSE_ASKED_WITH_HOSTNAME = 6,
     /* A challenge is open, to a client that binds the channel by `tls-unique`. */
     FE2O3_SCRAM_SERVER_CHALLENGE_OPEN_TLS_UNIQUE = 7,
     /* A challenge is open, to a client that binds the channel by `tls-server-end-point`. */

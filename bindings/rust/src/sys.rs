@@ -450,13 +450,9 @@ pub const SCRAM_SERVER_CHALLENGE_OPEN_CBIND_FLAG_Y: u32 = 3;
 /// client has answered it. Only on a connection, and for steps over frame bodies.
 pub const SCRAM_SERVER_SIGNATURE_SENT: u32 = 4;
 
-/// `scram_server_state`: An empty challenge was sent for an init without an initial response and without a hostname.
-/// `first` is the name of the mechanism, and `nonce` the 32 bytes of the init's nonce. Only on a connection, and for
-/// steps over frame bodies.
+/// `scram_server_state`: An empty challenge was sent for an init without an initial response. `first` is the name of
+/// the mechanism, and `nonce` the 32 bytes of the init's nonce. Only on a connection, and for steps over frame bodies.
 pub const SCRAM_SERVER_INITIAL_RESPONSE_ASKED: u32 = 5;
-
-/// `scram_server_state`: Like SCRAM_SERVER_INITIAL_RESPONSE_ASKED, but the init had a hostname: `bare`.
-pub const SCRAM_SERVER_INITIAL_RESPONSE_ASKED_WITH_HOSTNAME: u32 = 6;
 
 /// `scram_server_state`: A challenge is open, to a client that binds the channel by `tls-unique`.
 pub const SCRAM_SERVER_CHALLENGE_OPEN_TLS_UNIQUE: u32 = 7;

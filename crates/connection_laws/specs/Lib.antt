@@ -6,3 +6,9 @@ pub mod Functions
 pub mod Hostile
 pub mod JoinedSides
 pub mod ServerLogins
+pub mod ConnectionLogins
+pub mod UnknownNames
+pub mod ServerHmacs
+pub mod ServerBytes
+pub mod CallPieces
+pub mod ServerReplays

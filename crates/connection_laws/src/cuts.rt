@@ -4,6 +4,7 @@ ghost use Rattle.fe2o3_sasl_core.specs.ExternalServer.{external_machine};
 ghost use Rattle.fe2o3_sasl_core.specs.PlainServer.{plain_machine};
 ghost use Rattle.fe2o3_sasl_core.specs.SaslAcceptor.{acceptor_names, acceptor_machine};
 ghost use Rattle.fe2o3_sasl_core.specs.Servers.{sasl_machine};
+ghost use Rattle.connection_laws.specs.CallPieces.{ClientCallsConnect, ServerCallsConnect};
 ghost use Rattle.connection_laws.specs.Cuts.{IsFunction};
 ghost use Rattle.connection_laws.specs.Functions.{AnyMechanismIsFunction, OfferingIsFunction};
 ghost use Rattle.connection_laws.specs.Cuts.{FunctionCallsEndEqually, ServerCallsEndEqually, ClientCallsEndEqually};
@@ -54,4 +55,12 @@ pub fn functions<A: HasMechanism, B: HasMechanism>()
     ensures server { IsFunction sasl_machine }
     ensures any_mechanism { AnyMechanismIsFunction A.names B.names A.machine B.machine }
     ensures restrict_mechanisms { OfferingIsFunction A.names A.machine }
+{}
+
+/// States in which call each byte of a connection arrived, for every acceptor and every client. The calls over a stream make a
+/// connection whose pieces are the bytes that each call took, with its nonce. So each frame has the nonce of the call in which
+/// its last byte arrived, also where calls are passed more bytes than they take.
+pub fn call_pieces<A: HasMechanism>()
+    ensures servers { ServerCallsConnect A.names A.machine }
+    ensures clients { ClientCallsConnect }
 {}

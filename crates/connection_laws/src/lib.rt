@@ -6,5 +6,6 @@ pub mod cuts;
 pub mod hostile;
 pub mod joined;
 pub mod pairs;
+pub mod server_logins;
 pub mod servers;
 pub mod unaltered;

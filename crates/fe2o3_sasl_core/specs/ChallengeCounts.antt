@@ -1,14 +1,13 @@
--- How many challenges a login has, with extra challenges too. Each law is the contract of a clause of
--- `extra_challenges::laws`.
+-- How many challenges a login has. Each law is the contract of a clause of `server::laws::challenge_counts`.
 use Rattle.std.specs.Prelude.{◌<◌, ◌≤◌, ◌+◌, ℕ, Bool, cond, Option, List, ◌∷◌, length, Ok}
 use Rattle.std.specs.List.{AllByRecursion}
 use Rattle.fe2o3_sasl_wire.specs.SaslFrames as frames
 use Rattle.fe2o3_sasl_wire.specs.SaslFrames.{SaslFrame}
 use Rattle.fe2o3_sasl_core.specs.AnyMechanismLaws.{Machine}
 use Rattle.fe2o3_sasl_core.specs.Bodies.{SpellsBody}
-use Rattle.fe2o3_sasl_core.specs.Events.{Given, ServerSays, Challenged}
-use Rattle.fe2o3_sasl_core.specs.ExtraChallenges.{Extended, Phase, Asking, Signing, extended_machine}
+use Rattle.fe2o3_sasl_core.specs.Events.{Given, ServerSays, Challenged, Failed}
 use Rattle.fe2o3_sasl_core.specs.Runs.{Runs, AcceptorSteps}
+use Rattle.fe2o3_sasl_core.specs.Servers.{ExchangeOpen, ResponseAsked, ServerAt, ServerStage, sasl_machine}
 
 -- ---- any acceptor
 
@@ -33,6 +32,11 @@ IsInit event = (mechanism : List ℕ) × (response hostname : Option (List ℕ))
 abbrev pub IsResponse : Given → Type 0
 IsResponse event = (text : List ℕ) × SpellsBody event.body (Ok (frames.Response text))
 
+-- a reply that is an error
+abbrev pub IsError : ServerSays → Type 0
+IsError (Failed fault) = Unit {0}
+IsError says = ⊥
+
 -- a reply that is a challenge
 abbrev pub IsChallenge : ServerSays → Type 0
 IsChallenge (Challenged body) = Unit {0}
@@ -50,40 +54,28 @@ abbrev pub BoundsHold : {S : Type 0} → Machine S → Type 0
 BoundsHold {S} machine = (left most : S → ℕ) → BoundsChallenges machine left most
     → HasChallenges machine (λ state. most state + 1)
 
--- an acceptor challenges only at an init: it answers each response by an outcome
-abbrev pub ChallengesOnlyAtInit : {S : Type 0} → Machine S → Type 0
-ChallengesOnlyAtInit {S} machine = (state next : S) (nonce text : List ℕ) (reply : SaslFrame)
-    → machine state nonce (frames.Response text) reply next → ¬ GoesOn reply
-
--- ---- extra challenges
+-- ---- a server of all mechanisms
 
 -- 1 if the flag is set, otherwise 0
 abbrev pub one_if : Bool → ℕ
 one_if flag = cond flag 1 0
 
--- how many challenges are left in a phase, by what is left of the acceptor now and after an init
-abbrev pub left_in : Phase → ℕ → ℕ → ℕ → ℕ
-left_in (Asking mechanism hostname nonce) by_signature now after_init = after_init + by_signature + 1
-left_in Signing by_signature now after_init = 0
-left_in phase by_signature now after_init = now + by_signature
+-- how many challenges are left at a stage: that to an initial response that is due, and one for a signature
+abbrev pub stage_left : Bool → ServerStage → ℕ
+stage_left signs (ResponseAsked way nonce) = one_if signs + 1
+stage_left signs (ExchangeOpen version plus exchange) = one_if signs
+stage_left signs stage = 0
 
--- how many challenges are left
-abbrev pub challenges_left : {S : Type 0} → (S → ℕ) → (S → ℕ) → Extended S → ℕ
-challenges_left left most server =
-    left_in server.phase (one_if server.extra.signature) (left server.inner) (most server.inner)
+abbrev pub challenges_left : ServerAt → ℕ
+challenges_left server = stage_left server.settings.extra.signature server.stage
 
--- how many are left after a challenge to an init: one more for each extra challenge
-abbrev pub most_left : {S : Type 0} → (S → ℕ) → Extended S → ℕ
-most_left most server =
-    most server.inner + one_if server.extra.signature + one_if server.extra.initial_response
+-- and after a challenge to an init: one for each extra challenge
+abbrev pub challenges_most : ServerAt → ℕ
+challenges_most server = one_if server.settings.extra.signature + one_if server.settings.extra.initial_response
 
--- a bound of an acceptor gives one with extra challenges
-abbrev pub ExtraChallengesAreBounded : {S : Type 0} → (S → List (List ℕ)) → Machine S → Type 0
-ExtraChallengesAreBounded {S} names machine = (left most : S → ℕ) → BoundsChallenges machine left most
-    → BoundsChallenges (extended_machine names machine) (challenges_left left most) (most_left most)
+-- a login has one challenge, and one more for each extra challenge
+abbrev pub SaslServersAreBounded : Type 0
+SaslServersAreBounded = BoundsChallenges sasl_machine challenges_left challenges_most
 
--- around an acceptor that challenges only at an init, a login has one challenge and one more for each extra challenge
-abbrev pub LoginsHaveFewChallenges : {S : Type 0} → (S → List (List ℕ)) → Machine S → Type 0
-LoginsHaveFewChallenges {S} names machine = ChallengesOnlyAtInit machine
-    → HasChallenges (extended_machine names machine)
-    (λ server. 1 + one_if server.extra.signature + one_if server.extra.initial_response)
+abbrev pub ServersHaveFewChallenges : Type 0
+ServersHaveFewChallenges = HasChallenges sasl_machine (λ server. challenges_most server + 1)

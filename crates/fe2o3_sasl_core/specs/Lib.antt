@@ -7,11 +7,9 @@ pub mod Complete
 pub mod SaslAcceptor
 pub mod AnyMechanism
 pub mod RestrictMechanisms
-pub mod ExtraChallenges
 pub mod LoginAttempts
 pub mod AnyMechanismSides
 pub mod ExternalServer
-pub mod PasswordServer
 pub mod PlainServer
 pub mod PlainWords
 pub mod ActingProfiles
@@ -31,12 +29,14 @@ pub mod Laws
 pub mod MechanismLaws
 pub mod AnyMechanismLaws
 pub mod AnyMechanismUsers
-pub mod ExtraChallengeLaws
 pub mod LoginAttemptLaws
 pub mod ChallengeCounts
 pub mod StepLaws
 pub mod CostLaws
 pub mod UnknownUsers
+pub mod MockChoices
 pub mod Servers
+pub mod SavedServers
+pub mod ServerLaws
 pub mod Headline
 pub mod private

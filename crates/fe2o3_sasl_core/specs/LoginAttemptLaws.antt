@@ -1,18 +1,16 @@
--- Laws of claims, and of a server that keeps the last claim. Each is the contract of a clause of
--- `login_attempts::laws`.
-use Rattle.std.specs.Prelude.{◌≡◌, ◌↔◌, ◌⊎◌, ◌≤◌, ◌+◌, ℕ, Option, Some, None, List, slice_get, Ok}
+-- Laws of claims, and of the last claim that a server keeps. Each is the contract of a clause of `login_attempts::laws`.
+use Rattle.std.specs.Prelude.{◌≡◌, ◌⊎◌, ◌≤◌, ◌+◌, ℕ, Option, Some, None, List, slice_get, Ok}
 use Rattle.fe2o3_sasl_wire.specs.SaslFrames.{SaslFrame}
 use Rattle.fe2o3_scram.specs.declared.hmac.ScramVersion.{ScramVersion}
 use Rattle.fe2o3_scram.specs.declared.scram_messages.server_rules.ServerRules.{ServerRules}
 use Rattle.fe2o3_scram.specs.ChannelBinding.{server_mechanism}
 use Rattle.fe2o3_scram.specs.ClientFirst.{ClientFirst, ReadsClientFirst}
-use Rattle.fe2o3_sasl_core.specs.AnyMechanismLaws.{Machine}
 use Rattle.fe2o3_sasl_core.specs.Bodies.{SpellsBody}
-use Rattle.fe2o3_sasl_core.specs.ChallengeCounts.{BoundsChallenges, ChallengesOnlyAtInit}
+use Rattle.fe2o3_sasl_core.specs.ChallengeCounts.{IsError}
 use Rattle.fe2o3_sasl_core.specs.Events.{Given, ServerSays}
-use Rattle.fe2o3_sasl_core.specs.ExtraChallengeLaws.{HasOneReply, HasSomeReply, IsError}
-use Rattle.fe2o3_sasl_core.specs.LoginAttempts.{Attempt, ClaimOf, ClaimsUser, IsAttempt, Recorded, recorded_hmacs, recorded_machine, with_late}
+use Rattle.fe2o3_sasl_core.specs.LoginAttempts.{Attempt, ClaimOf, ClaimsUser, IsAttempt, with_late}
 use Rattle.fe2o3_sasl_core.specs.Runs.{Runs, AcceptorSteps}
+use Rattle.fe2o3_sasl_core.specs.Servers.{ServerAt, sasl_machine}
 
 -- ---- claims
 
@@ -28,48 +26,6 @@ SomeClaim = (mechanism text : List ℕ) → (user : Option (List ℕ)) × ClaimO
 abbrev pub ClaimsWhatServersRead : Type 0
 ClaimsWhatServersRead = (version : ScramVersion) (rules : ServerRules) (text : List ℕ) (first : ClientFirst)
     → ReadsClientFirst rules text (Ok first) → ClaimsUser (server_mechanism version rules) text first.user
-
--- ---- the server answers like its acceptor
-
--- a server that keeps the last claim, around an acceptor in this state
-abbrev pub recording : {S : Type 0} → S → Option Attempt → Recorded S
-recording inner last = record { inner = inner; last = last }
-
--- the server answers each frame like its acceptor, with any last claim
-abbrev pub RecordedRepliesLikeAcceptor : {S : Type 0} → Machine S → Type 0
-RecordedRepliesLikeAcceptor {S} machine = (server : Recorded S) (nonce : List ℕ) (frame reply : SaslFrame) (moved : S)
-    → ((last : Option Attempt) × recorded_machine machine server nonce frame reply (recording moved last))
-    ↔ machine server.inner nonce frame reply moved
-
--- the server makes as many HMAC values as its acceptor
-abbrev pub RecordedCostsLikeAcceptor : {S : Type 0} → (S → SaslFrame → ℕ → Type 0) → Type 0
-RecordedCostsLikeAcceptor {S} hmacs = (server : Recorded S) (frame : SaslFrame) (n : ℕ)
-    → recorded_hmacs hmacs server frame n ↔ hmacs server.inner frame n
-
--- the server replies like its acceptor, over any list of bodies
-abbrev pub RecordedRunsLikeAcceptor : {S : Type 0} → Machine S → Type 0
-RecordedRunsLikeAcceptor {S} machine = (server : Recorded S) (moved : S) (events : List Given)
-    (replies : List ServerSays)
-    → ((last : Option Attempt)
-    × Runs (AcceptorSteps (recorded_machine machine)) server events replies (recording moved last))
-    ↔ Runs (AcceptorSteps machine) server.inner events replies moved
-
--- an acceptor that keeps the last claim still has at most one reply, or some reply
-abbrev pub RecordedOneReplyIsKept : {S : Type 0} → Machine S → Type 0
-RecordedOneReplyIsKept machine = HasOneReply machine → HasOneReply (recorded_machine machine)
-
-abbrev pub RecordedSomeReplyIsKept : {S : Type 0} → Machine S → Type 0
-RecordedSomeReplyIsKept machine = HasSomeReply machine → HasSomeReply (recorded_machine machine)
-
--- every bound on the challenges of an acceptor holds, and one that challenges only at an init still does
-abbrev pub RecordedBoundsHold : {S : Type 0} → Machine S → Type 0
-RecordedBoundsHold {S} machine = (left most : S → ℕ) → BoundsChallenges machine left most
-    → BoundsChallenges (recorded_machine machine) (λ (server : Recorded S). left server.inner)
-    (λ (server : Recorded S). most server.inner)
-
-abbrev pub RecordedChallengesOnlyAtInit : {S : Type 0} → Machine S → Type 0
-RecordedChallengesOnlyAtInit machine = ChallengesOnlyAtInit machine
-    → ChallengesOnlyAtInit (recorded_machine machine)
 
 -- ---- which claim is kept
 
@@ -97,9 +53,9 @@ ContinuesClaim (Some attempt) after = (late : Option (List ℕ)) × (after ≡ S
 
 -- the claim after a run is that of the last init that was answered, also by a rejection, with some user if the
 -- init claims none; if no init was answered, it is that before the run
-abbrev pub LastAnsweredInitIsKept : {S : Type 0} → Machine S → Type 0
-LastAnsweredInitIsKept {S} machine = (server last : Recorded S) (events : List Given) (replies : List ServerSays)
-    → Runs (AcceptorSteps (recorded_machine machine)) server events replies last
+abbrev pub LastAnsweredInitIsKept : Type 0
+LastAnsweredInitIsKept = (server last : ServerAt) (events : List Given) (replies : List ServerSays)
+    → Runs (AcceptorSteps sasl_machine) server events replies last
     → (NoAnsweredInit events replies 0 × ContinuesClaim server.last last.last)
     ⊎ ((at : ℕ) × (attempt : Attempt) × AnsweredInit events replies at attempt
     × NoAnsweredInit events replies (at + 1) × ContinuesClaim (Some attempt) last.last)

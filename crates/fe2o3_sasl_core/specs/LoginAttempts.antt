@@ -7,9 +7,7 @@ use Rattle.fe2o3_scram.specs.ClientFirst.{ClientFirst, HasEscapes, ReadsClientFi
 use Rattle.fe2o3_scram.specs.declared.hmac.ScramVersion.{ScramVersion}
 use Rattle.fe2o3_scram.specs.declared.scram_messages.server_rules.ServerRules.{ServerRules}
 use Rattle.fe2o3_sasl_core.specs.PlainServer.{IsTaken, PlainParts, SpellsPlain}
-use Rattle.fe2o3_sasl_core.specs.declared.rejection.Rejection.{Rejection}
 use Rattle.fe2o3_sasl_core.specs.declared.login_attempts.LoginAttempt.{LoginAttempt}
-use Rattle.fe2o3_sasl_core.specs.declared.login_attempts.WithLastAttempt.{WithLastAttempt}
 
 -- ---- what an init claims
 
@@ -81,11 +79,6 @@ IsAttempt frame attempt = ⊥
 
 -- ---- a server that keeps the last claim
 
--- an acceptor in its state, and what the last init claimed
-pub record Recorded (S : Type 0) : Type 0 where
-  pub inner : S
-  pub last : Option Attempt
-
 -- the user that an init claims, or that a late initial response claims if the init claims none
 abbrev pub or_late : Option (List ℕ) → Option (List ℕ) → Option (List ℕ)
 or_late (Some user) late = Some user
@@ -120,17 +113,6 @@ RecordsFrame (frames.Init mechanism response hostname) before after =
 RecordsFrame (frames.Response text) before after = RecordsResponse text before after
 RecordsFrame frame before after = after ≡ before
 
--- the machine of a server that keeps the last claim: the acceptor answers each frame, whatever its reply is
-abbrev pub recorded_machine : {S : Type 0} → (S → List ℕ → SaslFrame → SaslFrame → S → Type 0) → Recorded S → List ℕ
-    → SaslFrame → SaslFrame → Recorded S → Type 0
-recorded_machine machine server nonce frame reply next =
-    machine server.inner nonce frame reply next.inner × RecordsFrame frame server.last next.last
-
--- why the server rejects a frame: for the reason of the acceptor
-abbrev pub recorded_reasons : {S : Type 0} → (S → SaslFrame → Rejection → Type 0) → Recorded S → SaslFrame → Rejection
-    → Type 0
-recorded_reasons reasons server frame reason = reasons server.inner frame reason
-
 -- the frame is an init
 abbrev pub IsInitFrame : SaslFrame → Type 0
 IsInitFrame (frames.Init mechanism response hostname) = Unit {0}
@@ -141,16 +123,6 @@ abbrev pub LateAllocates : Option Attempt → SaslFrame → Type 0
 LateAllocates (Some attempt) (frames.Response text) = (attempt.user ≡ None) × ClaimAllocates attempt.mechanism text
 LateAllocates last frame = ⊥
 
--- where the server allocates: at each init, which it copies, for the user that a response claims, and where the acceptor
--- does
-abbrev pub recorded_allocates : {S : Type 0} → (S → SaslFrame → Type 0) → Recorded S → SaslFrame → Type 0
-recorded_allocates allocates server frame =
-    IsInitFrame frame ⊎ (LateAllocates server.last frame ⊎ allocates server.inner frame)
-
--- how many HMAC values the server makes (RFC 5802, section 3): as many as the acceptor
-abbrev pub recorded_hmacs : {S : Type 0} → (S → SaslFrame → ℕ → Type 0) → Recorded S → SaslFrame → ℕ → Type 0
-recorded_hmacs hmacs server frame n = hmacs server.inner frame n
-
 -- ---- the code's values
 
 -- the claim that a value is
@@ -160,14 +132,3 @@ attempt_of attempt = record {
   user = option_map string_bytes attempt.claimed_user;
   hostname = option_map string_bytes attempt.hostname;
 }
-
--- the server that a value is
-abbrev pub recorded_of : {A S : Type 0} → (A → S) → WithLastAttempt A → Recorded S
-recorded_of state server = record {
-  inner = state server.acceptor;
-  last = option_map attempt_of server.last;
-}
-
--- the reason that a value keeps of its last reply, which is no part of its state
-abbrev pub rejection_in : {A : Type 0} → WithLastAttempt A → Option Rejection
-rejection_in server = server.rejection

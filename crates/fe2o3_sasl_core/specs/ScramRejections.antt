@@ -1,7 +1,7 @@
 -- Why a server of SCRAM rejects a message, for its log (RFC 5802, sections 5.1, 6 and 7). The reason of a failed login
 -- depends on the records that the server has. The replies and the HMAC values of a server depend on its state only, which
 -- does not tell a mock record from another one.
-use Rattle.std.specs.Prelude.{◌≡◌, ◌⊎◌, ◌++◌, ◌&&◌, ◌||◌, ℕ, Bool, not, is_some, if◌then◌else◌, nat_eq, Option, Some, None, List, [], ◌∷◌, codes, Ok, Err}
+use Rattle.std.specs.Prelude.{◌≡◌, ◌⊎◌, ◌++◌, ◌&&◌, ◌||◌, ℕ, Bool, not, is_some, if◌then◌else◌, nat_eq, Option, Some, None, List, [], codes, Ok, Err}
 use Rattle.std.specs.List.{list_any, starts_with}
 use Rattle.fe2o3_scram.specs.declared.channel_binding.ChannelBindings.{ChannelBindings}
 use Rattle.fe2o3_scram.specs.declared.channel_binding.ChannelData.{ChannelData}
@@ -18,7 +18,6 @@ use Rattle.fe2o3_scram.specs.ClientFirst.{ClientFirst, ReadsClientFirst}
 use Rattle.fe2o3_scram.specs.Credentials.{Provider, Records, Store, record_at}
 use Rattle.fe2o3_scram.specs.ScramServer.{ServerState, ServerFirstSent, open_challenge, server_against}
 use Rattle.fe2o3_scram.specs.ServerFirst.{ServerChallenge}
-use Rattle.fe2o3_sasl_core.specs.declared.hash_records.HashRecords.{HashRecords}
 use Rattle.fe2o3_sasl_core.specs.declared.rejection.Rejection.{Rejection}
 use Rattle.fe2o3_sasl_core.specs.declared.rejection.Rejection.TheVariants as reasons
 
@@ -30,18 +29,9 @@ pub record KnownUsers : Type 0 where
   pub own : Records
   pub all : List Records
 
--- the records that a value has, for SHA-1, SHA-256 and SHA-512
-abbrev pub all_records : HashRecords → List Records
-all_records stores = stores.sha_1.records ∷ stores.sha_256.records ∷ stores.sha_512.records ∷ []
-
--- the records for every hash that are known to a value that has them, if there is one
-abbrev pub known_to : Option HashRecords → List Records
-known_to None = []
-known_to (Some stores) = all_records stores
-
--- what a server over this store knows, beside those records
-abbrev pub known_by : Store → Option HashRecords → KnownUsers
-known_by store stores = record { own = store.records; all = known_to stores }
+-- what a server over this store knows: of other hashes nothing
+abbrev pub known_by : Store → KnownUsers
+known_by store = record { own = store.records; all = [] }
 
 -- whether a user has a record
 abbrev pub has_record : Records → List ℕ → Bool

@@ -23,15 +23,15 @@ use Rattle.fe2o3_sasl_core.specs.Bodies.{SpellsBody, server_says}
 use Rattle.fe2o3_sasl_core.specs.Costs.{acceptor_hmacs}
 use Rattle.fe2o3_sasl_core.specs.ExternalServer.{AsksFor}
 use Rattle.fe2o3_sasl_core.specs.LoginAttempts.{Attempt, IsInitFrame, LateAllocates, RecordsFrame, attempt_of}
-use Rattle.fe2o3_sasl_core.specs.PasswordServer.{MockChoice, count_of_unknown, known_for, mock_for}
+use Rattle.fe2o3_sasl_core.specs.MockChoices.{MockChoice, count_of_unknown, mock_for}
 use Rattle.fe2o3_sasl_core.specs.PlainServer.{IsLetIn, IsTaken, MessageRejected, PlainParts, PlainState, PreparesPassword, SpellsPlain, asked_identity, plain_hmacs}
 use Rattle.fe2o3_sasl_core.specs.Runs.{server_reply}
 use Rattle.fe2o3_sasl_core.specs.SaslAcceptor.{ScramAcceptor, ends_with}
-use Rattle.fe2o3_sasl_core.specs.ScramRejections.{FinalRejected, FirstRejected}
+use Rattle.fe2o3_sasl_core.specs.ScramRejections.{FinalRejected, FirstRejected, KnownUsers}
 use Rattle.fe2o3_sasl_core.specs.declared.events.ServerReply.{ServerReply}
 use Rattle.fe2o3_sasl_core.specs.declared.rejection.Rejection.{Rejection}
 use Rattle.fe2o3_sasl_core.specs.declared.rejection.Rejection.TheVariants as reasons
-use Rattle.fe2o3_sasl_core.specs.declared.extra_challenges.ExtraChallenges.{ExtraChallenges}
+use Rattle.fe2o3_sasl_core.specs.declared.server.options.ExtraChallenges.{ExtraChallenges}
 use Rattle.fe2o3_sasl_core.specs.declared.plain_server.passwords.PlainPasswords.{PlainPasswords}
 use Rattle.fe2o3_sasl_core.specs.declared.server.options.Mechanisms.{Mechanisms}
 use Rattle.fe2o3_sasl_core.specs.declared.client_policy.Mechanism.{Mechanism}
@@ -44,6 +44,16 @@ use Rattle.fe2o3_sasl_core.specs.declared.server.stage.Stage.{Stage}
 use Rattle.fe2o3_sasl_core.specs.declared.server.stage.Stage.TheVariants as stages
 use Rattle.fe2o3_sasl_core.specs.declared.server.ways.Way.{Way}
 use Rattle.fe2o3_sasl_core.specs.declared.server.ways.Way.TheVariants as ways
+
+-- ---- what a server knows of users
+
+-- what SCRAM by this hash knows of users: its records, and those for every hash
+abbrev pub known_for : MultiRecords → ScramVersion → KnownUsers
+known_for records version = record {
+  own = (provider_for version records).records;
+  all = (provider_for Sha1 records).records ∷ (provider_for Sha256 records).records
+      ∷ (provider_for Sha512 records).records ∷ [];
+}
 
 -- ---- what a server offers
 
@@ -108,6 +118,14 @@ is_offered_by settings ways.External = settings.mechanisms.external && is_named 
 abbrev pub offer_order : List Way
 offer_order = ways.Scram Sha512 true ∷ ways.Scram Sha256 true ∷ ways.Scram Sha1 true ∷ ways.Scram Sha512 false
     ∷ ways.Scram Sha256 false ∷ ways.Scram Sha1 false ∷ ways.Plain ∷ ways.Anonymous ∷ ways.External ∷ []
+
+-- whether a server offers one of these mechanisms, and one of all
+abbrev pub offers_among : ServerSettings → List Way → Bool
+offers_among settings [] = false
+offers_among settings (way ∷ others) = is_offered_by settings way || offers_among settings others
+
+abbrev pub offers_any : ServerSettings → Bool
+offers_any settings = offers_among settings offer_order
 
 -- these names, and then those of these mechanisms that are offered
 abbrev pub name_where_offered : Bool → List ℕ → List (List ℕ)

@@ -5,6 +5,7 @@ ghost use Rattle.std.specs.List.{AllByRecursion, Contains};
 ghost use Rattle.fe2o3_scram.specs.ClientSecret.{IsOfVersion, secret_of, up_to, no_limit};
 ghost use Rattle.fe2o3_sasl_core.specs.ClientPolicy.{bound_channel, by_strength, policy_name, is_allowed, is_from, secret_for, scram_by, plain_by, profile_by, unbound_channel, CanTake, IsFirstTaken, SelectsProfile};
 ghost use Rattle.fe2o3_sasl_core.specs.declared.client_policy.ClientPolicy.{ClientPolicy as PolicyOf};
+ghost use Rattle.fe2o3_sasl_core.specs.declared.client_policy.Mechanism.{Mechanism as MechanismOf};
 ghost use Rattle.fe2o3_sasl_core.specs.SaslProfile.{profile_of};
 ghost use Rattle.fe2o3_sasl_core.specs.declared.client_policy.ChoiceError.TheVariants.{OutOfMemory as OutOfMemoryError};
 
@@ -16,7 +17,10 @@ use crate::sasl_profile::SaslProfile;
 use fe2o3_sasl_wire::SymbolsView;
 use fe2o3_scram::channel_binding::ChannelBinding;
 use fe2o3_scram::client_secret::{ClientSecret, ClientSecretError, IterationLimits};
-use fe2o3_scram::hmac::ScramVersion;
+use fe2o3_scram::hmac::{
+    SCRAM_SHA_1, SCRAM_SHA_1_PLUS, SCRAM_SHA_256, SCRAM_SHA_256_PLUS, SCRAM_SHA_512,
+    SCRAM_SHA_512_PLUS, ScramVersion,
+};
 use fe2o3_scram::scram_client::ScramClient;
 use fe2o3_scram::scram_messages::ClientChannel;
 use std::alloc::{AllocError, AllocFailed, Global};
@@ -81,6 +85,25 @@ impl Mechanism {
             Mechanism::External => EXTERNAL,
             Mechanism::Plain => PLAIN,
             Mechanism::Anonymous => ANONYMOUS,
+        }
+    }
+
+    /// Returns the mechanism of this name.
+    pub fn of_name(name: &str) -> Option<Self>
+        ensures { MatchOption result ((mechanism : MechanismOf) → policy_name mechanism ≢ name.now)
+            (λ mechanism. policy_name mechanism ≡ name.now) }
+    {
+        match name {
+            SCRAM_SHA_512_PLUS => Some(Mechanism::ScramSha512Plus),
+            SCRAM_SHA_256_PLUS => Some(Mechanism::ScramSha256Plus),
+            SCRAM_SHA_1_PLUS => Some(Mechanism::ScramSha1Plus),
+            SCRAM_SHA_512 => Some(Mechanism::ScramSha512),
+            SCRAM_SHA_256 => Some(Mechanism::ScramSha256),
+            SCRAM_SHA_1 => Some(Mechanism::ScramSha1),
+            EXTERNAL => Some(Mechanism::External),
+            PLAIN => Some(Mechanism::Plain),
+            ANONYMOUS => Some(Mechanism::Anonymous),
+            _ => None,
         }
     }
 }

@@ -10,11 +10,8 @@ pub mod client_options;
 pub mod client_policy;
 pub mod events;
 pub mod external_server;
-pub mod extra_challenges;
-mod hash_records;
 pub mod login_attempts;
 mod mechanism_names;
-pub mod password_server;
 pub mod plain_server;
 pub mod rejection;
 pub mod restrict_mechanisms;
@@ -23,7 +20,6 @@ pub mod sasl_profile;
 mod scram_acceptor;
 pub mod server;
 pub mod steps;
-pub mod strict_plain;
 pub mod whole_runs;
 
 pub use crate::any_mechanism::{AnyMechanism, HasMechanism, Selected};
@@ -31,10 +27,7 @@ pub use crate::client_options::ClientOptions;
 pub use crate::client_policy::{ChoiceError, ClientPolicy, Mechanism, select_mechanism};
 pub use crate::events::{ClientReply, Event, EventError, ServerReply};
 pub use crate::external_server::{ExternalServer, NoExternalIdentity};
-pub use crate::extra_challenges::phase::ChallengePhase;
-pub use crate::extra_challenges::{ExtraChallenges, WithExtraChallenges};
-pub use crate::login_attempts::{LoginAttempt, WithLastAttempt, claimed_user};
-pub use crate::password_server::{BuildError, PasswordServer, PasswordServerBuilder, ScramHashes};
+pub use crate::login_attempts::{LoginAttempt, claimed_user};
 pub use crate::plain_server::{MAX_PASSWORD_LEN, PlainPasswords, PlainServer};
 pub use crate::rejection::Rejection;
 pub use crate::restrict_mechanisms::{OfferError, RestrictMechanisms};
@@ -47,12 +40,14 @@ pub use crate::sasl_profile::{
     SingleMessage, UrlError,
 };
 pub use crate::server::Server;
-pub use crate::server::options::{Mechanisms, MockAuthentication, ServerOptions, Transport};
+pub use crate::server::options::{
+    ExtraChallenges, Mechanisms, MockAuthentication, ServerOptions, Transport,
+};
+pub use crate::server::saved::{SavedLogin, SavedStage};
 pub use crate::steps::{
     acceptor_body_step, acceptor_frame_step, acceptor_step, profile_body_step, profile_frame_step,
     profile_step,
 };
-pub use crate::strict_plain::StrictPlainMechanism;
 pub use crate::whole_runs::{
     run_acceptor, run_profile, scram_client_run, scram_client_run_limited,
     scram_client_run_with_options, scram_server_run, scram_server_run_with_rules,

@@ -1,5 +1,4 @@
-//! What the inits of a connection claim (AMQP 1.0, part 5, section 5.3.3.2), and an acceptor that keeps the last claim,
-//! also after a rejection.
+//! What the inits of a connection claim (AMQP 1.0, part 5, section 5.3.3.2).
 
 ghost use Rattle.std.specs.Prelude.{◌≡◌, ◌≢◌, ◌⊎◌, ◌≤◌, ◌^◌, ℕ, Bool, List, None, Ok, IfOk, IfErr, OnErr, MatchOption, option_map, string_bytes};
 ghost use Rattle.std.specs.Cow.{cow_str_bytes};
@@ -11,20 +10,19 @@ ghost use Rattle.fe2o3_scram.specs.ClientFirst.{ClientFirst as FirstValues, HasE
 ghost use Rattle.fe2o3_scram.specs.declared.hmac.ScramVersion.{ScramVersion as VersionOf};
 ghost use Rattle.fe2o3_sasl_core.specs.Costs.{CostsAtMost};
 ghost use Rattle.fe2o3_sasl_core.specs.SaslAcceptor.{HasReason, reason_in, sent_frame};
-ghost use Rattle.fe2o3_sasl_core.specs.LoginAttempts.{ClaimAllocates, ClaimIn, ClaimOf, IsAttempt, LateAllocates, LateClaim, LateUser, NamesUser, Recorded, attempt_of, headers_of, recorded_allocates, recorded_hmacs, recorded_machine, recorded_of, recorded_reasons, rejection_in, with_late};
+ghost use Rattle.fe2o3_sasl_core.specs.LoginAttempts.{ClaimAllocates, ClaimIn, ClaimOf, IsAttempt, LateClaim, NamesUser, attempt_of, headers_of, with_late};
 
 pub mod laws;
 
 use crate::OutOfMemory;
-use crate::any_mechanism::HasMechanism;
 use crate::mechanism_names::PLAIN;
 use crate::plain_server::plain_user;
 use crate::rejection::Rejection;
-use crate::sasl_acceptor::{AuthenticatedUser, SaslAcceptor, SaslServerFrame};
-use fe2o3_sasl_wire::{Array, SaslInit, SaslResponse, Symbol};
+use crate::sasl_acceptor::SaslServerFrame;
+use fe2o3_sasl_wire::SaslInit;
 use fe2o3_scram::channel_binding::{ChannelBindings, ChannelData};
 use fe2o3_scram::hmac::{
-    Meter, SCRAM_SHA_1, SCRAM_SHA_1_PLUS, SCRAM_SHA_256, SCRAM_SHA_256_PLUS, SCRAM_SHA_512,
+    SCRAM_SHA_1, SCRAM_SHA_1_PLUS, SCRAM_SHA_256, SCRAM_SHA_256_PLUS, SCRAM_SHA_512,
     SCRAM_SHA_512_PLUS,
 };
 use fe2o3_scram::scram_messages::ServerScramErrorKind;
@@ -241,90 +239,6 @@ fn scram_user(
     }
 }
 
-/// An acceptor that keeps what the last init claims, also if the reply rejects it, and why the last reply rejects. It
-/// answers each frame like the inner acceptor, whose user it names.
-///
-/// Each init replaces the attempt. If it claims no user, a response may add one, since the response may be its initial
-/// response (RFC 4422, section 5; [`WithExtraChallenges`](crate::extra_challenges::WithExtraChallenges)). Each reply
-/// replaces the reason. A call that runs out of memory changes nothing.
-#[derive(Drop)]
-pub struct WithLastAttempt<A> {
-    acceptor: A,
-    last: Option<LoginAttempt>,
-    rejection: Option<Rejection>,
-}
-
-impl<A: HasMechanism> WithLastAttempt<A> {
-    /// Makes a server of this acceptor, which has received no init.
-    pub fn new(acceptor: A) -> Self
-        ensures state { recorded_of A.state result ≡ record { inner = A.state acceptor; last = None } }
-        ensures known { A.known result.acceptor ≡ A.known acceptor }
-        ensures rejection { rejection_in result ≡ None }
-    {
-        Self {
-            acceptor,
-            last: None,
-            rejection: None,
-        }
-    }
-
-    /// Restores a server with this last attempt, as `last_attempt` returned it when the server was saved between two
-    /// calls. Pass the acceptor in its saved state. The reason of a rejection is not restored.
-    pub fn with_attempt(acceptor: A, last: Option<LoginAttempt>) -> Self
-        ensures state { recorded_of A.state result
-            ≡ record { inner = A.state acceptor; last = option_map attempt_of last } }
-        ensures known { A.known result.acceptor ≡ A.known acceptor }
-        ensures rejection { rejection_in result ≡ None }
-    {
-        Self {
-            acceptor,
-            last,
-            rejection: None,
-        }
-    }
-
-    /// Returns the inner acceptor.
-    pub fn acceptor(&self) -> &A
-        ensures state { A.state result.now ≡ (recorded_of A.state self.now).inner }
-        ensures known { A.known result.now ≡ A.known self.now.acceptor }
-    {
-        &self.acceptor
-    }
-
-    /// Returns what the last init claimed, or `None` before the first init. Read it after a rejection too.
-    pub fn last_attempt(&self) -> Option<&LoginAttempt>
-        ensures { option_map (λ attempt. attempt_of attempt.now) result ≡ (recorded_of A.state self.now).last }
-    {
-        self.last.as_ref()
-    }
-
-    /// Returns the user that a response claims: if the last init claims none, the response may be its initial response,
-    /// for which a server with `ExtraChallenges::initial_response` asks (RFC 4422, section 5).
-    fn late_user(
-        &self,
-        alloc: Global,
-        response: &SaslResponse,
-    ) -> Result<Option<String>, OutOfMemory>
-        ensures ok { IfOk result (λ user. LateUser (recorded_of A.state self.now).last
-            (binary_bytes response.now.response) (option_map string_bytes user)) }
-        ensures memory { IfErr result (λ _.
-            LateAllocates (recorded_of A.state self.now).last (response_frame response.now)) }
-    {
-        match &self.last {
-            Some(attempt) => attempt.late_user(alloc, &response.response.0),
-            None => Ok(None),
-        }
-    }
-
-    /// Returns why the last reply rejects the login, for the server's log. `None` if the last reply is a challenge or
-    /// another outcome, and before the first reply. A call that runs out of memory leaves it.
-    pub fn last_rejection(&self) -> Option<Rejection>
-        ensures { result ≡ rejection_in self.now }
-    {
-        self.rejection
-    }
-}
-
 /// Returns the claim of an init, with the user of a late initial response if the init claims none.
 pub(crate) fn with_late(last: Option<LoginAttempt>, late: Option<String>) -> Option<LoginAttempt>
     ensures { option_map attempt_of result
@@ -353,179 +267,5 @@ pub(crate) fn rejection_of(reply: &SaslServerFrame) -> Option<Rejection>
     match reply {
         SaslServerFrame::Rejected(reason) => Some(*reason),
         SaslServerFrame::Challenge(_) | SaslServerFrame::Outcome(_) => None,
-    }
-}
-
-impl<A: HasMechanism> Clone for WithLastAttempt<A> {
-    ghost is_clone = { λ server copy. (A.is_clone server.acceptor copy.acceptor)
-        × (option_map attempt_of copy.last ≡ option_map attempt_of server.last)
-        × (rejection_in copy ≡ rejection_in server) };
-
-    fn clone(&self) -> Result<Self, AllocError> {
-        Ok(Self {
-            acceptor: self.acceptor.clone()?,
-            last: self.last.clone()?,
-            rejection: self.rejection,
-        })
-    }
-}
-
-impl<A: HasMechanism> SaslAcceptor for WithLastAttempt<A> {
-    ghost State = { Recorded A.State };
-
-    ghost state = { recorded_of A.state };
-
-    ghost names = { λ server. A.names server.inner };
-
-    ghost machine = { recorded_machine A.machine };
-
-    ghost Known = { A.Known };
-
-    ghost known = { λ server. A.known server.acceptor };
-
-    ghost reasons = { λ known. recorded_reasons (A.reasons known) };
-
-    ghost allocates = { recorded_allocates A.allocates };
-
-    ghost hmacs = { recorded_hmacs A.hmacs };
-
-    ghost clone_keeps = { λ server copy same i. record {
-      inner = A.clone_keeps server.acceptor copy.acceptor same.0 i;
-      last = same.1 i;
-    } };
-
-    ghost clone_knows = { λ server copy same. A.clone_knows server.acceptor copy.acceptor same.0 };
-
-    fn mechanisms(&self, alloc: Global) -> Result<Array<Symbol>, OutOfMemory> {
-        self.acceptor.mechanisms(alloc)
-    }
-
-    fn on_init(
-        &mut self,
-        alloc: Global,
-        init: SaslInit,
-        nonce: &[u8; 32],
-    ) -> Result<SaslServerFrame, OutOfMemory>
-        ensures ok { IfOk result (λ reply. recorded_machine A.machine (recorded_of A.state self.old) nonce.now
-            (init_frame init) (sent_frame reply) (recorded_of A.state self.new)) }
-        ensures reason { IfOk result (λ reply.
-            HasReason (recorded_reasons (A.reasons (A.known self.old.acceptor)) (recorded_of A.state self.old)
-            (init_frame init)) reply) }
-        ensures memory { IfErr result (λ _.
-            recorded_allocates A.allocates (recorded_of A.state self.old) (init_frame init)) }
-        ensures err { OnErr result (recorded_of A.state self.new ≡ recorded_of A.state self.old) }
-        ensures known { A.known self.new.acceptor ≡ A.known self.old.acceptor }
-        ensures rejection { IfOk result (λ reply. rejection_in self.new ≡ reason_in reply) }
-        ensures unchanged { OnErr result (rejection_in self.new ≡ rejection_in self.old) }
-    {
-        self.on_init_metered(alloc, init, nonce, &mut Meter::new())
-    }
-
-    fn on_response(
-        &mut self,
-        alloc: Global,
-        response: SaslResponse,
-    ) -> Result<SaslServerFrame, OutOfMemory>
-        ensures ok { IfOk result (λ reply. (nonce : List ℕ) → recorded_machine A.machine (recorded_of A.state self.old)
-            nonce (response_frame response) (sent_frame reply) (recorded_of A.state self.new)) }
-        ensures reason { IfOk result (λ reply.
-            HasReason (recorded_reasons (A.reasons (A.known self.old.acceptor)) (recorded_of A.state self.old)
-            (response_frame response)) reply) }
-        ensures memory { IfErr result (λ _.
-            recorded_allocates A.allocates (recorded_of A.state self.old) (response_frame response)) }
-        ensures err { OnErr result (recorded_of A.state self.new ≡ recorded_of A.state self.old) }
-        ensures known { A.known self.new.acceptor ≡ A.known self.old.acceptor }
-        ensures rejection { IfOk result (λ reply. rejection_in self.new ≡ reason_in reply) }
-        ensures unchanged { OnErr result (rejection_in self.new ≡ rejection_in self.old) }
-    {
-        self.on_response_metered(alloc, response, &mut Meter::new())
-    }
-
-    fn on_init_metered(
-        &mut self,
-        alloc: Global,
-        init: SaslInit,
-        nonce: &[u8; 32],
-        meter: &mut Meter,
-    ) -> Result<SaslServerFrame, OutOfMemory>
-        requires { meter.old ≤ 2 ^ 63 }
-        ensures ok { IfOk result (λ reply. recorded_machine A.machine (recorded_of A.state self.old) nonce.now
-            (init_frame init) (sent_frame reply) (recorded_of A.state self.new)) }
-        ensures reason { IfOk result (λ reply.
-            HasReason (recorded_reasons (A.reasons (A.known self.old.acceptor)) (recorded_of A.state self.old)
-            (init_frame init)) reply) }
-        ensures memory { IfErr result (λ _.
-            recorded_allocates A.allocates (recorded_of A.state self.old) (init_frame init)) }
-        ensures err { OnErr result (recorded_of A.state self.new ≡ recorded_of A.state self.old) }
-        ensures known { A.known self.new.acceptor ≡ A.known self.old.acceptor }
-        ensures cost { CostsAtMost (recorded_hmacs A.hmacs) (recorded_of A.state self.old) (init_frame init)
-            meter.old meter.new }
-        ensures rejection { IfOk result (λ reply. rejection_in self.new ≡ reason_in reply) }
-        ensures unchanged { OnErr result (rejection_in self.new ≡ rejection_in self.old) }
-    {
-        let attempt = LoginAttempt::of_init(
-            alloc,
-            init.mechanism.as_str(),
-            response_of(&init),
-            init.hostname.as_deref(),
-        )?;
-        let reply = self.acceptor.on_init_metered(alloc, init, nonce, meter)?;
-        self.last = Some(attempt);
-        self.rejection = rejection_of(&reply);
-        Ok(reply)
-    }
-
-    fn on_response_metered(
-        &mut self,
-        alloc: Global,
-        response: SaslResponse,
-        meter: &mut Meter,
-    ) -> Result<SaslServerFrame, OutOfMemory>
-        requires { meter.old ≤ 2 ^ 63 }
-        ensures ok { IfOk result (λ reply. (nonce : List ℕ) → recorded_machine A.machine (recorded_of A.state self.old)
-            nonce (response_frame response) (sent_frame reply) (recorded_of A.state self.new)) }
-        ensures reason { IfOk result (λ reply.
-            HasReason (recorded_reasons (A.reasons (A.known self.old.acceptor)) (recorded_of A.state self.old)
-            (response_frame response)) reply) }
-        ensures memory { IfErr result (λ _.
-            recorded_allocates A.allocates (recorded_of A.state self.old) (response_frame response)) }
-        ensures err { OnErr result (recorded_of A.state self.new ≡ recorded_of A.state self.old) }
-        ensures known { A.known self.new.acceptor ≡ A.known self.old.acceptor }
-        ensures cost { CostsAtMost (recorded_hmacs A.hmacs) (recorded_of A.state self.old) (response_frame response)
-            meter.old meter.new }
-        ensures rejection { IfOk result (λ reply. rejection_in self.new ≡ reason_in reply) }
-        ensures unchanged { OnErr result (rejection_in self.new ≡ rejection_in self.old) }
-    {
-        let late = self.late_user(alloc, &response)?;
-        let reply = self.acceptor.on_response_metered(alloc, response, meter)?;
-        self.last = with_late(self.last.take(), late);
-        self.rejection = rejection_of(&reply);
-        Ok(reply)
-    }
-}
-
-impl<A: HasMechanism> AuthenticatedUser for WithLastAttempt<A> {
-    ghost named = { λ server. A.named server.acceptor };
-
-    ghost acting = { λ server. A.acting server.acceptor };
-
-    ghost named_by_state = { λ server other same.
-        A.named_by_state server.acceptor other.acceptor (λ i. (same i).inner) };
-
-    ghost acting_by_state = { λ server other same.
-        A.acting_by_state server.acceptor other.acceptor (λ i. (same i).inner) };
-
-    fn authenticated_user(&self) -> Option<&str> {
-        self.acceptor.authenticated_user()
-    }
-
-    fn acts_for(&self) -> Option<&str> {
-        self.acceptor.acts_for()
-    }
-}
-
-impl<A: HasMechanism> HasMechanism for WithLastAttempt<A> {
-    fn has_mechanism(&self, name: &str) -> bool {
-        self.acceptor.has_mechanism(name)
     }
 }

@@ -5,17 +5,15 @@ ghost use Rattle.std.proofs.Common.{ap};
 ghost use Rattle.fe2o3_sasl_wire.specs.AmqpTypes.{init_frame, response_frame};
 ghost use Rattle.fe2o3_sasl_wire.specs.SaslFrames.{Challenge, Outcome};
 ghost use Rattle.fe2o3_sasl_wire.specs.declared.amqp_types.SaslCode.TheVariants.{Ok as OkCode, Auth};
-ghost use Rattle.fe2o3_scram.specs.ClientFirst.{ClientFirst as FirstValues, HasEscapes, ReadsClientFirst};
 ghost use Rattle.fe2o3_scram.specs.Credentials.{serving, with_rights};
 ghost use Rattle.fe2o3_scram.specs.MockSettings.{mocking};
 ghost use Rattle.fe2o3_scram.specs.ScramServer.{challenge_kept, logged_in, logged_in_for, provider_in, rights_in, served_by, state_in};
 ghost use Rattle.fe2o3_scram.specs.declared.scram_messages.error.ServerScramErrorKind.TheVariants.{OutOfMemory as ScramOutOfMemory};
 ghost use Rattle.fe2o3_sasl_core.specs.Costs.{CostsAtMost, acceptor_hmacs};
 ghost use Rattle.fe2o3_sasl_core.specs.SaslAcceptor.{Acceptor, HasReason, ScramAcceptor, acceptor_acting, acceptor_allocates, acceptor_machine, acceptor_names, acceptor_reasons, acceptor_user, ends_with, reason_in, sent_frame, server_frame};
-ghost use Rattle.fe2o3_sasl_core.specs.ScramRejections.{KnownUsers, has_accepted_flag, has_other_flag, known_by, known_to, reason_of_failure, reason_of_final, reason_of_first, reason_of_unknown};
+ghost use Rattle.fe2o3_sasl_core.specs.ScramRejections.{KnownUsers, has_accepted_flag, has_other_flag, known_by, reason_of_failure, reason_of_final, reason_of_first};
 
 use crate::OutOfMemory;
-use crate::hash_records::HashRecords;
 use crate::rejection::Rejection;
 use crate::sasl_acceptor::{AuthenticatedUser, SaslAcceptor, SaslServerFrame, one_name};
 use fe2o3_sasl_wire::{
@@ -25,13 +23,12 @@ use fe2o3_scram::credentials::ScramCredentialProvider;
 use fe2o3_scram::hmac::Meter;
 use fe2o3_scram::scram_messages::ServerScramErrorKind;
 use fe2o3_scram::scram_server::ScramAuthenticator;
-use fe2o3_scram::{ChannelBindings, ClientFirst, OpenChallenge, ServerRules};
+use fe2o3_scram::{ChannelBindings, OpenChallenge, ServerRules};
 use std::alloc::Global;
 
-/// Answers an init. The reason for an unknown user is looked up in these records of every hash, if there are any.
+/// Answers an init.
 pub(crate) fn answer_init<C: ScramCredentialProvider>(
     scram: &mut ScramAuthenticator<C>,
-    records: Option<&HashRecords>,
     alloc: Global,
     init: &SaslInit,
     nonce: &[u8; 32],
@@ -42,7 +39,7 @@ pub(crate) fn answer_init<C: ScramCredentialProvider>(
         (ScramAcceptor (served_by C.meaning scram.old) (state_in scram.old)) nonce.now (init_frame init.now)
         (sent_frame reply) (ScramAcceptor (served_by C.meaning scram.new) (state_in scram.new))) }
     ensures reason { IfOk result (λ reply. HasReason (acceptor_reasons
-        (known_by (C.meaning (provider_in scram.old)) (option_map (λ records. records.now) records.entry))
+        (known_by (C.meaning (provider_in scram.old)))
         (ScramAcceptor (served_by C.meaning scram.old) (state_in scram.old)) (init_frame init.now)) reply) }
     ensures memory { IfErr result (λ _. acceptor_allocates
         (ScramAcceptor (served_by C.meaning scram.old) (state_in scram.old)) (init_frame init.now)) }
@@ -64,21 +61,14 @@ pub(crate) fn answer_init<C: ScramCredentialProvider>(
     };
     match scram.compute_server_first_message_metered(alloc, &client_first.0, nonce, meter) {
         Ok(Some(server_first)) => Ok(challenge(server_first)),
-        Ok(None) => Ok(SaslServerFrame::Rejected(reason_of_unknown(
-            alloc,
-            scram.rules(),
-            records,
-            &client_first.0,
-        )?)),
+        Ok(None) => Ok(SaslServerFrame::Rejected(Rejection::UnknownUser)),
         Err(kind) => refusal(kind, reason_of_first(scram.rules(), &client_first.0, kind)),
     }
 }
 
-/// Answers a response. The reason of a failed login is looked up in the records of the server, and in these records of
-/// every hash, if there are any.
+/// Answers a response. The reason of a failed login is looked up in the records of the server.
 pub(crate) fn answer_response<C: ScramCredentialProvider>(
     scram: &mut ScramAuthenticator<C>,
-    records: Option<&HashRecords>,
     alloc: Global,
     response: &SaslResponse,
     meter: &mut Meter,
@@ -88,7 +78,7 @@ pub(crate) fn answer_response<C: ScramCredentialProvider>(
         (ScramAcceptor (served_by C.meaning scram.old) (state_in scram.old)) nonce (response_frame response.now)
         (sent_frame reply) (ScramAcceptor (served_by C.meaning scram.new) (state_in scram.new))) }
     ensures reason { IfOk result (λ reply. HasReason (acceptor_reasons
-        (known_by (C.meaning (provider_in scram.old)) (option_map (λ records. records.now) records.entry))
+        (known_by (C.meaning (provider_in scram.old)))
         (ScramAcceptor (served_by C.meaning scram.old) (state_in scram.old)) (response_frame response.now)) reply) }
     ensures memory { IfErr result (λ _. acceptor_allocates
         (ScramAcceptor (served_by C.meaning scram.old) (state_in scram.old)) (response_frame response.now)) }
@@ -105,7 +95,7 @@ pub(crate) fn answer_response<C: ScramCredentialProvider>(
 {
     match scram.compute_server_final_message_metered(alloc, &response.response.0, meter) {
         Ok(answer) => Ok(conclusion(answer)),
-        Err(kind) => refusal(kind, reason_of_final(scram, records, kind)),
+        Err(kind) => refusal(kind, reason_of_final(scram, kind)),
     }
 }
 
@@ -120,7 +110,7 @@ impl<C: ScramCredentialProvider> SaslAcceptor for ScramAuthenticator<C> {
 
     ghost Known = { KnownUsers };
 
-    ghost known = { λ authenticator. known_by (C.meaning (provider_in authenticator)) None };
+    ghost known = { λ authenticator. known_by (C.meaning (provider_in authenticator)) };
 
     ghost reasons = { acceptor_reasons };
 
@@ -134,7 +124,7 @@ impl<C: ScramCredentialProvider> SaslAcceptor for ScramAuthenticator<C> {
 
     ghost clone_knows = { λ acceptor copy same.
         let kept = C.clone_keeps (provider_in acceptor) (provider_in copy) same.0 in
-        λ i. known_by (kept i) None };
+        λ i. known_by (kept i) };
 
     fn mechanisms(&self, alloc: Global) -> Result<Array<Symbol>, OutOfMemory> {
         one_name(alloc, self.mechanism())
@@ -169,22 +159,22 @@ impl<C: ScramCredentialProvider> SaslAcceptor for ScramAuthenticator<C> {
             (ScramAcceptor (served_by C.meaning self.old) (state_in self.old)) nonce.now (init_frame init)
             (sent_frame reply) (ScramAcceptor (served_by C.meaning self.new) (state_in self.new))) }
         ensures reason { IfOk result (λ reply. HasReason (acceptor_reasons
-            (known_by (C.meaning (provider_in self.old)) None)
+            (known_by (C.meaning (provider_in self.old)))
             (ScramAcceptor (served_by C.meaning self.old) (state_in self.old)) (init_frame init)) reply) }
         ensures memory { IfErr result (λ _. acceptor_allocates
             (ScramAcceptor (served_by C.meaning self.old) (state_in self.old)) (init_frame init)) }
         ensures err { OnErr result (◌≡◌ {A = Acceptor}
             (ScramAcceptor (served_by C.meaning self.new) (state_in self.new))
             (ScramAcceptor (served_by C.meaning self.old) (state_in self.old))) }
-        ensures known { ◌≡◌ {A = KnownUsers} (known_by (C.meaning (provider_in self.new)) None)
-            (known_by (C.meaning (provider_in self.old)) None) }
+        ensures known { ◌≡◌ {A = KnownUsers} (known_by (C.meaning (provider_in self.new)))
+            (known_by (C.meaning (provider_in self.old))) }
         ensures cost { CostsAtMost acceptor_hmacs
             (ScramAcceptor (served_by C.meaning self.old) (state_in self.old)) (init_frame init) meter.old meter.new }
         ensures exactly { OnOk result ((n : ℕ) → acceptor_hmacs
             (ScramAcceptor (served_by C.meaning self.old) (state_in self.old)) (init_frame init) n
             → meter.new ≡ meter.old + n) }
     {
-        answer_init(self, None, alloc, &init, nonce, meter)
+        answer_init(self, alloc, &init, nonce, meter)
     }
 
     fn on_response_metered(
@@ -198,15 +188,15 @@ impl<C: ScramCredentialProvider> SaslAcceptor for ScramAuthenticator<C> {
             (ScramAcceptor (served_by C.meaning self.old) (state_in self.old)) nonce (response_frame response)
             (sent_frame reply) (ScramAcceptor (served_by C.meaning self.new) (state_in self.new))) }
         ensures reason { IfOk result (λ reply. HasReason (acceptor_reasons
-            (known_by (C.meaning (provider_in self.old)) None)
+            (known_by (C.meaning (provider_in self.old)))
             (ScramAcceptor (served_by C.meaning self.old) (state_in self.old)) (response_frame response)) reply) }
         ensures memory { IfErr result (λ _. acceptor_allocates
             (ScramAcceptor (served_by C.meaning self.old) (state_in self.old)) (response_frame response)) }
         ensures err { OnErr result (◌≡◌ {A = Acceptor}
             (ScramAcceptor (served_by C.meaning self.new) (state_in self.new))
             (ScramAcceptor (served_by C.meaning self.old) (state_in self.old))) }
-        ensures known { ◌≡◌ {A = KnownUsers} (known_by (C.meaning (provider_in self.new)) None)
-            (known_by (C.meaning (provider_in self.old)) None) }
+        ensures known { ◌≡◌ {A = KnownUsers} (known_by (C.meaning (provider_in self.new)))
+            (known_by (C.meaning (provider_in self.old))) }
         ensures cost { CostsAtMost acceptor_hmacs
             (ScramAcceptor (served_by C.meaning self.old) (state_in self.old)) (response_frame response)
             meter.old meter.new }
@@ -214,7 +204,7 @@ impl<C: ScramCredentialProvider> SaslAcceptor for ScramAuthenticator<C> {
             (ScramAcceptor (served_by C.meaning self.old) (state_in self.old)) (response_frame response) n
             → meter.new ≡ meter.old + n) }
     {
-        answer_response(self, None, alloc, &response, meter)
+        answer_response(self, alloc, &response, meter)
     }
 }
 
@@ -277,39 +267,6 @@ pub(crate) fn refusal(
     }
 }
 
-/// Returns the reason for the user of a client-first message who has no record: whether one of these records of every
-/// hash is the user's, if there are any. The message is read again for it, only where the answer is this rejection.
-fn reason_of_unknown(
-    alloc: Global,
-    rules: ServerRules,
-    records: Option<&HashRecords>,
-    client_first: &[u8],
-) -> Result<Rejection, OutOfMemory>
-    ensures ok { IfOk result (λ reason. (client : FirstValues) → ReadsClientFirst rules client_first.now (Ok client)
-        → reason ≡ reason_of_unknown (known_to (option_map (λ records. records.now) records.entry)) client.user) }
-    ensures memory { IfErr result (λ _. HasEscapes rules client_first.now) }
-{
-    let Some(records) = records else {
-        return Ok(Rejection::UnknownUser);
-    };
-    match ClientFirst::parse_with_rules(alloc, client_first, rules) {
-        Ok(client) => Ok(unknown(records, &client.username)),
-        Err(ServerScramErrorKind::OutOfMemory) => Err(OutOfMemory),
-        Err(_) => Ok(Rejection::UnknownUser),
-    }
-}
-
-/// Returns the reason for a user without a record for the hash of the exchange.
-fn unknown(records: &HashRecords, username: &str) -> Rejection
-    ensures { result ≡ reason_of_unknown (known_to (Some records.now)) username.now }
-{
-    if records.has(username) {
-        Rejection::NoRecordForHash
-    } else {
-        Rejection::UnknownUser
-    }
-}
-
 /// Returns the reason for the error of a client-first message.
 pub(crate) fn reason_of_first(
     rules: ServerRules,
@@ -352,16 +309,15 @@ fn has_flag_of(channels: ChannelBindings, text: &[u8]) -> bool
 /// Returns the reason for the error of a client-final message.
 fn reason_of_final<C: ScramCredentialProvider>(
     scram: &ScramAuthenticator<C>,
-    records: Option<&HashRecords>,
     kind: ServerScramErrorKind,
 ) -> Rejection
     ensures { result ≡ reason_of_final
-        (known_by (C.meaning (provider_in scram.now)) (option_map (λ records. records.now) records.entry))
+        (known_by (C.meaning (provider_in scram.now)))
         (rights_in scram.now) (state_in scram.now) kind }
 {
     match kind {
         ServerScramErrorKind::AuthenticationFailed => match scram.open_challenge() {
-            Some(challenge) => reason_of_failure(scram, records, &challenge),
+            Some(challenge) => reason_of_failure(scram, &challenge),
             None => Rejection::Scram(kind),
         },
         ServerScramErrorKind::InvalidChannelBinding => Rejection::Channel,
@@ -372,22 +328,17 @@ fn reason_of_final<C: ScramCredentialProvider>(
 /// Returns the reason of a failed login. The look-ups and the test of the right are made for every failed login alike.
 fn reason_of_failure<C: ScramCredentialProvider>(
     scram: &ScramAuthenticator<C>,
-    records: Option<&HashRecords>,
     challenge: &OpenChallenge<'_>,
 ) -> Rejection
     ensures { result ≡ reason_of_failure
-        (known_by (C.meaning (provider_in scram.now)) (option_map (λ records. records.now) records.entry))
+        (known_by (C.meaning (provider_in scram.now)))
         (rights_in scram.now) (challenge_kept challenge.now) }
 {
     let username = challenge.username;
     let has_record = scram.credentials().get_stored_password(username).is_some();
     let may_act = scram.may_act(username, challenge.acts_for);
-    let of_unknown = match records {
-        Some(records) => unknown(records, username),
-        None => Rejection::UnknownUser,
-    };
     match (has_record, may_act) {
-        (false, _) => of_unknown,
+        (false, _) => Rejection::UnknownUser,
         (true, false) => Rejection::NoRight,
         (true, true) => Rejection::WrongProof,
     }

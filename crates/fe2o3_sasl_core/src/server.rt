@@ -10,12 +10,14 @@ ghost use Rattle.fe2o3_sasl_core.specs.Costs.{AcceptorStepCosts, CostsAtMost};
 ghost use Rattle.fe2o3_sasl_core.specs.LoginAttempts.{IsAttempt, LateAllocates, LateUser, attempt_of};
 ghost use Rattle.fe2o3_sasl_core.specs.Runs.{AcceptorAnswers, AcceptorSteps, server_answer};
 ghost use Rattle.fe2o3_sasl_core.specs.SaslAcceptor.{HasReason, reason_in, sent_frame};
-ghost use Rattle.fe2o3_sasl_core.specs.Servers.{KeepsReason, NotStarted, StepKeepsReason, ServerAt, acting_of_login, logged_in_at, server_login, mechanism_by, name_where_offered, is_offered_by, rejection_of_server, sasl_allocates, sasl_hmacs, sasl_machine, sasl_reasons, sasl_acting, sasl_server, sasl_names, sasl_user, settings_with, settings_in, stage_of, user_of_login, way_name};
+ghost use Rattle.fe2o3_sasl_core.specs.Servers.{KeepsReason, NotStarted, StepKeepsReason, ServerAt, acting_of_login, logged_in_at, server_login, mechanism_by, name_where_offered, is_offered_by, offers_any, rejection_of_server, sasl_allocates, sasl_hmacs, sasl_machine, sasl_reasons, sasl_acting, sasl_server, sasl_names, sasl_user, settings_with, settings_in, stage_of, user_of_login, way_name};
 ghost use Rattle.fe2o3_sasl_core.specs.private.ServerMoves.{after, claimed};
 
 mod answers;
+pub mod laws;
 pub mod options;
 mod reasons;
+pub mod saved;
 mod stage;
 mod ways;
 
@@ -91,6 +93,22 @@ impl<'a> Server<'a> {
             attempt: None,
             rejection: None,
         }
+    }
+
+    /// Returns whether the server offers a mechanism at this connection. If not, it offers ANONYMOUS by name, since a list of
+    /// mechanisms is not empty (AMQP 1.0, part 5, section 5.3.3.1), and rejects it.
+    pub fn offers_any(&self) -> bool
+        ensures { result ≡ offers_any (settings_in self.now) }
+    {
+        self.offers(Way::Scram(ScramVersion::Sha512, true))
+            || self.offers(Way::Scram(ScramVersion::Sha256, true))
+            || self.offers(Way::Scram(ScramVersion::Sha1, true))
+            || self.offers(Way::Scram(ScramVersion::Sha512, false))
+            || self.offers(Way::Scram(ScramVersion::Sha256, false))
+            || self.offers(Way::Scram(ScramVersion::Sha1, false))
+            || self.offers(Way::Plain)
+            || self.offers(Way::Anonymous)
+            || self.offers(Way::External)
     }
 
     /// Returns the mechanism by which somebody has logged in, from the outcome Ok on. By ANONYMOUS it is nobody.

@@ -5,9 +5,8 @@ use Rattle.fe2o3_scram.specs.Credentials.{Provider}
 use Rattle.fe2o3_scram.specs.ScramClient.{ClientSide}
 use Rattle.fe2o3_scram.specs.ScramServer.{ServerState}
 use Rattle.fe2o3_sasl_core.specs.AnyMechanismLaws.{Machine}
-use Rattle.fe2o3_sasl_core.specs.ChallengeCounts.{BoundsChallenges, one_if}
+use Rattle.fe2o3_sasl_core.specs.ChallengeCounts.{BoundsChallenges}
 use Rattle.fe2o3_sasl_core.specs.Costs.{acceptor_hmacs}
-use Rattle.fe2o3_sasl_core.specs.ExtraChallenges.{Extended, extended_machine}
 use Rattle.fe2o3_sasl_core.specs.Profiles.{Profile, ScramProfile, accepts_signature_by_challenge}
 use Rattle.fe2o3_sasl_core.specs.SaslAcceptor.{Acceptor, ScramAcceptor, acceptor_names, acceptor_machine}
 use Rattle.fe2o3_sasl_negotiation.specs.declared.progress.Expected.{Expected}
@@ -63,18 +62,6 @@ ServersAreBounded = (acceptor : Acceptor) (limit : ℕ) (calls : List Call) (str
     (last : Side Acceptor)
     → Calls (ServerReceives acceptor_names acceptor_machine) (fresh limit acceptor) calls stream sent last rest
     → Bounded (8 + 3 * 512) limit sent last
-
--- the names of the acceptor around which extra challenges are sent
-abbrev pub extended_names : Extended Acceptor → List (List ℕ)
-extended_names server = acceptor_names server.inner
-
--- a server of SCRAM, PLAIN or ANONYMOUS with extra challenges sends one frame more for each (RFC 4422, section 5)
-abbrev pub ExtendedServersAreBounded : Type 0
-ExtendedServersAreBounded = (server : Extended Acceptor) (limit : ℕ) (calls : List Call) (stream sent rest : List ℕ)
-    (last : Side (Extended Acceptor))
-    → Calls (ServerReceives extended_names (extended_machine acceptor_names acceptor_machine)) (fresh limit server) calls
-    stream sent last rest
-    → Bounded (8 + (one_if server.extra.initial_response + one_if server.extra.signature + 3) * 512) limit sent last
 
 -- how many frames a client sends at most, by whether it accepts the server's signature in a challenge
 abbrev pub client_frames : Bool → ℕ

@@ -7,7 +7,7 @@ ghost use Rattle.fe2o3_sasl_core.specs.Runs.{ProfileSteps};
 ghost use Rattle.fe2o3_sasl_core.specs.SaslAcceptor.{ScramAcceptor, acceptor_machine, acceptor_user};
 ghost use Rattle.fe2o3_sasl_negotiation.specs.ClientNegotiation.{ClientReceives};
 ghost use Rattle.fe2o3_sasl_negotiation.specs.Connections.{ServersConnect, ClientsConnect, ServerConnectionsLogIn, ClientConnectionsLogIn};
-ghost use Rattle.fe2o3_sasl_negotiation.specs.CostLaws.{ServersCost, ClientsCost, ServersOfAreBounded, ServersAreBounded, ExtendedServersAreBounded, ClientsAreBounded};
+ghost use Rattle.fe2o3_sasl_negotiation.specs.CostLaws.{ServersCost, ClientsCost, ServersOfAreBounded, ServersAreBounded, ClientsAreBounded};
 ghost use Rattle.fe2o3_sasl_negotiation.specs.ExtendedHeaders.{ExtendedHeadersAreIgnored, ClientsIgnoreExtendedHeaders, PolicyClientsIgnoreExtendedHeaders};
 ghost use Rattle.fe2o3_sasl_negotiation.specs.Laws.{CutsDoNotMatter, ClientCutsDoNotMatter};
 ghost use Rattle.fe2o3_sasl_negotiation.specs.NamedUsers.{AnyMechanismServersLogIn, AnyMechanismStepsLogIn};
@@ -87,15 +87,13 @@ pub fn costs()
 
 /// Bounds what a connection sends and holds, whatever its bytes are and in whatever calls they are passed. Every frame
 /// that is sent has at most 512 bytes. A server sends its header, its list of mechanisms, the challenges of its acceptor
-/// and an outcome: with SCRAM, PLAIN or ANONYMOUS at most three frames, and one more for each extra challenge, so four
-/// if it asks for the initial response. A client sends two frames after its header, and three if it accepts the server's
+/// and an outcome: with SCRAM, PLAIN or ANONYMOUS at most three frames. A client sends two frames after its header, and three if it accepts the server's
 /// signature in a challenge. Either holds less than eight bytes, or less than its limit of a frame.
 ///
-/// In `servers` a measure of the states of an acceptor bounds its challenges. `extra_challenges::laws` of
-/// `fe2o3_sasl_core` has such bounds.
+/// In `servers` a measure of the states of an acceptor bounds its challenges. `server::laws::challenge_counts` of
+/// `fe2o3_sasl_core` has one.
 pub fn bounds<A: AuthenticatedUser>()
     ensures servers { ServersOfAreBounded A.names A.machine }
     ensures server { ServersAreBounded }
-    ensures extended { ExtendedServersAreBounded }
     ensures client { ClientsAreBounded }
 {}

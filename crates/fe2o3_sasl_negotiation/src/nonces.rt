@@ -3,10 +3,10 @@
 
 ghost use Rattle.fe2o3_sasl_core.specs.AnyMechanism.{any_mechanism_machine};
 ghost use Rattle.fe2o3_sasl_core.specs.ExternalServer.{external_machine};
-ghost use Rattle.fe2o3_sasl_core.specs.ExtraChallenges.{extended_machine};
 ghost use Rattle.fe2o3_sasl_core.specs.PlainServer.{plain_machine};
 ghost use Rattle.fe2o3_sasl_core.specs.RestrictMechanisms.{offering_machine};
 ghost use Rattle.fe2o3_sasl_core.specs.SaslAcceptor.{acceptor_machine};
+ghost use Rattle.fe2o3_sasl_core.specs.Servers.{sasl_machine};
 ghost use Rattle.fe2o3_sasl_negotiation.specs.Nonces.{ClientsIgnoreNonces, IgnoresResponseNonce, ServersIgnoreNonces};
 
 use fe2o3_sasl_core::{AuthenticatedUser, HasMechanism};
@@ -21,8 +21,7 @@ pub fn unused_nonces<A: AuthenticatedUser>()
 {}
 
 /// States which acceptors answer a response alike with every nonce: SCRAM, PLAIN, ANONYMOUS and EXTERNAL, servers of
-/// several of them, and servers that send extra challenges. One that asks for an initial response uses the nonce of the
-/// init.
+/// several of them, and a `Server`. One that asks for an initial response uses the nonce of the init.
 pub fn response_nonces<A: HasMechanism, B: HasMechanism>()
     ensures acceptors { IgnoresResponseNonce acceptor_machine }
     ensures external { IgnoresResponseNonce external_machine }
@@ -31,6 +30,5 @@ pub fn response_nonces<A: HasMechanism, B: HasMechanism>()
         → IgnoresResponseNonce (any_mechanism_machine A.names B.names A.machine B.machine) }
     ensures restrict_mechanisms { IgnoresResponseNonce A.machine
         → IgnoresResponseNonce (offering_machine A.names A.machine) }
-    ensures extra_challenges { IgnoresResponseNonce A.machine
-        → IgnoresResponseNonce (extended_machine A.names A.machine) }
+    ensures server { IgnoresResponseNonce sasl_machine }
 {}

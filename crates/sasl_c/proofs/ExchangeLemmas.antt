@@ -1,18 +1,27 @@
--- What a struct of a SCRAM server keeps of a login that is not complete.
-use Rattle.std.proofs.Common.{arith, refl, sym, ap, inl, inr, ◌∙◌, ◌≡◌, ◌⊎◌, ◌≤◌, ◌<◌, ◌-◌, ℕ, List, length}
-use Rattle.std.specs.Prelude.{Option, Some, None, replicate, take}
-use Rattle.std.specs.Str.{IsAscii, IsUtf8}
+-- How far the login of a server has come, as a struct of a SCRAM server shows it.
+use Rattle.std.proofs.Common.{arith, refl, sym, ap, inl, inr, ◌∙◌, ◌≡◌, ◌≢◌, ◌⊎◌, ◌≤◌, ◌<◌, ◌-◌, ℕ, List, length}
+use Rattle.std.specs.Prelude.{true, false, Option, Some, None, MatchOption, IfSome, replicate, take}
+use Rattle.std.specs.Str.{IsUtf8}
 use Rattle.std.proofs.lemmas.List.{length-take}
 use Rattle.std.proofs.lemmas.Str.{IsUtf8-from_ascii}
 use Rattle.std.proofs.Math.Seq.{take-append_seam}
 use Rattle.fe2o3_scram.specs.Hmac.{zero_filled}
 use Rattle.fe2o3_scram.specs.declared.channel_binding.ChannelKind.TheVariants.{TlsUnique, TlsServerEndPoint, TlsExporter}
 use Rattle.fe2o3_scram.specs.declared.hmac.ScramVersion.{ScramVersion}
+use Rattle.fe2o3_scram.specs.declared.hmac.ScramVersion.TheVariants.{Sha1, Sha256, Sha512}
 use Rattle.fe2o3_scram.specs.declared.scram_messages.channel_binding_flag.ChannelBindingFlag.{ChannelBindingFlag}
 use Rattle.fe2o3_scram.specs.declared.scram_messages.channel_binding_flag.ChannelBindingFlag.TheVariants.{NotSupported, ClientSupports, Required}
 use Rattle.fe2o3_scram.specs.ServerFirst.{ServerChallenge}
+use Rattle.fe2o3_sasl_core.proofs.lemmas.machines.ServerAnswerLemmas.{IsAscii-way_name}
+use Rattle.fe2o3_sasl_core.specs.ClientPolicy.{policy_name}
+use Rattle.fe2o3_sasl_core.specs.SavedServers.{KeptStage, KeptNothing, KeptOpen, way_for}
+use Rattle.fe2o3_sasl_core.specs.Servers.{mechanism_by, way_name}
+use Rattle.fe2o3_sasl_core.specs.declared.client_policy.Mechanism.{Mechanism}
+use Rattle.fe2o3_sasl_core.specs.declared.client_policy.Mechanism.TheVariants as mechanisms
+use Rattle.fe2o3_sasl_core.specs.declared.server.ways.Way.{Way}
+use Rattle.fe2o3_sasl_core.specs.declared.server.ways.Way.TheVariants as ways
 use Rattle.sasl_c.specs.declared.server.ScramServer.{ScramServer as ScramStruct}
-use Rattle.sasl_c.specs.Server.{KeptExchange, NothingKept, ChallengeOpen, SignatureSent, InitialResponseAsked, PendingInit, AsksHostname, AsksInAscii, HasAsked, HasRoomForInit, ChallengeHasRoom, HasSigned, IdentityHasRoom, IsOpen, ShowsExchange, asked_number, asked_struct, open_number, or_empty}
+use Rattle.sasl_c.specs.Server.{ChallengeHasRoom, HasAsked, HasSigned, IdentityHasRoom, IsLoggedIn, IsOpen, ShowsSigned, ShowsStage, ShowsUser, asked_struct, open_number, open_struct, stage_struct, struct_where, named_struct, fresh_server_struct}
 use Rattle.sasl_c.specs.Status.{version_number}
 use Rattle.sasl_c.proofs.StatusLemmas.{carried}
 
@@ -40,37 +49,34 @@ never_zero (Required TlsUnique) same = omega (arith, same)
 never_zero (Required TlsServerEndPoint) same = omega (arith, same)
 never_zero (Required TlsExporter) same = omega (arith, same)
 
--- and no number of an init that was asked
-never_asked : (scram : ScramStruct) (hostname : Option (List ℕ)) → scram.state ≡ 0 → AsksHostname scram hostname → ⊥
-never_asked scram None fresh asks = absurd (omega (arith, fresh, asks))
-never_asked scram (Some hostname) fresh asks = absurd (omega (arith, fresh, asks.0))
+-- ---- the struct of a stage
 
--- ---- what a struct shows of what a server keeps
-
-pub keeps_nothing : (scram : ScramStruct) (exchange : KeptExchange) → exchange ≡ NothingKept → scram.state ≡ 0
-    → ShowsExchange scram exchange
-keeps_nothing scram exchange is fresh = carried (ShowsExchange scram) NothingKept exchange (sym is) (
+shows_nothing : (scram : ScramStruct) → scram.state ≡ 0 → ShowsStage scram KeptNothing
+shows_nothing scram fresh = (
   (λ version challenge shown. never_zero challenge.header.flag (sym fresh ∙ shown.1.0)),
   (λ user acts_for shown. absurd (omega (arith, fresh, shown.0))),
-  λ init shown. never_asked scram init.hostname fresh shown.0,
+  λ way nonce shown. absurd (omega (arith, fresh, shown.0)),
 )
 
-pub keeps_challenge : (scram : ScramStruct) (exchange : KeptExchange) (version : ScramVersion)
-    (challenge : ServerChallenge) → exchange ≡ ChallengeOpen version challenge → scram.version ≡ version_number version → IsOpen scram challenge
-    → ShowsExchange scram exchange
-keeps_challenge scram exchange version challenge is hash shown =
-    carried (ShowsExchange scram) (ChallengeOpen version challenge) exchange (sym is) (sym hash, shown)
+pub keeps_nothing : (scram : ScramStruct) (stage : KeptStage) → stage ≡ KeptNothing → scram.state ≡ 0
+    → ShowsStage scram stage
+keeps_nothing scram stage is fresh = carried (ShowsStage scram) KeptNothing stage (sym is) (shows_nothing scram fresh)
 
-pub no_challenge_room : (exchange : KeptExchange) (version : ScramVersion) (challenge : ServerChallenge)
-    → exchange ≡ ChallengeOpen version challenge → ¬ ChallengeHasRoom challenge → (scram : ScramStruct)
-    → ¬ ShowsExchange scram exchange
-no_challenge_room exchange version challenge is wide scram shown =
-    wide (open_room scram challenge (carried (ShowsExchange scram) exchange (ChallengeOpen version challenge) is shown).1)
+pub keeps_challenge : (scram : ScramStruct) (stage : KeptStage) (version : ScramVersion) (challenge : ServerChallenge)
+    → stage ≡ KeptOpen version challenge → scram.version ≡ version_number version → IsOpen scram challenge
+    → ShowsStage scram stage
+keeps_challenge scram stage version challenge is hash shown =
+    carried (ShowsStage scram) (KeptOpen version challenge) stage (sym is) (sym hash, shown)
 
-pub keeps_user : (scram : ScramStruct) (exchange : KeptExchange) (user : List ℕ) (acts_for : Option (List ℕ))
-    → exchange ≡ SignatureSent user acts_for → HasSigned scram user acts_for → ShowsExchange scram exchange
-keeps_user scram exchange user acts_for is shown =
-    carried (ShowsExchange scram) (SignatureSent user acts_for) exchange (sym is) shown
+pub no_challenge_room : (stage : KeptStage) (version : ScramVersion) (challenge : ServerChallenge)
+    → stage ≡ KeptOpen version challenge → ¬ ChallengeHasRoom challenge → (scram : ScramStruct)
+    → ¬ ShowsStage scram stage
+no_challenge_room stage version challenge is wide scram shown =
+    wide (open_room scram challenge (carried (ShowsStage scram) stage (KeptOpen version challenge) is shown).1)
+
+pub ruleset of_stage = (keeps_nothing, keeps_challenge, no_challenge_room)
+
+-- ---- the struct of a login
 
 no_room_signed : (user : List ℕ) (acts_for : Option (List ℕ)) → (256 < length user) ⊎ ¬ IdentityHasRoom acts_for
     → (scram : ScramStruct) → ¬ HasSigned scram user acts_for
@@ -78,75 +84,132 @@ no_room_signed user acts_for (inl long) scram held =
     absurd (omega (arith, long, short scram.user_len 256 scram.user user held.2 held.1))
 no_room_signed user acts_for (inr wide) scram held = wide held.4.2
 
-pub no_user_room : (exchange : KeptExchange) (user : List ℕ) (acts_for : Option (List ℕ))
-    → exchange ≡ SignatureSent user acts_for → (256 < length user) ⊎ ¬ IdentityHasRoom acts_for
-    → (scram : ScramStruct) → ¬ ShowsExchange scram exchange
-no_user_room exchange user acts_for is long scram shown =
-    no_room_signed user acts_for long scram (carried (ShowsExchange scram) exchange (SignatureSent user acts_for) is shown)
+no_room_for : (user : List ℕ) (acts_for : Option (List ℕ)) → (256 < length user) ⊎ ¬ IdentityHasRoom acts_for
+    → (scram : ScramStruct) → ¬ IsLoggedIn scram user acts_for
+no_room_for user acts_for (inl long) scram is =
+    absurd (omega (arith, short scram.user_len 256 scram.user user is.0.2 is.0.1, long))
+no_room_for user acts_for (inr wide) scram is = wide is.1.2
 
-pub keeps_init : (scram : ScramStruct) (exchange : KeptExchange) (init : PendingInit)
-    → exchange ≡ InitialResponseAsked init → HasAsked scram init → ShowsExchange scram exchange
-keeps_init scram exchange init is shown =
-    carried (ShowsExchange scram) (InitialResponseAsked init) exchange (sym is) shown
+pub signs_user : (scram : ScramStruct) (user acts_for : Option (List ℕ)) (name : List ℕ) → user ≡ Some name
+    → HasSigned scram name acts_for → ShowsSigned scram user acts_for
+signs_user scram user acts_for name is held =
+    carried (λ (u : Option (List ℕ)). ShowsSigned scram u acts_for) (Some name) user (sym is) held
 
-pub no_init_room : (exchange : KeptExchange) (init : PendingInit) → exchange ≡ InitialResponseAsked init
-    → ((scram : ScramStruct) → ¬ HasAsked scram init) → (scram : ScramStruct) → ¬ ShowsExchange scram exchange
-no_init_room exchange init is none scram shown =
-    none scram (carried (ShowsExchange scram) exchange (InitialResponseAsked init) is shown)
+pub signs_no_room : (user acts_for : Option (List ℕ)) (name : List ℕ) → user ≡ Some name
+    → (256 < length name) ⊎ ¬ IdentityHasRoom acts_for → (scram : ScramStruct) → ¬ ShowsSigned scram user acts_for
+signs_no_room user acts_for name is wide scram shows = no_room_signed name acts_for wide scram
+    (carried (λ (u : Option (List ℕ)). ShowsSigned scram u acts_for) user (Some name) is shows)
 
--- a struct that shows what a server keeps shows a mechanism in ASCII
-pub asks_in_ascii : (scram : ScramStruct) (exchange : KeptExchange) → ShowsExchange scram exchange
-    → AsksInAscii exchange
-asks_in_ascii scram NothingKept shows = tt
-asks_in_ascii scram (ChallengeOpen version challenge) shows = tt
-asks_in_ascii scram (SignatureSent user acts_for) shows = tt
-asks_in_ascii scram (InitialResponseAsked init) shows = shows.5
+pub signs_nobody : (user acts_for : Option (List ℕ)) → user ≡ None → (scram : ScramStruct)
+    → ¬ ShowsSigned scram user acts_for
+signs_nobody user acts_for is scram shows =
+    carried (λ (u : Option (List ℕ)). ShowsSigned scram u acts_for) user None is shows
+
+pub logs_user_in : (scram : ScramStruct) (user acts_for : Option (List ℕ)) (name : List ℕ) → user ≡ Some name
+    → IsLoggedIn scram name acts_for → ShowsUser scram user acts_for
+logs_user_in scram user acts_for name is held =
+    carried (λ (u : Option (List ℕ)). ShowsUser scram u acts_for) (Some name) user (sym is) held
+
+pub logs_no_room : (user acts_for : Option (List ℕ)) (name : List ℕ) → user ≡ Some name
+    → (256 < length name) ⊎ ¬ IdentityHasRoom acts_for → (scram : ScramStruct) → ¬ ShowsUser scram user acts_for
+logs_no_room user acts_for name is wide scram shows = no_room_for name acts_for wide scram
+    (carried (λ (u : Option (List ℕ)). ShowsUser scram u acts_for) user (Some name) is shows)
+
+pub logs_nobody_in : (scram : ScramStruct) (user acts_for : Option (List ℕ)) → user ≡ None → scram.state ≡ 0
+    → ShowsUser scram user acts_for
+logs_nobody_in scram user acts_for is fresh =
+    carried (λ (u : Option (List ℕ)). ShowsUser scram u acts_for) None user (sym is) fresh
+
+pub where_some : (scram : ScramStruct) (state : ℕ) (user acts_for : Option (List ℕ)) (name : List ℕ) → user ≡ Some name
+    → scram ≡ named_struct state name acts_for → scram ≡ struct_where state user acts_for
+where_some scram state user acts_for name is same =
+    same ∙ sym (ap (λ (u : Option (List ℕ)). struct_where state u acts_for) is)
+
+pub where_none : (scram : ScramStruct) (state : ℕ) (user acts_for : Option (List ℕ)) → user ≡ None
+    → scram ≡ fresh_server_struct → scram ≡ struct_where state user acts_for
+where_none scram state user acts_for is same =
+    same ∙ sym (ap (λ (u : Option (List ℕ)). struct_where state u acts_for) is)
+
+pub ruleset of_login = (
+  signs_user,
+  signs_no_room,
+  signs_nobody,
+  logs_user_in,
+  logs_no_room,
+  logs_nobody_in,
+  where_some,
+  where_none,
+)
 
 -- ---- the struct of an init that was asked
+
+-- the name of a mechanism, by either of its definitions
+pub name_of : (mechanism : Mechanism) → way_name (way_for mechanism) ≡ policy_name mechanism
+name_of mechanisms.ScramSha512Plus = refl
+name_of mechanisms.ScramSha256Plus = refl
+name_of mechanisms.ScramSha1Plus = refl
+name_of mechanisms.ScramSha512 = refl
+name_of mechanisms.ScramSha256 = refl
+name_of mechanisms.ScramSha1 = refl
+name_of mechanisms.External = refl
+name_of mechanisms.Plain = refl
+name_of mechanisms.Anonymous = refl
+
+name_by : (way : Way) → policy_name (mechanism_by way) ≡ way_name way
+name_by (ways.Scram Sha512 true) = refl
+name_by (ways.Scram Sha256 true) = refl
+name_by (ways.Scram Sha1 true) = refl
+name_by (ways.Scram Sha512 false) = refl
+name_by (ways.Scram Sha256 false) = refl
+name_by (ways.Scram Sha1 false) = refl
+name_by ways.Plain = refl
+name_by ways.Anonymous = refl
+name_by ways.External = refl
+
+pub short_name : (mechanism : Mechanism) → length (policy_name mechanism) ≤ 1024
+short_name mechanisms.ScramSha512Plus = omega arith
+short_name mechanisms.ScramSha256Plus = omega arith
+short_name mechanisms.ScramSha1Plus = omega arith
+short_name mechanisms.ScramSha512 = omega arith
+short_name mechanisms.ScramSha256 = omega arith
+short_name mechanisms.ScramSha1 = omega arith
+short_name mechanisms.External = omega arith
+short_name mechanisms.Plain = omega arith
+short_name mechanisms.Anonymous = omega arith
 
 -- a text in a struct is the head of its array
 head_of : (n : ℕ) (text : List ℕ) → text ≡ take (length text) (zero_filled n text)
 head_of n text = sym (take-append_seam text (replicate (n - length text) 0))
 
-asks_for : (init : PendingInit) (hostname : Option (List ℕ)) → init.hostname ≡ hostname
-    → length (or_empty hostname) ≤ 1024 → IsUtf8 (or_empty hostname) → AsksHostname (asked_struct init) hostname
-asks_for init None is few utf8 = ap asked_number is
-asks_for init (Some name) is few utf8 = let same = ap or_empty is in (
-  ap asked_number is,
-  omega (arith, ap length same, few),
-  head_of 1024 name ∙ sym (ap (λ (t : List ℕ). take (length t) (zero_filled 1024 t)) same),
-  utf8,
-)
-
-pub asked_shows : (scram : ScramStruct) (init : PendingInit) → HasRoomForInit init → scram ≡ asked_struct init
-    → IsUtf8 (or_empty init.hostname) → length init.nonce ≡ 32 → HasAsked scram init
-asked_shows scram init (ascii, short, few) same utf8 sized =
-    carried (λ (s : ScramStruct). HasAsked s init) (asked_struct init) scram (sym same) (
-      asks_for init init.hostname refl few utf8,
+pub asked_shows : (scram : ScramStruct) (mechanism : Mechanism) (nonce : List ℕ)
+    → scram ≡ asked_struct (way_for mechanism) nonce → length nonce ≡ 32 → HasAsked scram (way_for mechanism) nonce
+asked_shows scram mechanism nonce same sized =
+    carried (λ (s : ScramStruct). HasAsked s (way_for mechanism) nonce) (asked_struct (way_for mechanism) nonce) scram
+    (sym same) (
       refl,
-      head_of 512 init.nonce ∙ ap (λ n. take n (zero_filled 512 init.nonce)) sized,
-      short,
-      head_of 1024 init.mechanism,
-      ascii,
+      refl,
+      head_of 512 nonce ∙ ap (λ n. take n (zero_filled 512 nonce)) sized,
+      omega (arith, short_name mechanism, ap length (name_of mechanism)),
+      head_of 1024 (way_name (way_for mechanism)),
     )
 
--- a struct that shows an init has room for it
-hostname_room : (scram : ScramStruct) (hostname : Option (List ℕ)) → AsksHostname scram hostname
-    → length (or_empty hostname) ≤ 1024
-hostname_room scram None asks = omega arith
-hostname_room scram (Some name) (is, few, same, utf8) = short scram.bare_len 1024 scram.bare name same few
+-- a struct whose text is not UTF-8, or not the name of a mechanism, shows no init
+pub not_utf8 : (scram : ScramStruct) (text : List ℕ) → text ≡ take scram.first_len scram.first → ¬ IsUtf8 text
+    → (way : Way) (nonce : List ℕ) → ¬ HasAsked scram way nonce
+not_utf8 scram text same wrong way nonce asked = wrong (carried IsUtf8 (way_name way) text (asked.4 ∙ sym same)
+    (IsUtf8-from_ascii (way_name way) (IsAscii-way_name way)))
 
-pub no_room_asked : (init : PendingInit) → ¬ HasRoomForInit init → (scram : ScramStruct) → ¬ HasAsked scram init
-no_room_asked init wide scram (asks, sized, nonce, few, same, ascii) = wide (
-  ascii,
-  short scram.first_len 1024 scram.first init.mechanism same few,
-  hostname_room scram init.hostname asks,
-)
+pub not_named : (scram : ScramStruct) (text : List ℕ) → text ≡ take scram.first_len scram.first
+    → ((mechanism : Mechanism) → policy_name mechanism ≢ text) → (way : Way) (nonce : List ℕ)
+    → ¬ HasAsked scram way nonce
+not_named scram text same none way nonce asked = none (mechanism_by way) (name_by way ∙ (asked.4 ∙ sym same))
 
-pub ruleset asked = (asked_shows, no_room_asked)
+pub named_asked : (scram : ScramStruct) (mechanism : Mechanism) (text nonce : List ℕ)
+    → text ≡ take scram.first_len scram.first → policy_name mechanism ≡ text → scram.state ≡ 5 → scram.nonce_len ≡ 32
+    → scram.first_len ≤ 1024 → nonce ≡ take 32 scram.nonce → HasAsked scram (way_for mechanism) nonce
+named_asked scram mechanism text nonce same named state sized few is =
+    (state, sized, is, few, name_of mechanism ∙ (named ∙ same))
 
-pub not_ascii : (bytes : List ℕ) → ¬ IsUtf8 bytes → ¬ IsAscii bytes
-not_ascii bytes wrong ascii = wrong (IsUtf8-from_ascii bytes ascii)
+pub ruleset reads_asked = (not_utf8, not_named, named_asked)
 
-pub ruleset kept =
-    (keeps_nothing, keeps_challenge, no_challenge_room, keeps_user, no_user_room, keeps_init, no_init_room)
+pub ruleset asks = (name_of, short_name)

@@ -16,10 +16,10 @@ pub mod SaslClientLemmas
 pub mod LineLemmas
 pub mod ExchangeLemmas
 pub mod SaslServerLemmas
-pub mod PasswordReplyLemmas
 pub mod ServerReplyLemmas
 pub mod ServerCallLemmas
 pub mod ReadingLemmas
+pub mod ReasonLemmas
 pub mod ServerUserLemmas
 pub mod PeekLemmas
 pub mod LoginLemmas

@@ -1,44 +1,37 @@
 -- What structs show of a server of a connection, and of which server they are (AMQP 1.0, part 5, section 5.3.2).
 use Rattle.std.proofs.Common.{arith, refl, sym, ap, inl, inr, ◌∙◌, ◌≡◌, ◌≢◌, ◌≤◌, ◌<◌, ◌⊎◌, ◌+◌, ◌*◌, ◌∷◌, ◌++◌, ℕ, List, [], length}
-use Rattle.std.specs.Prelude.{Bool, true, false, MatchOption, Option, Some, None, Ok, Err, option_map}
+use Rattle.std.specs.Prelude.{Bool, true, false, MatchOption, Option, Some, None, Err}
 use Rattle.std.specs.Str.{IsUtf8}
 use Rattle.std.proofs.lemmas.List.{append-nil, append_assoc}
 use Rattle.fe2o3_scram.specs.declared.hmac.ScramVersion.{ScramVersion}
 use Rattle.fe2o3_scram.specs.declared.hmac.ScramVersion.TheVariants as versions
-use Rattle.fe2o3_scram.specs.ChannelBinding.{is_required}
-use Rattle.fe2o3_scram.specs.Credentials.{Record, VersionedRecord}
+use Rattle.fe2o3_scram.specs.Credentials.{VersionedRecord}
 use Rattle.fe2o3_scram.specs.Mixed.{MultiRecords}
-use Rattle.fe2o3_scram.specs.ClientFinal.{ClientFinal, ReadsClientFinal, Server}
-use Rattle.fe2o3_scram.specs.Hmac.{digest_len}
-use Rattle.fe2o3_scram.proofs.lemmas.hashes.DigestLemmas.{length-digest}
 use Rattle.fe2o3_scram.specs.Readings.{NoneHolds}
-use Rattle.fe2o3_scram.specs.ScramServer.{ServerState, ServerFinalSent, ServerFirstSent, server_against}
-use Rattle.fe2o3_scram.specs.ServerFirst.{ServerChallenge}
-use Rattle.fe2o3_sasl_core.specs.declared.any_mechanism.Selected.TheVariants.{First}
+use Rattle.fe2o3_sasl_core.specs.SavedServers.{KeptStage, kept_stage}
+use Rattle.fe2o3_sasl_core.specs.Servers.{NotStarted, ServerAt, ServerSettings, offers_any, settings_with}
 use Rattle.fe2o3_sasl_core.specs.declared.plain_server.passwords.PlainPasswords.{PlainPasswords}
 use Rattle.fe2o3_sasl_core.specs.declared.plain_server.passwords.PlainPasswords.TheVariants as forms
 use Rattle.fe2o3_sasl_negotiation.specs.Sides.{ServerConnectionSide, extended_in}
-use Rattle.fe2o3_sasl_negotiation.specs.declared.progress.CloseReason.{CloseReason}
 use Rattle.fe2o3_sasl_negotiation.specs.declared.progress.Progress.{Progress}
 use Rattle.fe2o3_sasl_negotiation.specs.declared.progress.Progress.TheVariants.{InProgress, Authenticated, Failed}
-use Rattle.fe2o3_sasl_negotiation.specs.Negotiations.{Side}
 use Rattle.sasl_c.specs.declared.records.ScramRecord.{ScramRecord as Kept}
+use Rattle.sasl_c.specs.declared.rejections.LoggedServer.{LoggedServer}
 use Rattle.sasl_c.specs.declared.sasl_server.Choice.{Choice}
+use Rattle.sasl_c.specs.declared.sasl_server.Prepared.{Prepared}
 use Rattle.sasl_c.specs.declared.sasl_server.SaslServerConfig.{SaslServerConfig as Config}
 use Rattle.sasl_c.specs.declared.sasl_server.SaslServer.{SaslServer as Struct}
 use Rattle.sasl_c.specs.declared.server.ScramServer.{ScramServer as ScramStruct}
 use Rattle.sasl_c.specs.declared.status.Status.{Status}
 use Rattle.sasl_c.specs.declared.status.Status.TheVariants as statuses
 use Rattle.sasl_c.specs.Records.{ShowsRecord, SpellsStruct}
+use Rattle.sasl_c.specs.Rejections.{Logged, state_of}
 use Rattle.sasl_c.specs.Rules.{HasLongData}
-use Rattle.sasl_c.specs.SaslServer.{AddsRecord, AreFresh, HasNoServerWords, HasNone, HasNoStruct, HasRecords, IsNoConfig, IsOf, IsServer, NoRecordIsUnmet, Replying, ServerIsReached, ShowRecords, ShowsBy, ShowsProgress, ShowsSide, ShowsState, Stands, State, config_tests, extra_for, kept_exchange, mechanisms_sum, version_of_first, no_record as record_without_keys, one_where, passwords_number, record_for, saved_for, settings_for, side_in, side_struct, state_of, state_struct, struct_by, sum_of}
-use Rattle.fe2o3_sasl_core.specs.ExtraChallenges.{Phase}
-use Rattle.fe2o3_sasl_core.specs.declared.extra_challenges.ExtraChallenges.{ExtraChallenges}
-use Rattle.fe2o3_sasl_core.specs.PasswordServer.{PasswordState, SavedExchange, ScramsAt, exchange_with, part_asked, password_acting, password_known_for, password_names, password_open, password_server, password_server_in, password_user, scrams_at}
-use Rattle.sasl_c.specs.declared.rejections.LoggedServer.{LoggedServer}
-use Rattle.sasl_c.specs.Server.{KeptExchange, NothingKept, ChallengeOpen, SignatureSent, InitialResponseAsked, IdentityHasRoom, IsLoggedIn, IsPhaseOf, ShowsExchange, open_exchange, phase_for, signed_exchange}
+use Rattle.sasl_c.specs.SaslServer.{AddsRecord, AreSettings, HasNoServerWords, HasNone, HasRecords, IsNoConfig, IsPrepared, IsServer, RestoresStage, ServerIsReached, ShowRecords, ShowsBy, ShowsNext, ShowsProgress, ShowsSide, ShowsState, config_tests, mechanisms_sum, version_of_first, one_where, passwords_number, settings_for, side_in, side_struct, state_struct, struct_by, sum_of}
+use Rattle.sasl_c.specs.Server.{ShowsStage, fresh_server_struct}
 use Rattle.sasl_c.specs.Status.{version_number}
-use Rattle.sasl_c.proofs.ExchangeLemmas.{short}
+use Rattle.sasl_c.proofs.ExchangeLemmas.{keeps_nothing}
+use Rattle.sasl_c.proofs.ServerReplyLemmas.{Serves, kept_by, restored_so, restores}
 use Rattle.sasl_c.proofs.StatusLemmas.{carried}
 
 -- ---- which mechanisms are offered
@@ -226,165 +219,7 @@ pub ruleset first = (no_record, skips, first_shown)
 
 pub ruleset store = (so_far_none, so_far_more, so_far_all)
 
--- ---- a record without keys
-
-some_digest : (version : ScramVersion) → 0 < digest_len version
-some_digest versions.Sha1 = omega arith
-some_digest versions.Sha256 = omega arith
-some_digest versions.Sha512 = omega arith
-
--- a digest has bytes, and the stored key has none
-never_read : (server : Server) (text : List ℕ) (final : ClientFinal) → server.stored.stored_key ≡ []
-    → ReadsClientFinal server text (Ok final) → ⊥
-unfolding ReadsClientFinal
-never_read server text final none (read, sized, (meets, may)) =
-    let empty : digest_len server.version ≡ 0 = sym (length-digest server.version _) ∙ ap length (meets ∙ none) in
-    absurd (omega (arith, empty, some_digest server.version))
-
-pub never_met : NoRecordIsUnmet
-unfolding NoRecordIsUnmet
-never_met challenge version rules rights text message next ((final, read, sent), then) =
-    never_read (server_against version rules rights challenge record_without_keys) text final refl read
-
 -- ---- the server of a configuration
-
--- the library's server which continues what a struct keeps
-module _ (config : Config) (choice : Choice) (records : MultiRecords) (signed : ScramVersion) where
-  abbrev saved : KeptExchange → Option SavedExchange
-  saved exchange = saved_for records signed false exchange
-
-  abbrev served : KeptExchange → PasswordState
-  served exchange = password_server (settings_for config choice records (saved exchange))
-
-  -- with the phase of what was kept
-  abbrev extended : KeptExchange → Replying
-  extended exchange = record { inner = served exchange; extra = extra_for choice; phase = phase_for exchange }
-
-  -- SCRAM in an exchange, with -PLUS or without it
-  abbrev scrams_for : Bool → Option SavedExchange → ScramsAt
-  scrams_for plus exchange = scrams_at (exchange_with plus exchange)
-
-  abbrev StandsSo : Option SavedExchange → Type 0
-  StandsSo exchange = Stands exchange (scrams_for true exchange) (scrams_for false exchange) (part_asked exchange)
-
-  fresh : AreFresh (scrams_at None)
-  fresh = ((λ version. refl), refl, refl)
-
-  stands_at : (version : ScramVersion) (plus : Bool) (state : ServerState)
-      → StandsSo (Some (record { version = version; plus = plus; state = state }))
-  stands_at versions.Sha1 true state = ((refl, (refl, refl)), refl)
-  stands_at versions.Sha256 true state = ((refl, (refl, refl)), refl)
-  stands_at versions.Sha512 true state = ((refl, refl), refl)
-  stands_at versions.Sha1 false state = ((refl, (refl, refl)), refl)
-  stands_at versions.Sha256 false state = ((refl, (refl, refl)), refl)
-  stands_at versions.Sha512 false state = ((refl, refl), refl)
-
-  stands : (exchange : KeptExchange) → StandsSo (saved exchange)
-  stands NothingKept = (fresh, fresh, refl)
-  stands (ChallengeOpen version challenge) = stands_at version (is_required challenge.header.flag) _
-  stands (SignatureSent user acts_for) = stands_at signed false _
-  stands (InitialResponseAsked init) = (fresh, fresh, refl)
-
-  served_in : (exchange : KeptExchange) → served exchange
-      ≡ password_server_in (settings_for config choice records None) (scrams_for true (saved exchange))
-      (scrams_for false (saved exchange)) (part_asked (saved exchange))
-      (option_map (λ (one : SavedExchange). First) (saved exchange))
-  served_in NothingKept = refl
-  served_in (ChallengeOpen version challenge) = refl
-  served_in (SignatureSent user acts_for) = refl
-  served_in (InitialResponseAsked init) = refl
-
-  -- it keeps just this
-  keeps_at : (version : ScramVersion) (plus : Bool) (challenge : ServerChallenge) (stored : Record)
-      → open_exchange (password_open (password_server (settings_for config choice records (Some (record {
-        version = version;
-        plus = plus;
-        state = ServerFirstSent challenge stored;
-      }))))) ≡ ChallengeOpen version challenge
-  keeps_at versions.Sha1 true challenge stored = refl
-  keeps_at versions.Sha256 true challenge stored = refl
-  keeps_at versions.Sha512 true challenge stored = refl
-  keeps_at versions.Sha1 false challenge stored = refl
-  keeps_at versions.Sha256 false challenge stored = refl
-  keeps_at versions.Sha512 false challenge stored = refl
-
-  keeps_open : (version : ScramVersion) (challenge : ServerChallenge)
-      → kept_exchange (extended (ChallengeOpen version challenge)) ≡ ChallengeOpen version challenge
-  keeps_open version challenge =
-      keeps_at version (is_required challenge.header.flag) challenge (record_for records version challenge.user)
-
-  -- the server after the login of a user
-  abbrev signed_in : ScramVersion → List ℕ → Option (List ℕ) → PasswordState
-  signed_in version user acts_for = password_server (settings_for config choice records
-      (Some (record { version = version; plus = false; state = ServerFinalSent user acts_for })))
-
-  keeps_user : (version : ScramVersion) (user : List ℕ) (acts_for : Option (List ℕ))
-      → signed_exchange (password_user (signed_in version user acts_for)) (password_acting (signed_in version user acts_for))
-      ≡ SignatureSent user acts_for
-  keeps_user versions.Sha1 user acts_for = refl
-  keeps_user versions.Sha256 user acts_for = refl
-  keeps_user versions.Sha512 user acts_for = refl
-
-  keeps : (exchange : KeptExchange) → kept_exchange (extended exchange) ≡ exchange
-  keeps NothingKept = refl
-  keeps (ChallengeOpen version challenge) = keeps_open version challenge
-  keeps (SignatureSent user acts_for) = keeps_user signed user acts_for
-  keeps (InitialResponseAsked init) = refl
-
-  in_phase : (exchange : KeptExchange) → IsPhaseOf exchange (phase_for exchange)
-  in_phase NothingKept = inl refl
-  in_phase (ChallengeOpen version challenge) = inl refl
-  in_phase (SignatureSent user acts_for) = inl refl
-  in_phase (InitialResponseAsked init) = refl
-
-  is_of : (exchange : KeptExchange) → sum_of choice ≡ config.mechanisms → HasRecords config records
-      → IsOf config exchange (extended exchange)
-  unfolding IsOf
-  is_of exchange sum has = (
-    choice,
-    records,
-    signed,
-    false,
-    scrams_for true (saved exchange),
-    scrams_for false (saved exchange),
-    part_asked (saved exchange),
-    sum,
-    has,
-    stands exchange,
-    in_phase exchange,
-    refl,
-    served_in exchange,
-  )
-
-  extended_so : (exchange : KeptExchange) (inner : PasswordState) (extra : ExtraChallenges) (phase : Phase)
-      → inner ≡ served exchange → extra ≡ extra_for choice → phase ≡ phase_for exchange
-      → ◌≡◌ {A = Replying} (record { inner = inner; extra = extra; phase = phase }) (extended exchange)
-  extended_so exchange inner extra phase is own at =
-      ap (λ (i : PasswordState). with_parts i extra phase) is
-      ∙ (ap (λ (e : ExtraChallenges). with_parts (served exchange) e phase) own
-      ∙ ap (λ (p : Phase). with_parts (served exchange) (extra_for choice) p) at)
-    where
-      with_parts : PasswordState → ExtraChallenges → Phase → Replying
-      with_parts i e p = record { inner = i; extra = e; phase = p }
-
-  pub made : (scram : ScramStruct) (exchange : KeptExchange) (logged : State) (inner : PasswordState)
-      (extra : ExtraChallenges) (phase : Phase) → sum_of choice ≡ config.mechanisms
-      → HasRecords config records → ShowsExchange scram exchange → inner ≡ served exchange → extra ≡ extra_for choice
-      → phase ≡ phase_for exchange → logged.server ≡ record { inner = inner; extra = extra; phase = phase }
-      → logged.known ≡ password_known_for records
-      → ServerIsReached config InProgress logged × ShowsState scram InProgress logged
-  made scram exchange logged inner extra phase sum has shows is own at given known =
-      let same : logged.server ≡ extended exchange = given ∙ extended_so exchange inner extra phase is own at in (
-        (
-          (
-            exchange,
-            carried (IsOf config exchange) (extended exchange) logged.server (sym same) (is_of exchange sum has),
-          ),
-          (records, has, known),
-        ),
-        carried (ShowsExchange scram) exchange (kept_exchange logged.server)
-            (sym (ap kept_exchange same ∙ keeps exchange)) shows,
-      )
 
 -- why there is none
 pub no_choice : (config : Config) → ((choice : Choice) → sum_of choice ≢ config.mechanisms)
@@ -413,20 +248,14 @@ no_channels config choice sum name peer words long = inl (inr (
   ),
 ))
 
-pub no_offer : (config : Config) (choice : Choice) (records : MultiRecords) (signed : ScramVersion)
-    (exchange : KeptExchange) → sum_of choice ≡ config.mechanisms → HasRecords config records
-    → IsUtf8 config.username.now → IsUtf8 config.external_authcid.now → IsUtf8 config.identities.now
-    → ¬ HasLongData config.channels → password_names (served config choice records signed exchange) ≡ [] → IsNoConfig config statuses.NoSuchMechanism
+pub no_offer : (config : Config) (prepared : Prepared) → IsPrepared config prepared → NoneHolds (config_tests config)
+    → offers_any (settings_with prepared.records prepared.options prepared.transport) ≡ false
+    → IsNoConfig config statuses.NoSuchMechanism
 unfolding IsNoConfig
-no_offer config choice records signed exchange sum has name peer words short nothing = inr (
-  ((λ none. none choice sum), ((λ wrong. wrong name), ((λ wrong. wrong peer), ((λ wrong. wrong words), (short, tt))))),
+no_offer config prepared (are, unmocked) none nothing = inr (
+  none,
   refl,
-  (
-    exchange,
-    extended config choice records signed exchange,
-    is_of config choice records signed exchange sum has,
-    nothing,
-  ),
+  (settings_with prepared.records prepared.options prepared.transport, are, nothing),
 )
 
 pub no_test : (config : Config) (choice : Choice) → sum_of choice ≡ config.mechanisms → IsUtf8 config.username.now
@@ -435,59 +264,7 @@ pub no_test : (config : Config) (choice : Choice) → sum_of choice ≡ config.m
 no_test config choice sum name peer words short =
     ((λ none. none choice sum), ((λ wrong. wrong name), ((λ wrong. wrong peer), ((λ wrong. wrong words), (short, tt)))))
 
-pub ruleset acceptor = (no_choice, no_words, no_channels, no_test)
-
--- ---- what the struct of SCRAM shows
-
--- what is shown of a login that stands so
-stands_so : (scram : ScramStruct) (progress other : Progress) (exchange : KeptExchange) (user name acts_for : Option (List ℕ))
-    → progress ≡ other → user ≡ name → ShowsProgress scram other exchange name acts_for
-    → ShowsProgress scram progress exchange user acts_for
-stands_so scram progress other exchange user name acts_for same named shows =
-    carried (λ s. ShowsProgress scram s exchange user acts_for) other progress (sym same)
-    (carried (λ (u : Option (List ℕ)). ShowsProgress scram other exchange u acts_for) name user (sym named) shows)
-
-pub shows_user : (scram : ScramStruct) (progress : Progress) (exchange : KeptExchange) (user acts_for : Option (List ℕ))
-    (name : List ℕ) → progress ≡ Authenticated → user ≡ Some name → IsLoggedIn scram name acts_for
-    → ShowsProgress scram progress exchange user acts_for
-shows_user scram progress exchange user acts_for name in_is some is =
-    stands_so scram progress Authenticated exchange user (Some name) acts_for in_is some is
-
-pub shows_no_user : (scram : ScramStruct) (progress : Progress) (exchange : KeptExchange) (user acts_for : Option (List ℕ))
-    → progress ≡ Authenticated → user ≡ None → scram.state ≡ 0 → ShowsProgress scram progress exchange user acts_for
-shows_no_user scram progress exchange user acts_for in_is none fresh =
-    stands_so scram progress Authenticated exchange user None acts_for in_is none fresh
-
--- a struct that shows a login has room for its names
-no_room_for : (scram : ScramStruct) (user : List ℕ) (acts_for : Option (List ℕ))
-    → (256 < length user) ⊎ ¬ IdentityHasRoom acts_for → ¬ IsLoggedIn scram user acts_for
-no_room_for scram user acts_for (inl long) is =
-    absurd (omega (arith, short scram.user_len 256 scram.user user is.0.2 is.0.1, long))
-no_room_for scram user acts_for (inr wide) is = wide is.1.2
-
-pub no_user_room : (progress : Progress) (exchange : KeptExchange) (user acts_for : Option (List ℕ)) (name : List ℕ)
-    → progress ≡ Authenticated → user ≡ Some name → (256 < length name) ⊎ ¬ IdentityHasRoom acts_for
-    → (scram : ScramStruct) → ¬ ShowsProgress scram progress exchange user acts_for
-no_user_room progress exchange user acts_for name in_is some wide scram shows = no_room_for scram name acts_for wide
-    (stands_so scram Authenticated progress exchange (Some name) user acts_for (sym in_is) (sym some) shows)
-
-pub shows_closed : (scram : ScramStruct) (progress : Progress) (exchange : KeptExchange)
-    (user acts_for : Option (List ℕ)) (why : CloseReason) → progress ≡ Failed why → scram.state ≡ 0
-    → ShowsProgress scram progress exchange user acts_for
-shows_closed scram progress exchange user acts_for why closed fresh =
-    stands_so scram progress (Failed why) exchange user user acts_for closed refl fresh
-
--- what a server keeps of a login that goes on
-pub shows_exchange : (progress : Progress) (exchange : KeptExchange) (user acts_for : Option (List ℕ))
-    (answer : Option ScramStruct) → progress ≡ InProgress
-    → MatchOption answer ((scram : ScramStruct) → ¬ ShowsExchange scram exchange) (λ scram. ShowsExchange scram exchange)
-    → MatchOption answer ((scram : ScramStruct) → ¬ ShowsProgress scram progress exchange user acts_for)
-    (λ scram. ShowsProgress scram progress exchange user acts_for)
-shows_exchange progress exchange user acts_for answer wants held =
-    carried (λ (s : Progress). MatchOption answer ((scram : ScramStruct) → ¬ ShowsProgress scram s exchange user acts_for)
-    (λ scram. ShowsProgress scram s exchange user acts_for)) InProgress progress (sym wants) held
-
-pub ruleset shown = (shows_exchange, shows_user, shows_no_user, no_user_room, shows_closed)
+pub ruleset prepared = (no_choice, no_words, no_channels, no_test)
 
 -- ---- the structs of a side
 
@@ -495,9 +272,9 @@ pub ruleset shown = (shows_exchange, shows_user, shows_no_user, no_user_room, sh
 abbrev pub Served : Type 0
 Served = LoggedServer
 
--- what a struct of SCRAM shows of it
+-- what a struct of SCRAM shows of it after a call
 abbrev pub Shown : ScramStruct → Progress → Served → Type 0
-Shown scram progress acceptor = ShowsState scram progress (state_of acceptor)
+Shown scram progress acceptor = ShowsNext scram progress (state_of acceptor)
 
 -- and the one that is written for it
 abbrev pub written_for : Progress → Served → ScramStruct
@@ -507,22 +284,78 @@ pub writes_side : (server : Struct) (next : ServerConnectionSide Served) → ser
     → server ≡ side_struct (extended_in next) (side_in next)
 writes_side server next written = written
 
-pub shows_side : (server : Struct) (next : ServerConnectionSide Served) → ShowsBy state_of Shown server next
-    → ShowsSide server (side_in next)
-unfolding ShowsSide
-shows_side server next shows = shows
+-- the struct that shows a server restores it
+pub shows_state : (config : Config) (scram : ScramStruct) (progress : Progress) (logged : Logged) → Serves config logged
+    → ShowsNext scram progress logged → ShowsState scram progress logged
+shows_state config scram InProgress logged serves shows = (
+  kept_stage logged.server.stage,
+  shows,
+  restores logged.server.settings logged.server.stage serves.1,
+)
+shows_state config scram Authenticated logged serves shows = shows
+shows_state config scram (Failed why) logged serves shows = shows
 
-pub shows_nothing : (next : ServerConnectionSide Served) → HasNone state_of Shown next → HasNoStruct (side_in next)
-unfolding HasNoStruct
-shows_nothing next none = none
+-- where no struct shows a server, none restores it
+none_restores : (server : ServerAt) → ((scram : ScramStruct) → ¬ ShowsStage scram (kept_stage server.stage))
+    → (scram : ScramStruct) → ¬ RestoresStage scram server
+none_restores server none scram (kept, shows, same) = go (kept_by server.settings server.stage kept same)
+  where
+    go : (server.stage ≡ NotStarted) ⊎ (kept ≡ kept_stage server.stage) → ⊥
+    go (inl new) = none fresh_server_struct (keeps_nothing fresh_server_struct (kept_stage server.stage)
+        (ap kept_stage new) refl)
+    go (inr is) = none scram (carried (ShowsStage scram) kept (kept_stage server.stage) is shows)
 
-pub is_server : (config : Config) (server : Struct) (side : Side State) → ShowsSide server side
-    → ServerIsReached config side.progress side.state → side.limit ≡ 512 → IsServer config server side
-unfolding IsServer
-is_server config server side shows comes limit = (shows, limit, comes)
+pub no_state : (progress : Progress) (logged : Logged) → ((scram : ScramStruct) → ¬ ShowsNext scram progress logged)
+    → (scram : ScramStruct) → ¬ ShowsState scram progress logged
+no_state InProgress logged none scram shows = none_restores logged.server none scram shows
+no_state Authenticated logged none scram shows = none scram shows
+no_state (Failed why) logged none scram shows = none scram shows
 
-pub no_server : (config : Config) (side : Side State) → HasNoStruct side → length side.held ≤ 512
-    → (server : Struct) → ¬ IsServer config server side
-unfolding IsServer HasNoStruct ShowsSide
-no_server config side (inl many) few server is = absurd (omega (arith, few, many))
-no_server config side (inr none) few server is = none server.scram is.0.1
+-- the server of a configuration that a struct restores
+pub serves_so : (config : Config) (scram : ScramStruct) (logged : Logged) → AreSettings config logged.server.settings
+    → RestoresStage scram logged.server → Serves config logged
+serves_so config scram logged are (kept, shows, same) =
+    (are, restored_so logged.server.settings logged.server.stage kept same)
+
+-- each server of a configuration is one that it reaches
+pub reached_by : (config : Config) (progress : Progress) (logged : Logged) → Serves config logged
+    → ServerIsReached config progress logged
+reached_by config InProgress logged serves = serves.0
+reached_by config Authenticated logged serves = tt
+reached_by config (Failed why) logged serves = tt
+
+pub is_server : (config : Config) (server : Struct) (next : ServerConnectionSide Served)
+    → ShowsBy state_of Shown server next → Serves config (side_in next).state → (side_in next).limit ≡ 512
+    → IsServer config server (side_in next)
+unfolding IsServer ShowsSide
+is_server config server next shows serves limit = let side = side_in next in (
+  (shows.0, shows_state config server.scram side.progress side.state serves shows.1),
+  limit,
+  reached_by config side.progress side.state serves,
+)
+
+pub no_server : (config : Config) (next : ServerConnectionSide Served) → HasNone state_of Shown next
+    → length (side_in next).held ≤ 512 → (server : Struct) → ¬ IsServer config server (side_in next)
+unfolding IsServer ShowsSide
+no_server config next (inl many) few server is = absurd (omega (arith, few, many))
+no_server config next (inr none) few server is =
+    no_state (side_in next).progress (side_in next).state none server.scram is.0.1
+
+-- what a struct shows of a login that goes on, or is complete
+pub going_on : (progress : Progress) (stage : KeptStage) (answer : Option ScramStruct) → progress ≡ InProgress
+    → MatchOption answer ((scram : ScramStruct) → ¬ ShowsStage scram stage) (λ scram. ShowsStage scram stage)
+    → MatchOption answer ((scram : ScramStruct) → ¬ ShowsProgress scram progress stage)
+    (λ scram. ShowsProgress scram progress stage)
+going_on progress stage answer is held =
+    carried (λ (s : Progress). MatchOption answer ((scram : ScramStruct) → ¬ ShowsProgress scram s stage)
+    (λ scram. ShowsProgress scram s stage)) InProgress progress (sym is) held
+
+pub logged_in : (progress : Progress) (stage : KeptStage) (answer : Option ScramStruct) → progress ≡ Authenticated
+    → MatchOption answer ((scram : ScramStruct) → ¬ ShowsStage scram stage) (λ scram. ShowsStage scram stage)
+    → MatchOption answer ((scram : ScramStruct) → ¬ ShowsProgress scram progress stage)
+    (λ scram. ShowsProgress scram progress stage)
+logged_in progress stage answer is held =
+    carried (λ (s : Progress). MatchOption answer ((scram : ScramStruct) → ¬ ShowsProgress scram s stage)
+    (λ scram. ShowsProgress scram s stage)) Authenticated progress (sym is) held
+
+pub ruleset shown = (going_on, logged_in)

@@ -3,14 +3,9 @@ use Rattle.std.proofs.Common.{arith, Bool, refl, sym, ap, inl, inr, ◌∙◌, �
 use Rattle.std.specs.Prelude.{Option, Some, None, Result, Ok, Err, drop}
 use Rattle.std.proofs.lemmas.List.{length-append}
 use Rattle.fe2o3_sasl_wire.specs.declared.amqp_types.SaslCode.TheVariants as outcomes
-use Rattle.fe2o3_sasl_wire.specs.declared.sasl_frames.error.Error.{Error}
 use Rattle.fe2o3_sasl_wire.specs.declared.sasl_frames.error.Error.TheVariants as faults
-use Rattle.fe2o3_sasl_wire.specs.SaslFrames as frames
-use Rattle.fe2o3_sasl_wire.specs.SaslFrames.{SaslFrame, canonical}
 use Rattle.fe2o3_scram.specs.Readings.{IsFirst, NoneHolds}
-use Rattle.fe2o3_sasl_core.specs.Bodies.{carried as sent_or_not, server_says}
 use Rattle.fe2o3_sasl_core.specs.Events.{Given, ServerSays, Challenged, Concluded, Failed}
-use Rattle.fe2o3_sasl_core.specs.Runs.{AcceptorGives}
 use Rattle.fe2o3_sasl_negotiation.specs.Sides.{ServerConnectionSide, extended_in}
 use Rattle.fe2o3_sasl_negotiation.specs.declared.snapshot.Snapshot.{Snapshot}
 use Rattle.fe2o3_sasl_negotiation.specs.declared.progress.CloseReason.{CloseReason}
@@ -32,225 +27,170 @@ use Rattle.sasl_c.specs.declared.sasl_server.SaslServer.{SaslServer as Struct}
 use Rattle.sasl_c.specs.declared.status.Status.{Status}
 use Rattle.sasl_c.specs.declared.status.Status.TheVariants as statuses
 use Rattle.sasl_c.specs.Connection.{Keeps, KeepsNoPart, accepts_extended, side_tests, KeepsNoPartOf}
-use Rattle.sasl_c.specs.SaslServer.{HasNone, IsNoConfig, IsNoServer, IsServer, KnowsOf, NotReceived, Received, ServerIsReached, ServerTakes, ShowsBy, ShowsSide, ShowsState, State, server_machine, server_names, side_in, side_struct, state_of, struct_by}
+use Rattle.sasl_c.specs.Rejections.{Logged, server_machine, server_names, state_of}
+use Rattle.sasl_c.specs.SaslServer.{HasNone, IsNoConfig, IsNoServer, IsServer, NotReceived, Received, ServerIsReached, ServerTakes, ShowsBy, ShowsSide, ShowsState, side_in, side_struct, struct_by}
 use Rattle.sasl_c.proofs.ClientReplyLemmas.{answers_read, part_short}
 use Rattle.sasl_c.proofs.SaslClientLemmas.{one_due, tests_without_memory}
-use Rattle.sasl_c.proofs.SaslServerLemmas.{Served, Shown, is_server, no_server, shows_nothing, shows_side, writes_side, written_for}
-use Rattle.sasl_c.proofs.ServerReplyLemmas.{Closes, Goes, comes_goes}
+use Rattle.sasl_c.proofs.SaslServerLemmas.{Served, Shown, is_server, no_server, serves_so, writes_side, written_for}
+use Rattle.sasl_c.proofs.ServerReplyLemmas.{Serves, gives_serves}
 use Rattle.sasl_c.proofs.StatusLemmas.{carried}
 
--- ---- so a server that sends a challenge is one that the configuration comes to
+-- ---- what is behind an answer: a server of the configuration, and at most 520 bytes sent (part 5, section 5.3.1)
 
-not_failed : (body : List ℕ) (fault : Error) → Challenged body ≢ Failed fault
-not_failed body fault same = absurd (cc)
-
-ends_concluded : (body : List ℕ) (reply : SaslFrame) (sent : List ℕ) → Closes reply
-    → Challenged body ≢ server_says reply sent
-ends_concluded body reply sent (code, more, is) same =
-    let one : Challenged body ≡ Concluded code sent = same ∙ ap (λ (r : SaslFrame). server_says r sent) is in
-    absurd (cc)
-
-carried_comes : (config : Config) (server moved next : State) (body : List ℕ) (reply : SaslFrame)
-    (sent : Option (List ℕ)) → Goes config reply moved.server → KnowsOf config moved.known
-    → Challenged body ≡ sent_or_not (Failed faults.TooLarge) (server_says reply) sent
-    → next ≡ sent_or_not server (λ _. moved) sent → ServerIsReached config InProgress next
-carried_comes config server moved next body reply None goes knows says is =
-    absurd (not_failed body faults.TooLarge says)
-carried_comes config server moved next body reply (Some sent) (inl ends) knows says is =
-    absurd (ends_concluded body reply sent ends says)
-carried_comes config server moved next body reply (Some sent) (inr comes) knows says is =
-    carried (ServerIsReached config InProgress) moved next (sym is) (comes, knows)
-
--- a reply of a server that the configuration reaches, which knows the same after it
-replies_comes : (config : Config) (server moved next : State) (nonce body : List ℕ) (frame reply : SaslFrame)
-    → ServerIsReached config InProgress server → server_machine server nonce frame reply moved
-    → Challenged body ≡ sent_or_not (Failed faults.TooLarge) (server_says reply) (canonical reply)
-    → next ≡ sent_or_not server (λ _. moved) (canonical reply) → ServerIsReached config InProgress next
-replies_comes config server moved next nonce body frame reply comes held says is =
-    carried_comes config server moved next body reply (canonical reply)
-    (comes_goes config server.server moved.server nonce frame reply comes.0 held.0)
-    (carried (KnowsOf config) server.known moved.known (sym held.1) comes.1) says is
-
-pub gives_comes : (config : Config) (server next : State) (event : Given) (spelled : Result SaslFrame Error)
-    (body : List ℕ) → ServerIsReached config InProgress server
-    → AcceptorGives server_machine server event spelled (Challenged body) next → ServerIsReached config InProgress next
-gives_comes config server next event (Err fault) body comes is = absurd (not_failed body fault is.0)
-gives_comes config server next event (Ok (frames.Mechanisms names)) body comes is =
-    absurd (not_failed body faults.NotImplemented is.0)
-gives_comes config server next event (Ok (frames.Challenge text)) body comes is =
-    absurd (not_failed body faults.NotImplemented is.0)
-gives_comes config server next event (Ok (frames.Outcome code more)) body comes is =
-    absurd (not_failed body faults.NotImplemented is.0)
-gives_comes config server next event (Ok (frames.Init mechanism response hostname)) body comes (inl failed) =
-    absurd (not_failed body faults.OutOfMemory failed.0)
-gives_comes config server next event (Ok (frames.Init mechanism response hostname)) body comes
-    (inr (reply, moved, held, sends)) =
-    replies_comes config server moved next event.nonce body (frames.Init mechanism response hostname) reply comes held
-    sends.0 sends.1
-gives_comes config server next event (Ok (frames.Response text)) body comes (inl failed) =
-    absurd (not_failed body faults.OutOfMemory failed.0)
-gives_comes config server next event (Ok (frames.Response text)) body comes (inr (reply, moved, held, sends)) =
-    replies_comes config server moved next event.nonce body (frames.Response text) reply comes held sends.0 sends.1
-
--- ---- what is behind an answer: a server that the configuration comes to, and at most 520 bytes sent (part 5, section 5.3.1)
-
-record Fine (config : Config) (answer : SideOutput) (next : State) : Type 0 where
-  comes : ServerIsReached config answer.progress next
+record Fine (config : Config) (answer : SideOutput) (next : Logged) : Type 0 where
+  serves : Serves config next
   short : length answer.sent ≤ 520
 
-fine_so : (config : Config) (answer other : SideOutput) (next : State) → answer ≡ other → ServerIsReached config other.progress next
+fine_so : (config : Config) (answer other : SideOutput) (next : Logged) → answer ≡ other → Serves config next
     → length other.sent ≤ 520 → Fine config answer next
-fine_so config answer other next same comes short =
-    carried (λ (a : SideOutput). Fine config a next) other answer (sym same) (record { comes = comes; short = short })
+fine_so config answer other next same serves short =
+    carried (λ (a : SideOutput). Fine config a next) other answer (sym same) (record { serves = serves; short = short })
 
-closes_fine : (config : Config) (answer : SideOutput) (next : State) (why : CloseReason) (expected : Expected)
-    → answer ≡ closes why expected → Fine config answer next
-closes_fine config answer next why expected same = fine_so config answer (closes why expected) next same tt (omega arith)
+closes_fine : (config : Config) (answer : SideOutput) (next : Logged) (why : CloseReason) (expected : Expected)
+    → Serves config next → answer ≡ closes why expected → Fine config answer next
+closes_fine config answer next why expected serves same =
+    fine_so config answer (closes why expected) next same serves (omega arith)
 
-sends_fine : (config : Config) (answer : SideOutput) (next : State) (body : List ℕ) (progress : Progress) (expected : Expected)
-    → ServerIsReached config progress next → Sends body progress expected answer → Fine config answer next
-sends_fine config answer next body progress expected comes (inl (fits, same)) =
-    fine_so config answer (record { sent = framed body; progress = progress; expected = expected }) next same comes
+sends_fine : (config : Config) (answer : SideOutput) (next : Logged) (body : List ℕ) (progress : Progress)
+    (expected : Expected) → Serves config next → Sends body progress expected answer → Fine config answer next
+sends_fine config answer next body progress expected serves (inl (fits, same)) =
+    fine_so config answer (record { sent = framed body; progress = progress; expected = expected }) next same serves
     (omega (arith, fits, length-framed body))
-sends_fine config answer next body progress expected comes (inr (long, same)) =
-    closes_fine config answer next ReplyTooLarge expected same
+sends_fine config answer next body progress expected serves (inr (long, same)) =
+    closes_fine config answer next ReplyTooLarge expected serves same
 
 -- behind a header
-first_fine : (config : Config) (first : SideOutput) (server : State) (offer : Option (List ℕ)) → ServerIsReached config InProgress server
-    → Offers offer first → ServerIsReached config first.progress server × (length first.sent ≤ 512)
-first_fine config first server None comes same = (
-  carried (λ (a : SideOutput). ServerIsReached config a.progress server) (closes ReplyTooLarge Header) first (sym same) tt,
-  carried (λ (a : SideOutput). length a.sent ≤ 512) (closes ReplyTooLarge Header) first (sym same) (omega arith),
-)
-first_fine config first server (Some body) comes (inl (fits, same)) = (
-  carried (λ (a : SideOutput). ServerIsReached config a.progress server)
-      (record { sent = framed body; progress = InProgress; expected = Frame turns.Init }) first (sym same) comes,
-  carried (λ (a : SideOutput). length a.sent ≤ 512)
-      (record { sent = framed body; progress = InProgress; expected = Frame turns.Init }) first (sym same)
-      (omega (arith, fits, length-framed body)),
-)
-first_fine config first server (Some body) comes (inr (long, same)) = (
-  carried (λ (a : SideOutput). ServerIsReached config a.progress server) (closes ReplyTooLarge (Frame turns.Init)) first (sym same) tt,
-  carried (λ (a : SideOutput). length a.sent ≤ 512) (closes ReplyTooLarge (Frame turns.Init)) first (sym same)
-      (omega arith),
-)
+first_short : (first : SideOutput) (offer : Option (List ℕ)) → Offers offer first → length first.sent ≤ 512
+first_short first None same =
+    carried (λ (a : SideOutput). length a.sent ≤ 512) (closes ReplyTooLarge Header) first (sym same) (omega arith)
+first_short first (Some body) (inl (fits, same)) = carried (λ (a : SideOutput). length a.sent ≤ 512)
+    (record { sent = framed body; progress = InProgress; expected = Frame turns.Init }) first (sym same)
+    (omega (arith, fits, length-framed body))
+first_short first (Some body) (inr (long, same)) = carried (λ (a : SideOutput). length a.sent ≤ 512)
+    (closes ReplyTooLarge (Frame turns.Init)) first (sym same) (omega arith)
 
-header_fine : (config : Config) (answer first : SideOutput) (next : State) → answer ≡ behind_header first
-    → ServerIsReached config first.progress next → length first.sent ≤ 512 → Fine config answer next
-header_fine config answer first next same comes short =
+header_fine : (config : Config) (answer first : SideOutput) (next : Logged) → answer ≡ behind_header first
+    → Serves config next → length first.sent ≤ 512 → Fine config answer next
+header_fine config answer first next same serves short =
     let eight : length sasl_header ≡ 8 = refl in
-    fine_so config answer (behind_header first) next same comes
+    fine_so config answer (behind_header first) next same serves
     (omega (arith, short, eight, length-append sasl_header first.sent))
 
-says_fine : (config : Config) (says : ServerSays) (turn : FrameKind) (answer : SideOutput) (next : State)
-    → ((body : List ℕ) → says ≡ Challenged body → ServerIsReached config InProgress next) → ServerOutputs says turn answer
-    → Fine config answer next
-says_fine config (Challenged body) turn answer next comes sends =
-    sends_fine config answer next body InProgress (Frame turns.Response) (comes body refl) sends
-says_fine config (Concluded outcomes.Ok body) turn answer next comes sends =
-    sends_fine config answer next body Authenticated (Frame turn) tt sends
-says_fine config (Concluded outcomes.Auth body) turn answer next comes sends =
-    sends_fine config answer next body _ (Frame turn) tt sends
-says_fine config (Concluded outcomes.Sys body) turn answer next comes sends =
-    sends_fine config answer next body _ (Frame turn) tt sends
-says_fine config (Concluded outcomes.SysPerm body) turn answer next comes sends =
-    sends_fine config answer next body _ (Frame turn) tt sends
-says_fine config (Concluded outcomes.SysTemp body) turn answer next comes sends =
-    sends_fine config answer next body _ (Frame turn) tt sends
-says_fine config (Failed faults.OutOfMemory) turn answer next comes never = absurd never
-says_fine config (Failed faults.DecodeError) turn answer next comes same = closes_fine config answer next _ _ same
-says_fine config (Failed faults.NotImplemented) turn answer next comes same = closes_fine config answer next _ _ same
-says_fine config (Failed faults.TooLarge) turn answer next comes same = closes_fine config answer next _ _ same
+says_fine : (config : Config) (says : ServerSays) (turn : FrameKind) (answer : SideOutput) (next : Logged)
+    → Serves config next → ServerOutputs says turn answer → Fine config answer next
+says_fine config (Challenged body) turn answer next serves sends =
+    sends_fine config answer next body InProgress (Frame turns.Response) serves sends
+says_fine config (Concluded outcomes.Ok body) turn answer next serves sends =
+    sends_fine config answer next body Authenticated (Frame turn) serves sends
+says_fine config (Concluded outcomes.Auth body) turn answer next serves sends =
+    sends_fine config answer next body _ (Frame turn) serves sends
+says_fine config (Concluded outcomes.Sys body) turn answer next serves sends =
+    sends_fine config answer next body _ (Frame turn) serves sends
+says_fine config (Concluded outcomes.SysPerm body) turn answer next serves sends =
+    sends_fine config answer next body _ (Frame turn) serves sends
+says_fine config (Concluded outcomes.SysTemp body) turn answer next serves sends =
+    sends_fine config answer next body _ (Frame turn) serves sends
+says_fine config (Failed faults.OutOfMemory) turn answer next serves never = absurd never
+says_fine config (Failed faults.DecodeError) turn answer next serves same = closes_fine config answer next _ _ serves same
+says_fine config (Failed faults.NotImplemented) turn answer next serves same =
+    closes_fine config answer next _ _ serves same
+says_fine config (Failed faults.TooLarge) turn answer next serves same = closes_fine config answer next _ _ serves same
 
-answers_fine : (config : Config) (expected : Expected) (server next : State) (nonce unit : List ℕ) (answer : SideOutput)
-    → ServerIsReached config InProgress server → ServerSideAnswers server_names server_machine expected server nonce unit answer next
-    → Fine config answer next
-answers_fine config Header server next nonce unit answer comes (inl (other, same), kept) =
-    header_fine config answer (closes (ProtocolHeaderMismatch _) Header) next same tt (omega arith)
-answers_fine config Header server next nonce unit answer comes (inr (is, (first, offers, same)), kept) =
-    let both = first_fine config first server (offer_body (server_names server)) comes offers in
-    header_fine config answer first next same
-    (carried (λ (s : State). ServerIsReached config first.progress s) server next (sym kept) both.0) both.1
-answers_fine config (Frame turn) server next nonce unit answer comes (Err fault, spells, unread) =
-    closes_fine config answer next _ _ unread.0
-answers_fine config (Frame turn) server next nonce unit answer comes (Ok frame, spells, inl out) =
-    closes_fine config answer next _ _ out.1
-answers_fine config (Frame turn) server next nonce unit answer comes
+answers_fine : (config : Config) (expected : Expected) (server next : Logged) (nonce unit : List ℕ)
+    (answer : SideOutput) → Serves config server
+    → ServerSideAnswers server_names server_machine expected server nonce unit answer next → Fine config answer next
+answers_fine config Header server next nonce unit answer serves (inl (other, same), kept) =
+    header_fine config answer (closes (ProtocolHeaderMismatch _) Header) next same
+    (carried (Serves config) server next (sym kept) serves) (omega arith)
+answers_fine config Header server next nonce unit answer serves (inr (is, (first, offers, same)), kept) =
+    header_fine config answer first next same (carried (Serves config) server next (sym kept) serves)
+    (first_short first (offer_body (server_names server)) offers)
+answers_fine config (Frame turn) server next nonce unit answer serves (Err fault, spells, unread) =
+    closes_fine config answer next _ _ (carried (Serves config) server next (sym unread.1) serves) unread.0
+answers_fine config (Frame turn) server next nonce unit answer serves (Ok frame, spells, inl out) =
+    closes_fine config answer next _ _ (carried (Serves config) server next (sym out.2) serves) out.1
+answers_fine config (Frame turn) server next nonce unit answer serves
     (Ok frame, spells, inr (in_turn, (says, (spelled, is, gives), said))) =
     let event : Given = record { body = drop 4 unit; nonce = nonce } in
-    says_fine config says turn answer next
-    (λ body same. gives_comes config server next event spelled body comes
-    (carried (λ (s : ServerSays). AcceptorGives server_machine server event spelled s next) says (Challenged body) same
-    gives)) said
+    says_fine config says turn answer next (gives_serves config server next event spelled says serves gives) said
 
 -- ---- a call
 
 -- what is behind it
-record BehindCall (config : Config) (next : Side State) (sent : List ℕ) : Type 0 where
-  comes : ServerIsReached config next.progress next.state
+record BehindCall (config : Config) (next : Side Logged) (sent : List ℕ) : Type 0 where
+  serves : Serves config next.state
   limit : next.limit ≡ 512
   held : length next.held ≤ 512
   short : length sent ≤ 520
 
-behind : (config : Config) (next other : Side State) (sent more : List ℕ) → next ≡ other → sent ≡ more
-    → ServerIsReached config other.progress other.state → other.limit ≡ 512 → length other.held ≤ 512 → length more ≤ 520
+behind : (config : Config) (next other : Side Logged) (sent more : List ℕ) → next ≡ other → sent ≡ more
+    → Serves config other.state → other.limit ≡ 512 → length other.held ≤ 512 → length more ≤ 520
     → BehindCall config next sent
-behind config next other sent more same is comes limit held short =
+behind config next other sent more same is serves limit held short =
     carried (λ given. BehindCall config given sent) other next (sym same) (record {
-      comes = comes;
+      serves = serves;
       limit = limit;
       held = held;
       short = carried (λ (s : List ℕ). length s ≤ 520) more sent (sym is) short;
     })
 
-wanting_behind : (config : Config) (accepts : Bool) (side next : Side State) (bytes nonce : List ℕ) (taken : ℕ)
+wanting_behind : (config : Config) (accepts : Bool) (side next : Side Logged) (bytes nonce : List ℕ) (taken : ℕ)
     (sent : List ℕ)
     → ReceivesAt InProgress (Reading accepts (ServerSideAnswers server_names server_machine)) side bytes nonce taken sent next
-    → side.progress ≡ InProgress → side.limit ≡ 512 → ServerIsReached config InProgress side.state → BehindCall config next sent
-wanting_behind config accepts side next bytes nonce taken sent (inl (part, waits)) wants limit comes =
-    behind config next _ sent [] waits.2 waits.1
-    (carried (λ (s : Progress). ServerIsReached config s side.state) InProgress side.progress (sym wants) comes) limit
+    → side.progress ≡ InProgress → side.limit ≡ 512 → Serves config side.state → BehindCall config next sent
+wanting_behind config accepts side next bytes nonce taken sent (inl (part, waits)) wants limit serves =
+    behind config next _ sent [] waits.2 waits.1 serves limit
     (part_short side.expected (side.held ++ bytes)
     (carried (λ n. IsPart side.expected n (side.held ++ bytes)) side.limit 512 limit part)) (omega arith)
-wanting_behind config accepts side next bytes nonce taken sent (inr (inl (refused, ends))) wants limit comes =
-    behind config next _ sent [] ends.2 ends.1 tt limit (omega arith) (omega arith)
+wanting_behind config accepts side next bytes nonce taken sent (inr (inl (refused, ends))) wants limit serves =
+    behind config next _ sent [] ends.2 ends.1 serves limit (omega arith) (omega arith)
 wanting_behind config accepts side next bytes nonce taken sent (inr (inr (answer, state, whole, answers, ends))) wants
-    limit comes =
+    limit serves =
     let reads = answers_read (ServerSideAnswers server_names server_machine) accepts side.expected side.state state nonce _
     answer answers in
-    let fine = answers_fine config side.expected side.state state nonce reads.0 answer comes reads.1 in
-    behind config next _ sent answer.sent ends.2 ends.1 fine.comes limit (omega arith) fine.short
+    let fine = answers_fine config side.expected side.state state nonce reads.0 answer serves reads.1 in
+    behind config next _ sent answer.sent ends.2 ends.1 fine.serves limit (omega arith) fine.short
 
-receives_behind : (config : Config) (before : Struct) (accepts : Bool) (side next : Side State) (bytes nonce : List ℕ)
+-- the server that a struct restores
+serves_by : (config : Config) (before : Struct) (side : Side Logged) → IsServer config before side
+    → side.progress ≡ InProgress → Serves config side.state
+unfolding IsServer ShowsSide
+serves_by config before side is wants = serves_so config before.scram side.state
+    (carried (λ (s : Progress). ServerIsReached config s side.state) side.progress InProgress wants is.2)
+    (carried (λ (s : Progress). ShowsState before.scram s side.state) side.progress InProgress wants is.0.1)
+
+limit_of : (config : Config) (before : Struct) (side : Side Logged) → IsServer config before side → side.limit ≡ 512
+unfolding IsServer
+limit_of config before side is = is.1
+
+receives_behind : (config : Config) (before : Struct) (accepts : Bool) (side next : Side Logged) (bytes nonce : List ℕ)
     (taken : ℕ) (sent : List ℕ) → IsServer config before side → side.progress ≡ InProgress
     → ServerTakes accepts server_names server_machine side bytes nonce taken sent next → BehindCall config next sent
-unfolding IsServer
 receives_behind config before accepts side next bytes nonce taken sent is wants held =
     wanting_behind config accepts side next bytes nonce taken sent
     (carried (λ s. ReceivesAt s (Reading accepts (ServerSideAnswers server_names server_machine)) side bytes nonce taken
-    sent next) side.progress InProgress wants held) wants is.1
-    (carried (λ (s : Progress). ServerIsReached config s side.state) side.progress InProgress wants is.2)
+    sent next) side.progress InProgress wants held) wants (limit_of config before side is)
+    (serves_by config before side is wants)
 
-pub behind_comes : (config : Config) (before : Struct) (accepts : Bool) (side next : Side State) (bytes nonce : List ℕ)
-    (taken : ℕ) (sent : List ℕ) → IsServer config before side → side.progress ≡ InProgress
-    → ServerTakes accepts server_names server_machine side bytes nonce taken sent next
-    → ServerIsReached config next.progress next.state
-behind_comes config before accepts side next bytes nonce taken sent is wants held =
-    (receives_behind config before accepts side next bytes nonce taken sent is wants held).comes
+pub behind_serves : (config : Config) (before : Struct) (accepts : Bool) (side next : Side Logged)
+    (bytes nonce : List ℕ) (taken : ℕ) (sent : List ℕ) → IsServer config before side → side.progress ≡ InProgress
+    → ServerTakes accepts server_names server_machine side bytes nonce taken sent next → Serves config next.state
+behind_serves config before accepts side next bytes nonce taken sent is wants held =
+    (receives_behind config before accepts side next bytes nonce taken sent is wants held).serves
 
-pub behind_limit : (config : Config) (before : Struct) (accepts : Bool) (side next : Side State) (bytes nonce : List ℕ)
+pub behind_limit : (config : Config) (before : Struct) (accepts : Bool) (side next : Side Logged) (bytes nonce : List ℕ)
     (taken : ℕ) (sent : List ℕ) → IsServer config before side → side.progress ≡ InProgress
     → ServerTakes accepts server_names server_machine side bytes nonce taken sent next → next.limit ≡ 512
 behind_limit config before accepts side next bytes nonce taken sent is wants held =
     (receives_behind config before accepts side next bytes nonce taken sent is wants held).limit
 
-pub behind_held : (config : Config) (before : Struct) (accepts : Bool) (side next : Side State) (bytes nonce : List ℕ)
+pub behind_held : (config : Config) (before : Struct) (accepts : Bool) (side next : Side Logged) (bytes nonce : List ℕ)
     (taken : ℕ) (sent : List ℕ) → IsServer config before side → side.progress ≡ InProgress
     → ServerTakes accepts server_names server_machine side bytes nonce taken sent next → length next.held ≤ 512
 behind_held config before accepts side next bytes nonce taken sent is wants held =
     (receives_behind config before accepts side next bytes nonce taken sent is wants held).held
 
-pub behind_short : (config : Config) (before : Struct) (accepts : Bool) (side next : Side State) (bytes nonce : List ℕ)
+pub behind_short : (config : Config) (before : Struct) (accepts : Bool) (side next : Side Logged) (bytes nonce : List ℕ)
     (taken : ℕ) (sent : List ℕ) → IsServer config before side → side.progress ≡ InProgress
     → ServerTakes accepts server_names server_machine side bytes nonce taken sent next → length sent ≤ 520
 behind_short config before accepts side next bytes nonce taken sent is wants held =
@@ -259,7 +199,7 @@ behind_short config before accepts side next bytes nonce taken sent is wants hel
 -- ---- the structs of a call
 
 -- the side that was taken up
-pub taken_up : (config : Config) (before : Struct) (kept : Snapshot) (state : State)
+pub taken_up : (config : Config) (before : Struct) (kept : Snapshot) (state : Logged)
     → Keeps before.connection kept.progress kept.expected kept.held.now → kept.progress ≡ InProgress → kept.limit ≡ 512
     → ServerIsReached config InProgress state → ShowsState before.scram InProgress state
     → IsServer config before (side_of kept state)
@@ -270,7 +210,7 @@ taken_up config before kept state keeps wants limit comes shows = (
   carried (λ (s : Progress). ServerIsReached config s state) InProgress kept.progress (sym wants) comes,
 )
 
-pub received : (config : Config) (bytes nonce : List ℕ) (before after : Struct) (side next : Side State) (taken : ℕ)
+pub received : (config : Config) (bytes nonce : List ℕ) (before after : Struct) (side next : Side Logged) (taken : ℕ)
     (sent : List ℕ) → IsServer config before side → side.progress ≡ InProgress
     → ServerTakes (accepts_extended before.connection) server_names server_machine side bytes nonce taken sent next → IsServer config after next
     → after ≡ side_struct (accepts_extended before.connection) next → Received config bytes nonce before after taken sent
@@ -278,7 +218,7 @@ unfolding Received
 received config bytes nonce before after side next taken sent is wants held then written =
     (side, next, is, wants, held, then, written)
 
-pub too_long : (config : Config) (bytes nonce : List ℕ) (before : Struct) (side next : Side State) (taken : ℕ)
+pub too_long : (config : Config) (bytes nonce : List ℕ) (before : Struct) (side next : Side Logged) (taken : ℕ)
     (sent : List ℕ) → IsServer config before side → side.progress ≡ InProgress
     → ServerTakes (accepts_extended before.connection) server_names server_machine side bytes nonce taken sent next
     → ((other : Struct) → ¬ IsServer config other next)
@@ -337,22 +277,22 @@ unfolding NotReceived IsNoServer
 no_config config bytes nonce before kept status keeps wants wrong =
     inl (inr (none_holds before.connection kept keeps wants, inl wrong))
 
-pub not_kept : (config : Config) (bytes nonce : List ℕ) (before : Struct) (kept : Snapshot) (state : State)
+pub not_kept : (config : Config) (bytes nonce : List ℕ) (before : Struct) (kept : Snapshot) (state : Logged)
     (status : Status) → Keeps before.connection kept.progress kept.expected kept.held.now → kept.progress ≡ InProgress
     → kept.limit ≡ 512 → NamesNone kept → ServerIsReached config InProgress state
     → (status ≡ statuses.InvalidSnapshot) × ¬ IsServerKept kept → NotReceived config bytes nonce before status
 unfolding NotReceived IsNoServer
 not_kept config bytes nonce before kept state status keeps wants limit mock comes (is, wrong) = inl (inr (
   none_holds before.connection kept keeps wants,
-  inr (is, keeps_no_server before.connection kept keeps wants limit mock wrong, (comes.0.0, state.server, comes.0.1)),
+  inr (is, keeps_no_server before.connection kept keeps wants limit mock wrong, (state.server.settings, comes)),
 ))
 
 -- what comes of a side that was taken up
-module _ (config : Config) (bytes nonce : List ℕ) (before : Struct) (kept : Snapshot) (state : State)
+module _ (config : Config) (bytes nonce : List ℕ) (before : Struct) (kept : Snapshot) (state : Logged)
     (keeps : Keeps before.connection kept.progress kept.expected kept.held.now) (wants : kept.progress ≡ InProgress)
     (limit : kept.limit ≡ 512) (extended : kept.extended_headers ≡ accepts_extended before.connection)
     (known : ServerIsReached config InProgress state × ShowsState before.scram InProgress state) where
-  abbrev taken_side : Side State
+  abbrev taken_side : Side Logged
   taken_side = side_of kept state
 
   is : IsServer config before taken_side
@@ -377,8 +317,8 @@ module _ (config : Config) (bytes nonce : List ℕ) (before : Struct) (kept : Sn
       → Received config bytes nonce before after taken sent
   answered after taken sent (next, held, flag, shows, written) =
       received config bytes nonce before after taken_side (side_in next) taken sent is wants (takes taken sent next held)
-      (is_server config after (side_in next) (shows_side after next shows)
-      (behind_comes config before kept.extended_headers taken_side (side_in next) bytes nonce taken sent is wants held)
+      (is_server config after next shows
+      (behind_serves config before kept.extended_headers taken_side (side_in next) bytes nonce taken sent is wants held)
       (behind_limit config before kept.extended_headers taken_side (side_in next) bytes nonce taken sent is wants held))
       (carried (λ (b : Bool). after ≡ side_struct b (side_in next)) (extended_in next) (accepts_extended before.connection)
       (flag ∙ extended) (writes_side after next written))
@@ -397,5 +337,5 @@ module _ (config : Config) (bytes nonce : List ℕ) (before : Struct) (kept : Sn
   unanswered status mock (inr (same, (next, taken, sent, held, none))) =
       carried (NotReceived config bytes nonce before) statuses.TooLong status (sym same)
       (too_long config bytes nonce before taken_side (side_in next) taken sent is wants (takes taken sent next held)
-      (no_server config (side_in next) (shows_nothing next none)
+      (no_server config next none
       (behind_held config before kept.extended_headers taken_side (side_in next) bytes nonce taken sent is wants held)))

@@ -9,7 +9,12 @@ use Rattle.fe2o3_scram.specs.declared.scram_messages.channel_binding_flag.Channe
 use Rattle.fe2o3_scram.specs.declared.scram_messages.channel_binding_flag.ChannelBindingFlag.TheVariants.{NotSupported, ClientSupports, Required}
 use Rattle.fe2o3_scram.specs.ServerFirst.{ServerChallenge}
 use Rattle.fe2o3_scram.specs.Readings.{IsFirst}
+use Rattle.fe2o3_sasl_core.specs.ClientPolicy.{policy_name}
 use Rattle.fe2o3_sasl_core.specs.LoginAttempts.{ClaimAllocates, ClaimIn, ClaimsUser}
+use Rattle.fe2o3_sasl_core.specs.SavedServers.{way_for}
+use Rattle.fe2o3_sasl_core.specs.Servers.{way_name}
+use Rattle.fe2o3_sasl_core.specs.declared.client_policy.Mechanism.{Mechanism}
+use Rattle.fe2o3_sasl_core.specs.declared.server.ways.Way.{Way}
 use Rattle.fe2o3_sasl_negotiation.specs.declared.snapshot.Snapshot.{Snapshot}
 use Rattle.fe2o3_sasl_negotiation.specs.declared.progress.Expected.{Expected}
 use Rattle.fe2o3_sasl_negotiation.specs.declared.progress.Expected.TheVariants.{Frame}
@@ -26,7 +31,8 @@ use Rattle.sasl_c.specs.declared.status.Status.TheVariants as statuses
 use Rattle.sasl_c.specs.Connection.{Keeps, accepts_extended, side_tests}
 use Rattle.sasl_c.specs.SaslServer.{AnswerNeedsMemory, AnswerNames, BodyAsks, BodyNames, BodyNamesNoUser, FrameAsks, FrameNames, Named, NotNamed, ResponseAsks, read_by}
 use Rattle.sasl_c.specs.Peeks.{AwaitsFrame}
-use Rattle.sasl_c.specs.Server.{AsksHostname, HasAsked, IsOpen, PendingInit, open_number}
+use Rattle.sasl_c.specs.Server.{HasAsked, IsOpen, open_number}
+use Rattle.sasl_c.proofs.ExchangeLemmas.{name_of}
 use Rattle.sasl_c.proofs.PeekLemmas.{awaits}
 use Rattle.sasl_c.proofs.ServerCallLemmas.{keeps_no_part, none_holds}
 use Rattle.sasl_c.proofs.StatusLemmas.{carried}
@@ -54,54 +60,58 @@ pub ruleset response_user = (response_claims, response_claims_none, response_ask
 -- ---- a response
 
 -- a struct in which a challenge is open shows no init that was asked
-other_states : (scram : ScramStruct) (challenge : ServerChallenge) (init : PendingInit) → IsOpen scram challenge
-    → HasAsked scram init → ⊥
-other_states scram challenge init shows asked = differ challenge.header.flag init.hostname shows.0 asked.0
+other_states : (scram : ScramStruct) (challenge : ServerChallenge) (way : Way) (nonce : List ℕ) → IsOpen scram challenge
+    → HasAsked scram way nonce → ⊥
+other_states scram challenge way nonce shows asked = differ challenge.header.flag shows.0
   where
-    differ : (header : ChannelBindingFlag) (hostname : Option (List ℕ)) → scram.state ≡ open_number header
-        → AsksHostname scram hostname → ⊥
-    differ NotSupported None is asks = absurd (omega (arith, is, asks))
-    differ ClientSupports None is asks = absurd (omega (arith, is, asks))
-    differ (Required TlsUnique) None is asks = absurd (omega (arith, is, asks))
-    differ (Required TlsServerEndPoint) None is asks = absurd (omega (arith, is, asks))
-    differ (Required TlsExporter) None is asks = absurd (omega (arith, is, asks))
-    differ NotSupported (Some name) is asks = absurd (omega (arith, is, asks.0))
-    differ ClientSupports (Some name) is asks = absurd (omega (arith, is, asks.0))
-    differ (Required TlsUnique) (Some name) is asks = absurd (omega (arith, is, asks.0))
-    differ (Required TlsServerEndPoint) (Some name) is asks = absurd (omega (arith, is, asks.0))
-    differ (Required TlsExporter) (Some name) is asks = absurd (omega (arith, is, asks.0))
+    differ : (header : ChannelBindingFlag) → scram.state ≡ open_number header → ⊥
+    differ NotSupported is = absurd (omega (arith, is, asked.0))
+    differ ClientSupports is = absurd (omega (arith, is, asked.0))
+    differ (Required TlsUnique) is = absurd (omega (arith, is, asked.0))
+    differ (Required TlsServerEndPoint) is = absurd (omega (arith, is, asked.0))
+    differ (Required TlsExporter) is = absurd (omega (arith, is, asked.0))
 
--- a struct shows one init
-one_init : (scram : ScramStruct) (init other : PendingInit) → HasAsked scram init → HasAsked scram other
-    → init.mechanism ≡ other.mechanism
-one_init scram init other asked too = asked.4 ∙ sym too.4
+-- the response is the initial response of an init that was asked, by a mechanism of this name
+pub answer_completes : (scram : ScramStruct) (mechanism : Mechanism) (nonce text name : List ℕ)
+    → HasAsked scram (way_for mechanism) nonce → ClaimsUser (policy_name mechanism) text name → AnswerNames scram text name
+answer_completes scram mechanism nonce text name asked names = inr (
+  way_for mechanism,
+  nonce,
+  asked,
+  carried (λ (m : List ℕ). ClaimsUser m text name) (policy_name mechanism) (way_name (way_for mechanism))
+      (sym (name_of mechanism)) names,
+)
 
--- the response is the initial response of an init that was asked
-pub answer_completes : (scram : ScramStruct) (init : PendingInit) (text name : List ℕ) → HasAsked scram init
-    → ClaimsUser init.mechanism text name → AnswerNames scram text name
-answer_completes scram init text name asked names = inr (init, asked, names)
+pub completes_no_user : (scram : ScramStruct) (mechanism : Mechanism) (nonce text : List ℕ)
+    → HasAsked scram (way_for mechanism) nonce → ((name : List ℕ) → ¬ ClaimsUser (policy_name mechanism) text name)
+    → (name : List ℕ) → ¬ AnswerNames scram text name
+completes_no_user scram mechanism nonce text asked none name (inl (challenge, shows, same)) =
+    other_states scram challenge (way_for mechanism) nonce shows asked
+completes_no_user scram mechanism nonce text asked none name (inr (other, then, too, names)) =
+    none name (carried (λ (m : List ℕ). ClaimsUser m text name) (way_name other) (policy_name mechanism)
+    (too.4 ∙ (sym asked.4 ∙ name_of mechanism)) names)
 
-pub completes_no_user : (scram : ScramStruct) (init : PendingInit) (text : List ℕ) → HasAsked scram init
-    → ((name : List ℕ) → ¬ ClaimsUser init.mechanism text name) → (name : List ℕ) → ¬ AnswerNames scram text name
-completes_no_user scram init text asked none name (inl (challenge, shows, same)) =
-    other_states scram challenge init shows asked
-completes_no_user scram init text asked none name (inr (other, too, names)) =
-    none name (carried (λ mechanism. ClaimsUser mechanism text name) other.mechanism init.mechanism
-    (one_init scram other init too asked) names)
-
-pub completing_asks : (scram : ScramStruct) (init : PendingInit) (text : List ℕ) → HasAsked scram init
-    → ClaimAllocates init.mechanism text → AnswerNeedsMemory scram text
-completing_asks scram init text asked asks = inr (init, asked, asks)
+pub completing_asks : (scram : ScramStruct) (mechanism : Mechanism) (nonce text : List ℕ)
+    → HasAsked scram (way_for mechanism) nonce → ClaimAllocates (policy_name mechanism) text
+    → AnswerNeedsMemory scram text
+completing_asks scram mechanism nonce text asked asks = inr (
+  way_for mechanism,
+  nonce,
+  asked,
+  carried (λ (m : List ℕ). ClaimAllocates m text) (policy_name mechanism) (way_name (way_for mechanism))
+      (sym (name_of mechanism)) asks,
+)
 
 -- or it answers the open challenge
 pub answer_opens : (scram : ScramStruct) (challenge : ServerChallenge) (text name : List ℕ) → IsOpen scram challenge
     → name ≡ challenge.user → AnswerNames scram text name
 answer_opens scram challenge text name shows same = inl (challenge, shows, same)
 
-pub opens_no_user : (scram : ScramStruct) (text : List ℕ) → ((init : PendingInit) → ¬ HasAsked scram init)
+pub opens_no_user : (scram : ScramStruct) (text : List ℕ)
+    → ((way : Way) (nonce : List ℕ) → ¬ HasAsked scram way nonce)
     → ((challenge : ServerChallenge) → ¬ IsOpen scram challenge) → (name : List ℕ) → ¬ AnswerNames scram text name
 opens_no_user scram text none closed name (inl (challenge, shows, same)) = closed challenge shows
-opens_no_user scram text none closed name (inr (init, asked, names)) = none init asked
+opens_no_user scram text none closed name (inr (way, nonce, asked, names)) = none way nonce asked
 
 pub opening_asks : (scram : ScramStruct) (text : List ℕ) → ((challenge : ServerChallenge) × IsOpen scram challenge)
     → AnswerNeedsMemory scram text

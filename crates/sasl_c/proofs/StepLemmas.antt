@@ -2,8 +2,6 @@
 -- section 5.3.2).
 use Rattle.std.proofs.Common.{arith, refl, sym, ap, inl, inr, ◌≡◌, ◌≤◌, ℕ, List, length}
 use Rattle.std.specs.Prelude.{Option}
-use Rattle.fe2o3_sasl_wire.specs.declared.amqp_types.SaslCode.{SaslCode}
-use Rattle.fe2o3_sasl_wire.specs.declared.amqp_types.SaslCode.TheVariants as outcomes
 use Rattle.fe2o3_sasl_core.specs.declared.sasl_profile.error.ProfileError.{ProfileError}
 use Rattle.fe2o3_sasl_core.specs.Events.{Given, ClientSays, Started, Answered, Reported, Refused, ServerSays, Challenged, Concluded, Failed}
 use Rattle.fe2o3_sasl_core.specs.Profiles.{Profile}
@@ -18,11 +16,12 @@ use Rattle.sasl_c.specs.declared.status.Status.{Status}
 use Rattle.sasl_c.specs.declared.status.Status.TheVariants as statuses
 use Rattle.sasl_c.specs.Connection.{profile_status}
 use Rattle.sasl_c.specs.SaslClient.{ProfileIsReached as LoginComes, HasNoHostname, IsHostname, IsNoProfile, IsProfile}
-use Rattle.sasl_c.specs.SaslServer.{ServerIsReached, IsNoConfig, State, server_machine, state_of}
-use Rattle.sasl_c.specs.Steps.{ClientHides, ClientNotStepped, ClientStepped, ClientTells, IsStepped, NotStepped, ProfileNotStepped, ProfileStepped, ServerNotStepped, ServerStepped, ServerTells, ConfigServes, behind_code, progress_number}
+use Rattle.sasl_c.specs.Rejections.{Logged, server_machine, state_of}
+use Rattle.sasl_c.specs.SaslServer.{IsNoConfig}
+use Rattle.sasl_c.specs.Steps.{ClientHides, ClientNotStepped, ClientStepped, ClientTells, IsStepped, NotStepped, ProfileNotStepped, ProfileStepped, ServerNotStepped, ServerStepped, ServerTells, ConfigServes, progress_number}
 use Rattle.sasl_c.proofs.ClientReachLemmas.{gives_comes as profile_gives, profile_comes}
-use Rattle.sasl_c.proofs.SaslServerLemmas.{Shown, written_for}
-use Rattle.sasl_c.proofs.ServerCallLemmas.{gives_comes as acceptor_gives}
+use Rattle.sasl_c.proofs.SaslServerLemmas.{Shown, no_state, reached_by, serves_so, shows_state, written_for}
+use Rattle.sasl_c.proofs.ServerReplyLemmas.{Serves, gives_serves}
 use Rattle.sasl_c.proofs.StatusLemmas.{carried}
 
 -- what is sent is short
@@ -111,45 +110,38 @@ server_short (Challenged body) sent stands is = no_longer body sent is.0.0 is.0.
 server_short (Concluded code body) sent stands is = no_longer body sent is.0.0 is.0.1
 server_short (Failed fault) sent stands is = absurd is
 
--- the acceptor after a step is one that the configuration reaches
-code_comes : (config : Config) (code : SaslCode) (next : State) → ServerIsReached config (behind_code code) next
-code_comes config outcomes.Ok next = tt
-code_comes config outcomes.Auth next = tt
-code_comes config outcomes.Sys next = tt
-code_comes config outcomes.SysPerm next = tt
-code_comes config outcomes.SysTemp next = tt
+-- the acceptor after a step is one of the configuration
+server_serves : (config : Config) (event : Given) (before : ServerStruct) (server next : Logged) (says : ServerSays)
+    → ConfigServes config before InProgress server → AcceptorSteps server_machine server event says next
+    → Serves config next
+server_serves config event before server next says (are, restores) (spelled, is, gives) =
+    gives_serves config server next event spelled says (serves_so config before server are restores) gives
 
-server_comes : (config : Config) (event : Given) (server next : State) (says : ServerSays) (sent : List ℕ)
-    (stands : Progress) → ServerIsReached config InProgress server → AcceptorSteps server_machine server event says next
-    → ServerTells says sent stands → ServerIsReached config stands next
-server_comes config event server next (Challenged body) sent stands comes steps tells =
-    carried (λ (s : Progress). ServerIsReached config s next) InProgress stands (sym tells.1)
-    (acceptor_gives config server next event steps.0 body comes steps.2)
-server_comes config event server next (Concluded code body) sent stands comes steps tells =
-    carried (λ (s : Progress). ServerIsReached config s next) (behind_code code) stands (sym tells.1) (code_comes config code next)
-server_comes config event server next (Failed fault) sent stands comes steps tells = absurd tells
-
-pub server_stepped : (config : Config) (event : Given) (before after : ServerStruct) (server : State)
+pub server_stepped : (config : Config) (event : Given) (before after : ServerStruct) (server : Logged)
     (stands : Progress) (sent : List ℕ) → ConfigServes config before InProgress server
     → IsStepped state_of server_machine Shown written_for server event after stands sent
     → ServerStepped config event before after (progress_number stands) sent
 unfolding ServerStepped
-server_stepped config event before after server stands sent serves (next, says, steps, tells, shows, written) = (
-  server,
-  stands,
-  serves,
-  (
-    state_of next,
-    says,
-    steps,
-    tells,
-    (server_comes config event server (state_of next) says sent stands serves.0 steps tells, shows),
-    written,
-  ),
-  refl,
-)
+server_stepped config event before after server stands sent serves (next, says, steps, tells, shows, written) =
+    let is = server_serves config event before server (state_of next) says serves steps in (
+      server,
+      stands,
+      serves,
+      (
+        state_of next,
+        says,
+        steps,
+        tells,
+        (
+          reached_by config stands (state_of next) is,
+          shows_state config after stands (state_of next) is shows,
+        ),
+        written,
+      ),
+      refl,
+    )
 
-pub server_steps_short : (server : State) (event : Given) (after : ServerStruct) (stands : Progress) (sent : List ℕ)
+pub server_steps_short : (server : Logged) (event : Given) (after : ServerStruct) (stands : Progress) (sent : List ℕ)
     → IsStepped state_of server_machine Shown written_for server event after stands sent → length sent ≤ 508
 server_steps_short server event after stands sent (next, says, steps, tells, shows, written) =
     server_short says sent stands tells
@@ -159,7 +151,7 @@ pub server_no_config : (config : Config) (event : Given) (before : ServerStruct)
 unfolding ServerNotStepped
 server_no_config config event before status wrong = inl wrong
 
-pub server_not_stepped : (config : Config) (event : Given) (before : ServerStruct) (server : State) (status : Status)
+pub server_not_stepped : (config : Config) (event : Given) (before : ServerStruct) (server : Logged) (status : Status)
     → ConfigServes config before InProgress server → NotStepped state_of server_machine Shown server event status
     → ServerNotStepped config event before status
 unfolding ServerNotStepped
@@ -169,5 +161,10 @@ server_not_stepped config event before server status serves
     (next, says, steps, inr (is, (stands, sent, tells, none))) = inr (
       server,
       serves,
-      (state_of next, says, steps, inr (is, (stands, sent, tells, λ after shows. none after shows.1))),
+      (
+        state_of next,
+        says,
+        steps,
+        inr (is, (stands, sent, tells, λ after shows. no_state stands (state_of next) none after shows.1)),
+      ),
     )

@@ -6,7 +6,9 @@ use Rattle.fe2o3_sasl_wire.specs.SaslFrames.{SaslFrame}
 use Rattle.fe2o3_sasl_core.specs.SaslAcceptor.{ends_with}
 use Rattle.fe2o3_sasl_core.specs.declared.rejection.Rejection.{Rejection}
 use Rattle.fe2o3_sasl_core.specs.declared.rejection.Rejection.TheVariants as reasons
+use Rattle.fe2o3_sasl_core.specs.Servers.{ServerAt, rejection_of_server, sasl_machine, sasl_names, sasl_reasons, sasl_server}
 use Rattle.sasl_c.specs.Status.{server_number}
+use Rattle.sasl_c.specs.declared.rejections.LoggedServer.{LoggedServer}
 
 -- the number of a reason: that of an error of a SCRAM message is the status of that error
 abbrev pub reason_number : Rejection → ℕ
@@ -30,10 +32,9 @@ abbrev pub rejection_number : Option Rejection → ℕ
 rejection_number None = 0
 rejection_number (Some reason) = reason_number reason
 
--- a server in its state, with what it knows of users, which no call changes, and why its last reply rejects the login
-pub record Logged (K S : Type 0) : Type 0 where
-  pub server : S
-  pub known : K
+-- a server in its state, and why its last reply rejects the login
+pub record Logged : Type 0 where
+  pub server : ServerAt
   pub rejection : Option Rejection
 
 -- the reason of a reply: an outcome Auth without data has one of these, and no other reply has one
@@ -41,9 +42,17 @@ abbrev pub IsReasonOf : (Rejection → Type 0) → SaslFrame → Option Rejectio
 IsReasonOf Reasons reply rejection = MatchOption rejection (reply ≢ ends_with outcomes.Auth)
     (λ reason. (reply ≡ ends_with outcomes.Auth) × Reasons reason)
 
--- its machine: the server replies as without a log, and the reason is that of the reply
-abbrev pub logged_machine : {K S : Type 0} → (S → List ℕ → SaslFrame → SaslFrame → S → Type 0)
-    → (K → S → SaslFrame → Rejection → Type 0) → Logged K S → List ℕ → SaslFrame → SaslFrame → Logged K S → Type 0
-logged_machine machine reasons logged nonce frame reply next =
-    machine logged.server nonce frame reply next.server × (next.known ≡ logged.known)
-    × IsReasonOf (reasons logged.known logged.server frame) reply next.rejection
+-- its machine: that of the server, and the reason is that of the reply
+abbrev pub server_machine : Logged → List ℕ → SaslFrame → SaslFrame → Logged → Type 0
+server_machine logged nonce frame reply next = sasl_machine logged.server nonce frame reply next.server
+    × IsReasonOf (sasl_reasons logged.server frame) reply next.rejection
+
+-- the names of its mechanisms
+abbrev pub server_names : Logged → List (List ℕ)
+server_names logged = sasl_names logged.server.settings
+
+-- ---- the code's values
+
+-- the server that a value is
+abbrev pub state_of : LoggedServer → Logged
+state_of logged = record { server = sasl_server logged.server; rejection = rejection_of_server logged.server }

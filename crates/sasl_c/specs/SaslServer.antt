@@ -5,25 +5,20 @@ use Rattle.fe2o3_sasl_wire.specs.declared.sasl_frames.error.Error.{Error}
 use Rattle.fe2o3_sasl_wire.specs.SaslFrames.{SaslFrame}
 use Rattle.fe2o3_sasl_wire.specs.SaslFrames as frames
 use Rattle.fe2o3_scram.specs.declared.hmac.ScramVersion.{ScramVersion}
-use Rattle.fe2o3_scram.specs.ActingRights.{Rights}
-use Rattle.fe2o3_scram.specs.ChannelBinding.{is_required}
-use Rattle.fe2o3_scram.specs.Credentials.{Record, VersionedRecord, record_at}
-use Rattle.fe2o3_scram.specs.declared.hmac.ScramVersion.TheVariants.{Sha1, Sha256, Sha512}
+use Rattle.fe2o3_scram.specs.Credentials.{VersionedRecord}
+use Rattle.fe2o3_scram.specs.declared.hmac.ScramVersion.TheVariants.{Sha256}
 use Rattle.fe2o3_sasl_core.specs.declared.any_mechanism.Selected.{Selected}
-use Rattle.fe2o3_sasl_core.specs.declared.any_mechanism.Selected.TheVariants.{First, Second}
-use Rattle.fe2o3_scram.specs.declared.scram_messages.server_rules.ServerRules.{ServerRules}
-use Rattle.fe2o3_scram.specs.Mixed.{MultiRecords, provider_for}
+use Rattle.fe2o3_scram.specs.Mixed.{MultiRecords}
 use Rattle.fe2o3_scram.specs.Readings.{IsFirst, NoneHolds}
-use Rattle.fe2o3_scram.specs.ScramServer.{ConcludesFrom, ServerState, Initial, ServerFinalSent, ServerFirstSent}
 use Rattle.fe2o3_scram.specs.ServerFirst.{ServerChallenge}
 use Rattle.fe2o3_sasl_core.specs.Bodies.{SpellsBody}
 use Rattle.fe2o3_sasl_core.specs.LoginAttempts.{ClaimAllocates, ClaimIn, ClaimsUser}
-use Rattle.fe2o3_sasl_core.specs.ExtraChallenges.{Extended, extended_machine, extended_of, extended_reasons, extended_user}
-use Rattle.fe2o3_sasl_core.specs.declared.extra_challenges.ExtraChallenges.{ExtraChallenges}
-use Rattle.fe2o3_sasl_core.specs.declared.extra_challenges.WithExtraChallenges.{WithExtraChallenges}
-use Rattle.fe2o3_sasl_core.specs.PasswordServer.{PasswordKnown, PasswordSettings, PasswordState, SavedExchange, ScramsAt, name_where, part_where, password_acting, password_known, password_known_for, password_machine, password_names, password_open, password_reasons, password_server_in, password_state, password_user}
+use Rattle.fe2o3_sasl_core.specs.declared.server.options.ExtraChallenges.{ExtraChallenges}
+use Rattle.fe2o3_sasl_core.specs.SavedServers.{KeptStage, kept_stage, restored_stage}
+use Rattle.fe2o3_sasl_core.specs.Servers.{ServerAt, ServerSettings, offers_any, settings_with, way_name}
+use Rattle.fe2o3_sasl_core.specs.declared.server.options.ServerOptions.{ServerOptions}
+use Rattle.fe2o3_sasl_core.specs.declared.server.ways.Way.{Way}
 use Rattle.fe2o3_sasl_core.specs.declared.rejection.Rejection.{Rejection}
-use Rattle.fe2o3_sasl_core.specs.declared.password_server.PasswordServer.{PasswordServer}
 use Rattle.fe2o3_sasl_core.specs.declared.plain_server.passwords.PlainPasswords.{PlainPasswords}
 use Rattle.fe2o3_sasl_core.specs.declared.plain_server.passwords.PlainPasswords.TheVariants as forms
 use Rattle.fe2o3_sasl_negotiation.specs.declared.progress.Progress.{Progress}
@@ -38,6 +33,7 @@ use Rattle.fe2o3_sasl_negotiation.specs.Sides.{ServerConnectionSide, acceptor_in
 use Rattle.sasl_c.specs.declared.sasl_server.Choice.{Choice}
 use Rattle.sasl_c.specs.declared.sasl_server.SaslServerConfig.{SaslServerConfig as Config}
 use Rattle.sasl_c.specs.declared.sasl_server.SaslServer.{SaslServer as Struct}
+use Rattle.sasl_c.specs.declared.sasl_server.Prepared.{Prepared}
 use Rattle.sasl_c.specs.declared.server.ScramServer.{ScramServer as ScramStruct}
 use Rattle.sasl_c.specs.declared.status.Status.{Status}
 use Rattle.sasl_c.specs.declared.status.Status.TheVariants as statuses
@@ -46,50 +42,13 @@ use Rattle.sasl_c.specs.Client.{is_set}
 use Rattle.sasl_c.specs.Connection.{IsSideOf, Keeps, KeepsNoPart, accepts_extended, side_tests, connection_struct, KeepsNoPartOf}
 use Rattle.sasl_c.specs.Peeks.{AnySide}
 use Rattle.sasl_c.specs.Records.{ShowsRecord}
-use Rattle.sasl_c.specs.Rejections.{Logged, logged_machine, rejection_number}
+use Rattle.sasl_c.specs.Rejections.{Logged, rejection_number, server_machine, server_names, state_of}
 use Rattle.sasl_c.specs.declared.rejections.LoggedServer.{LoggedServer}
 use Rattle.sasl_c.specs.Rules.{HasLongData, channels_of}
 use Rattle.sasl_c.specs.declared.records.ScramRecord.{ScramRecord as Kept}
-use Rattle.sasl_c.specs.Server.{KeptExchange, NothingKept, ChallengeOpen, SignatureSent, InitialResponseAsked, PendingInit, HasAsked, IsLoggedIn, IsOpen, IsPhaseOf, ShowsExchange, authenticated_struct, exchange_in, exchange_struct, fresh_server_struct, rejected_struct}
+use Rattle.sasl_c.specs.Server.{HasAsked, IsOpen, ShowsStage, rejected_struct, stage_struct}
 
 -- ---- the server of a configuration
-
--- the state of the library's server of these mechanisms, which may send its signature in a challenge
-abbrev pub Replying : Type 0
-Replying = Extended PasswordState
-
--- its state, with what it knows of users and why its last reply rejects the login
-abbrev pub State : Type 0
-State = Logged PasswordKnown Replying
-
--- the names of its mechanisms
-abbrev pub server_names : State → List (List ℕ)
-server_names = λ logged. password_names logged.server.inner
-
--- what it replies
-abbrev pub replying_machine : Replying → List ℕ → SaslFrame → SaslFrame → Replying → Type 0
-replying_machine = extended_machine password_names password_machine
-
--- why it rejects a frame
-abbrev pub replying_reasons : PasswordKnown → Replying → SaslFrame → Rejection → Type 0
-replying_reasons known = extended_reasons password_names (password_reasons known)
-
--- what it replies, and the reason that it keeps
-abbrev pub server_machine : State → List ℕ → SaslFrame → SaslFrame → State → Type 0
-server_machine = logged_machine replying_machine replying_reasons
-
--- the user that it names
-abbrev pub server_user : Replying → Option (List ℕ)
-server_user server = extended_user server.phase (password_user server.inner)
-
--- the identity that this user acts for
-abbrev pub server_acting : Replying → Option (List ℕ)
-server_acting server = extended_user server.phase (password_acting server.inner)
-
--- what it keeps of a login that is not complete
-abbrev pub kept_exchange : Replying → KeptExchange
-kept_exchange server = exchange_in server.phase (password_open server.inner) (password_user server.inner)
-    (password_acting server.inner)
 
 -- a number where it is so, and otherwise 0
 abbrev pub one_where : Bool → ℕ → ℕ
@@ -147,12 +106,18 @@ abbrev pub version_of_first : MultiRecords → ScramVersion
 version_of_first [] = Sha256
 version_of_first (user ∷ users) = user.1.version
 
--- the settings of the library's server
-abbrev pub settings_for : Config → Choice → MultiRecords → Option SavedExchange → PasswordSettings
-settings_for config choice records restored = record {
+-- the settings of the library's server. PLAIN is offered if the configuration says so
+abbrev pub settings_for : Config → Choice → MultiRecords → ServerSettings
+settings_for config choice records = record {
   records = records;
-  mock = None;
-  hashes = record { sha_512 = choice.sha_512; sha_256 = choice.sha_256; sha_1 = choice.sha_1 };
+  mechanisms = record {
+    scram_sha_512 = choice.sha_512;
+    scram_sha_256 = choice.sha_256;
+    scram_sha_1 = choice.sha_1;
+    plain = choice.plain;
+    anonymous = choice.anonymous;
+    external = choice.external;
+  };
   rules = record {
     accept_cbind_flag_y = choice.cbind_flag_y;
     strict = choice.strict;
@@ -161,131 +126,54 @@ settings_for config choice records restored = record {
     accept_authzid = is_set config.accept_authzid;
   };
   rights = rights_for config.username.now config.identities.now;
-  plain = choice.plain;
+  mock = None;
   plain_version = version_of_first records;
   plain_count = Some config.iterations;
   plain_passwords = choice.passwords;
-  anonymous = choice.anonymous;
-  external = name_where choice.external config.external_authcid.now;
-  restored = restored;
+  extra = extra_for choice;
+  is_tls = true;
+  external = config.external_authcid.now;
 }
 
--- a record without keys, which no proof meets
-abbrev pub no_record : Record
-no_record = record { salt = []; count = 0; stored_key = []; server_key = [] }
+-- these are the settings of a configuration
+abbrev pub AreSettings : Config → ServerSettings → Type 0
+AreSettings config settings = (choice : Choice) × (records : MultiRecords) × (sum_of choice ≡ config.mechanisms)
+    × HasRecords config records × (settings ≡ settings_for config choice records)
 
--- no client-final message concludes a login by it, whatever the rules
-unfoldable pub NoRecordIsUnmet : Type 0
-NoRecordIsUnmet = (challenge : ServerChallenge) (version : ScramVersion) (rules : ServerRules) (rights : Rights)
-    (text message : List ℕ) (next : ServerState)
-    → ¬ ConcludesFrom (ServerFirstSent challenge no_record) version rules rights text (Ok (Some message)) next
+-- the servers that a configuration can reach while more bytes are expected: those with its settings
+abbrev pub ServerIsReached : Config → Progress → Logged → Type 0
+ServerIsReached config InProgress logged = AreSettings config logged.server.settings
+ServerIsReached config Authenticated logged = Unit {0}
+ServerIsReached config (Failed why) logged = Unit {0}
 
--- a record, and in place of none one without keys
-abbrev pub or_no_record : Option Record → Record
-or_no_record None = no_record
-or_no_record (Some stored) = stored
+-- the struct of SCRAM restores how far a login has come, with these settings
+abbrev pub RestoresStage : ScramStruct → ServerAt → Type 0
+RestoresStage scram server = (kept : KeptStage) × ShowsStage scram kept
+    × (server.stage ≡ restored_stage server.settings kept)
 
--- the record of a user for a hash, and where there is none one without keys, which no proof meets
-abbrev pub record_for : MultiRecords → ScramVersion → List ℕ → Record
-record_for records version user = or_no_record (record_at (provider_for version records).records user)
-
--- what SCRAM continues for what a server keeps: an open challenge, with the record of its user for its hash, by a mechanism
--- with -PLUS if the client binds a channel; the login of a user, by this hash, with -PLUS or without it; or nothing, as for
--- an init that was asked, which begins an exchange of its own
-abbrev pub saved_for : MultiRecords → ScramVersion → Bool → KeptExchange → Option SavedExchange
-saved_for records signed bound NothingKept = None
-saved_for records signed bound (ChallengeOpen version challenge) = Some (record {
-  version = version;
-  plus = is_required challenge.header.flag;
-  state = ServerFirstSent challenge (record_for records version challenge.user);
-})
-saved_for records signed bound (InitialResponseAsked init) = None
-saved_for records signed bound (SignatureSent user acts_for) = Some (record {
-  version = signed;
-  plus = bound;
-  state = ServerFinalSent user acts_for;
-})
-
--- the last init was of this hash, by the parts of SCRAM that are selected
-abbrev pub Asked : ScramVersion → Option Selected → Option Selected → Type 0
-Asked Sha512 selected weaker = selected ≡ Some First
-Asked Sha256 selected weaker = (selected ≡ Some Second) × (weaker ≡ Some First)
-Asked Sha1 selected weaker = (selected ≡ Some Second) × (weaker ≡ Some Second)
-
--- SCRAM by three hashes is before any login
-abbrev pub AreFresh : ScramsAt → Type 0
-AreFresh at = ((version : ScramVersion) → at.states version ≡ Initial) × (at.selected ≡ None) × (at.weaker ≡ None)
-
--- SCRAM by three hashes is in this exchange: that is the state of its hash, and the last init was of this hash. The
--- states of the other hashes play no part then: a response goes to the hash of the last init, and an init begins an
--- exchange of its own
-abbrev pub AreIn : SavedExchange → ScramsAt → Type 0
-AreIn saved at = (at.states saved.version ≡ saved.state) × Asked saved.version at.selected at.weaker
-
--- of SCRAM with -PLUS and without it, the one with -PLUS or the other
-abbrev pub scrams_with : Bool → ScramsAt → ScramsAt → ScramsAt
-scrams_with true plus plain = plus
-scrams_with false plus plain = plain
-
--- SCRAM with -PLUS and without it: where no exchange is continued both are before any login, and otherwise one of them is in
--- the exchange, and the last init went to it
-abbrev pub Stands : Option SavedExchange → ScramsAt → ScramsAt → Option Selected → Type 0
-Stands None plus plain selected = AreFresh plus × AreFresh plain × (selected ≡ None)
-Stands (Some saved) plus plain selected = AreIn saved (scrams_with saved.plus plus plain)
-    × (selected ≡ Some (part_where saved.plus))
-
--- the server is that of a configuration, and keeps this. By which mechanism a signature was sent plays no part
-unfoldable pub IsOf : Config → KeptExchange → Replying → Type 0
-IsOf config exchange server = (choice : Choice) × (records : MultiRecords) × (signed : ScramVersion) × (bound : Bool)
-    × (plus plain : ScramsAt) × (selected : Option Selected) × (sum_of choice ≡ config.mechanisms)
-    × HasRecords config records × Stands (saved_for records signed bound exchange) plus plain selected
-    × IsPhaseOf exchange server.phase × (server.extra ≡ extra_for choice)
-    × (server.inner ≡ password_server_in (settings_for config choice records None) plus plain selected
-    (option_map (λ (saved : SavedExchange). First) (saved_for records signed bound exchange)))
-
--- the servers that a configuration can reach while more bytes are expected: before the init, with an open challenge,
--- and after the signature
-abbrev pub ReplyingIsReached : Config → Replying → Type 0
-ReplyingIsReached config server = (exchange : KeptExchange) × IsOf config exchange server
-
--- what a server of a configuration knows of users: the records that are passed, whether they are mock records or not
-abbrev pub KnowsOf : Config → PasswordKnown → Type 0
-KnowsOf config known = (records : MultiRecords) × HasRecords config records × (known ≡ password_known_for records)
-
--- these servers, with what they know
-abbrev pub ServerIsReached : Config → Progress → State → Type 0
-ServerIsReached config InProgress logged = ReplyingIsReached config logged.server × KnowsOf config logged.known
-ServerIsReached config Authenticated server = Unit {0}
-ServerIsReached config (Failed why) server = Unit {0}
-
--- the struct shows that this user has logged in, for this identity or for itself, or nothing if the login has no user name
-abbrev pub ShowsUser : ScramStruct → Option (List ℕ) → Option (List ℕ) → Type 0
-ShowsUser scram None acts_for = scram.state ≡ 0
-ShowsUser scram (Some user) acts_for = IsLoggedIn scram user acts_for
-
--- the struct of SCRAM holds what a login of this progress needs: what the server keeps, the authenticated user with the
+-- the struct of SCRAM holds what a login of this progress needs: what restores the server, the authenticated user with the
 -- identity that it acts for, or nothing once it is closed
-abbrev pub ShowsProgress : ScramStruct → Progress → KeptExchange → Option (List ℕ) → Option (List ℕ) → Type 0
-ShowsProgress scram InProgress exchange user acts_for = ShowsExchange scram exchange
-ShowsProgress scram Authenticated exchange user acts_for = ShowsUser scram user acts_for
-ShowsProgress scram (Failed why) exchange user acts_for = scram.state ≡ 0
+abbrev pub ShowsState : ScramStruct → Progress → Logged → Type 0
+ShowsState scram InProgress logged = RestoresStage scram logged.server
+ShowsState scram Authenticated logged = ShowsStage scram (kept_stage logged.server.stage)
+ShowsState scram (Failed why) logged = scram.state ≡ 0
 
--- the struct of SCRAM that a call writes for such a login
-abbrev pub progress_struct : Progress → KeptExchange → Option (List ℕ) → Option (List ℕ) → Option Rejection → ScramStruct
-progress_struct InProgress exchange user acts_for rejection = exchange_struct exchange
-progress_struct Authenticated exchange None acts_for rejection = fresh_server_struct
-progress_struct Authenticated exchange (Some user) acts_for rejection = authenticated_struct user acts_for
-progress_struct (Failed why) exchange user acts_for rejection = rejected_struct (rejection_number rejection)
-
--- the struct of SCRAM holds what a server of this progress needs
-abbrev pub ShowsState : ScramStruct → Progress → State → Type 0
-ShowsState scram progress logged = let server = logged.server in
-    ShowsProgress scram progress (kept_exchange server) (server_user server) (server_acting server)
+-- the struct of SCRAM that a call writes for a login of this progress and stage
+abbrev pub progress_struct : Progress → KeptStage → Option Rejection → ScramStruct
+progress_struct (Failed why) stage rejection = rejected_struct (rejection_number rejection)
+progress_struct progress stage rejection = stage_struct stage
 
 -- the struct that a call writes for a server
-abbrev pub state_struct : Progress → State → ScramStruct
-state_struct progress logged = let server = logged.server in
-    progress_struct progress (kept_exchange server) (server_user server) (server_acting server) logged.rejection
+abbrev pub state_struct : Progress → Logged → ScramStruct
+state_struct progress logged = progress_struct progress (kept_stage logged.server.stage) logged.rejection
+
+-- the struct of SCRAM shows a login of this progress and stage, after a call
+abbrev pub ShowsProgress : ScramStruct → Progress → KeptStage → Type 0
+ShowsProgress scram (Failed why) stage = scram.state ≡ 0
+ShowsProgress scram progress stage = ShowsStage scram stage
+
+abbrev pub ShowsNext : ScramStruct → Progress → Logged → Type 0
+ShowsNext scram progress logged = ShowsProgress scram progress (kept_stage logged.server.stage)
 
 -- the structs show a side, where this says what the one of SCRAM shows of its acceptor
 abbrev pub ShowsBy : {A S : Type 0} → (A → S) → (ScramStruct → Progress → A → Type 0) → Struct → ServerConnectionSide A
@@ -306,23 +194,19 @@ HasNone state shows next = let side = server_side state next in
     (512 < length side.held) ⊎ ((scram : ScramStruct) → ¬ shows scram side.progress (acceptor_in next))
 
 -- the structs show a side of the library's acceptor
-unfoldable pub ShowsSide : Struct → Side State → Type 0
+unfoldable pub ShowsSide : Struct → Side Logged → Type 0
 ShowsSide server side = Keeps server.connection side.progress side.expected side.held
     × ShowsState server.scram side.progress side.state
 
 -- the structs that a call writes for a side of the library's acceptor, by whether the side accepts extended headers
-abbrev pub side_struct : Bool → Side State → Struct
+abbrev pub side_struct : Bool → Side Logged → Struct
 side_struct accepts side = record {
   connection = connection_struct accepts side.progress side.expected side.held;
   scram = state_struct side.progress side.state;
 }
 
--- or none does
-unfoldable pub HasNoStruct : Side State → Type 0
-HasNoStruct side = (512 < length side.held) ⊎ ((scram : ScramStruct) → ¬ ShowsState scram side.progress side.state)
-
 -- the structs are those of this side, whose frames have at most 512 bytes (part 5, section 5.3.1)
-unfoldable pub IsServer : Config → Struct → Side State → Type 0
+unfoldable pub IsServer : Config → Struct → Side Logged → Type 0
 IsServer config server side = ShowsSide server side × (side.limit ≡ 512) × ServerIsReached config side.progress side.state
 
 -- the words of a configuration are not UTF-8: the user's name, or otherwise the peer's, or otherwise the identities
@@ -343,8 +227,7 @@ config_tests config = (statuses.NoSuchMechanism, (choice : Choice) → sum_of ch
 unfoldable pub IsNoConfig : Config → Status → Type 0
 IsNoConfig config status = IsFirst (config_tests config) status
     ⊎ (NoneHolds (config_tests config) × (status ≡ statuses.NoSuchMechanism)
-    × ((exchange : KeptExchange) × (server : Replying) × IsOf config exchange server
-    × (password_names server.inner ≡ [])))
+    × ((settings : ServerSettings) × AreSettings config settings × (offers_any settings ≡ false)))
 
 -- why the structs are those of no side that expects more bytes: the tests of the connection, those of the configuration, and last
 -- that what was kept is a part of what is expected
@@ -352,7 +235,7 @@ unfoldable pub IsNoServer : Config → Struct → Status → Type 0
 IsNoServer config server status = IsFirst (side_tests server.connection) status
     ⊎ (NoneHolds (side_tests server.connection) × (IsNoConfig config status
     ⊎ ((status ≡ statuses.InvalidSnapshot) × KeepsNoPartOf server_due server.connection
-    × ((exchange : KeptExchange) × (kept : Replying) × IsOf config exchange kept))))
+    × ((settings : ServerSettings) × AreSettings config settings))))
 
 -- what a side of a server makes of bytes, by whether it accepts extended headers
 abbrev pub ServerTakes : {S : Type 0} → Bool → (S → List (List ℕ)) → (S → List ℕ → SaslFrame → SaslFrame → S → Type 0)
@@ -362,7 +245,7 @@ ServerTakes accepts names machine = Receives (Reading accepts (ServerSideAnswers
 -- a call answers bytes: between two structs, what the library's side of the connection makes of them, which accepts
 -- extended headers if the struct says so
 unfoldable pub Received : Config → List ℕ → List ℕ → Struct → Struct → ℕ → List ℕ → Type 0
-Received config bytes nonce before after taken sent = (side next : Side State) × IsServer config before side
+Received config bytes nonce before after taken sent = (side next : Side Logged) × IsServer config before side
     × (side.progress ≡ InProgress)
     × ServerTakes (accepts_extended before.connection) server_names server_machine side bytes nonce taken sent next
     × IsServer config after next × (after ≡ side_struct (accepts_extended before.connection) next)
@@ -370,7 +253,7 @@ Received config bytes nonce before after taken sent = (side next : Side State) �
 -- or it does not, because the structs are those of no side, or no struct is that of the side after the call
 unfoldable pub NotReceived : Config → List ℕ → List ℕ → Struct → Status → Type 0
 NotReceived config bytes nonce before status = IsNoServer config before status
-    ⊎ ((status ≡ statuses.TooLong) × ((side next : Side State) × (taken : ℕ) × (sent : List ℕ)
+    ⊎ ((status ≡ statuses.TooLong) × ((side next : Side Logged) × (taken : ℕ) × (sent : List ℕ)
     × IsServer config before side × (side.progress ≡ InProgress)
     × ServerTakes (accepts_extended before.connection) server_names server_machine side bytes nonce taken sent next
     × ((other : Struct) → ¬ IsServer config other next)))
@@ -386,7 +269,7 @@ ReceivesAsServer config bytes nonce before after taken (Err status) = NotReceive
 -- the user that the initial response names
 abbrev pub AnswerNames : ScramStruct → List ℕ → List ℕ → Type 0
 AnswerNames scram text name = ((challenge : ServerChallenge) × IsOpen scram challenge × (name ≡ challenge.user))
-    ⊎ ((init : PendingInit) × HasAsked scram init × ClaimsUser init.mechanism text name)
+    ⊎ ((way : Way) × (nonce : List ℕ) × HasAsked scram way nonce × ClaimsUser (way_name way) text name)
 
 -- a frame in turn names this user: an init, or a response
 abbrev pub FrameNames : ScramStruct → FrameKind → SaslFrame → List ℕ → Type 0
@@ -411,7 +294,7 @@ ResponseAsks mechanism None = ⊥
 -- and for a response: where a challenge is open, or for an initial response
 abbrev pub AnswerNeedsMemory : ScramStruct → List ℕ → Type 0
 AnswerNeedsMemory scram text = ((challenge : ServerChallenge) × IsOpen scram challenge)
-    ⊎ ((init : PendingInit) × HasAsked scram init × ClaimAllocates init.mechanism text)
+    ⊎ ((way : Way) × (nonce : List ℕ) × HasAsked scram way nonce × ClaimAllocates (way_name way) text)
 
 -- and for a frame in turn: an init, or a response
 abbrev pub FrameAsks : ScramStruct → FrameKind → SaslFrame → Type 0
@@ -449,18 +332,35 @@ Names server bytes (Err status) = NotNamed server bytes status
 
 -- ---- the code's values
 
--- what a value replies by
-abbrev pub replying_of : WithExtraChallenges PasswordServer → Replying
-replying_of = extended_of password_state
+-- the side that a value is
+abbrev pub side_in : ServerConnectionSide LoggedServer → Side Logged
+side_in server = server_side state_of server
 
--- the state that a value is
-abbrev pub state_of : LoggedServer → State
-state_of logged = record {
-  server = replying_of logged.server;
-  known = password_known logged.server.acceptor;
-  rejection = logged.rejection;
+-- the options are those of a configuration with this choice, where PLAIN tests passwords against the records of this hash, and
+-- this user may act for these identities
+abbrev pub HasOptions : Config → Choice → ScramVersion → List ℕ → List ℕ → ServerOptions → Type 0
+HasOptions config choice version user identities options = options ≡ record {
+  mechanisms = record {
+    scram_sha_512 = choice.sha_512;
+    scram_sha_256 = choice.sha_256;
+    scram_sha_1 = choice.sha_1;
+    plain = choice.plain;
+    anonymous = choice.anonymous;
+    external = choice.external;
+  };
+  mock = None;
+  rights = rights_for user identities;
+  accept_authzid = is_set config.accept_authzid;
+  strict = choice.strict;
+  reject_misplaced = choice.reject_misplaced;
+  accept_cbind_flag_y = choice.cbind_flag_y;
+  plain_version = version;
+  plain_iterations = Some config.iterations;
+  plain_passwords = choice.passwords;
+  extra_challenges = extra_for choice;
 }
 
--- the side that a value is
-abbrev pub side_in : ServerConnectionSide LoggedServer → Side State
-side_in server = server_side state_of server
+-- what a server borrows is that of a configuration, and has no mock records: these are passed as records
+abbrev pub IsPrepared : Config → Prepared → Type 0
+IsPrepared config prepared = let settings = settings_with prepared.records prepared.options prepared.transport in
+    AreSettings config settings × (settings.mock ≡ None)

@@ -1,7 +1,6 @@
 -- A SCRAM server that is kept in a struct of C between its calls (RFC 5802, sections 3 and 5).
 use Rattle.std.specs.Prelude.{true, ◌≡◌, ◌<◌, ◌≤◌, ◌⊎◌, ℕ, List, [], ◌∷◌, length, replicate, take, nat_eq, if◌then◌else◌, Option, Some, None, Result, Ok, Err}
-use Rattle.std.specs.Str.{IsAscii, IsUtf8}
-use Rattle.fe2o3_sasl_wire.specs.FrameView.{shown}
+use Rattle.std.specs.Str.{IsUtf8}
 use Rattle.fe2o3_scram.specs.declared.hmac.ScramVersion.{ScramVersion}
 use Rattle.fe2o3_scram.specs.declared.scram_messages.error.ServerScramErrorKind.{ServerScramErrorKind}
 use Rattle.fe2o3_scram.specs.declared.scram_messages.error.ServerScramErrorKind.TheVariants.{IllegalAuthenticatorState, OutOfMemory}
@@ -14,16 +13,15 @@ use Rattle.fe2o3_scram.specs.declared.scram_messages.channel_binding_flag.Channe
 use Rattle.fe2o3_scram.specs.declared.scram_messages.channel_binding_flag.ChannelBindingFlag.TheVariants.{NotSupported, ClientSupports, Required}
 use Rattle.fe2o3_scram.specs.Credentials.{Store, VersionedRecord, serving}
 use Rattle.fe2o3_scram.specs.Hmac.{zero_filled}
-use Rattle.fe2o3_scram.specs.ScramServer.{ConcludesFrom, ServerFirstSent, ServerFinalSent, challenge_kept, server_against}
+use Rattle.fe2o3_scram.specs.ScramServer.{ConcludesFrom, ServerFirstSent, ServerFinalSent, server_against}
 use Rattle.fe2o3_scram.specs.ServerFinal.{FinalCosts}
 use Rattle.fe2o3_scram.specs.ServerFirst.{AnswersClientFirst, ServerChallenge}
 use Rattle.fe2o3_scram.specs.Texts.{base64_text}
-use Rattle.fe2o3_sasl_core.specs.ExtraChallenges.{Phase, Asking, Idle, Signing, Unconfirmed}
+use Rattle.fe2o3_sasl_core.specs.SavedServers.{KeptStage, KeptNothing, KeptAsked, KeptOpen, KeptSignature, KeptLogin}
+use Rattle.fe2o3_sasl_core.specs.Servers.{way_name}
+use Rattle.fe2o3_sasl_core.specs.declared.server.ways.Way.{Way}
 use Rattle.sasl_c.specs.Acting.{rights_for}
 use Rattle.sasl_c.specs.declared.records.ScramRecord.{ScramRecord as Kept}
-use Rattle.sasl_c.specs.declared.exchange.AskedInit.{AskedInit}
-use Rattle.sasl_c.specs.declared.exchange.ScramExchange.{ScramExchange}
-use Rattle.sasl_c.specs.declared.exchange.ScramExchange.TheVariants as forms
 use Rattle.sasl_c.specs.declared.server.ScramServer.{ScramServer as Struct}
 use Rattle.sasl_c.specs.declared.status.Status.{Status}
 use Rattle.sasl_c.specs.declared.status.Status.TheVariants as statuses
@@ -113,89 +111,32 @@ abbrev pub HasSigned : Struct → List ℕ → Option (List ℕ) → Type 0
 HasSigned server user acts_for = (server.state ≡ 4) × (server.user_len ≤ 256) × (user ≡ take server.user_len server.user)
     × IsUtf8 user × HoldsIdentity server acts_for × IsUtf8 (or_empty acts_for)
 
--- an init that has no initial response, and was answered by an empty challenge (AMQP 1.0, part 5, section 5.3.3.2; RFC
--- 4422, section 5): its mechanism, its hostname, if it has one, and the nonce of 32 bytes that was passed with it
-pub record PendingInit : Type 0 where
-  pub mechanism : List ℕ
-  pub hostname : Option (List ℕ)
-  pub nonce : List ℕ
+-- the struct is that of a server that has asked an init of this mechanism, with this nonce of 32 bytes, for its initial
+-- response (AMQP 1.0, part 5, section 5.3.3.2; RFC 4422, section 5)
+abbrev pub HasAsked : Struct → Way → List ℕ → Type 0
+HasAsked server way nonce = (server.state ≡ 5) × (server.nonce_len ≡ 32) × (nonce ≡ take 32 server.nonce)
+    × (server.first_len ≤ 1024) × (way_name way ≡ take server.first_len server.first)
 
--- the number of a struct that shows such an init
-abbrev pub asked_number : Option (List ℕ) → ℕ
-asked_number None = 5
-asked_number (Some hostname) = 6
+-- the struct is that of a server that has logged this user in, for this identity or for itself. ANONYMOUS has no user
+abbrev pub ShowsUser : Struct → Option (List ℕ) → Option (List ℕ) → Type 0
+ShowsUser server None acts_for = server.state ≡ 0
+ShowsUser server (Some user) acts_for = IsLoggedIn server user acts_for
 
--- the struct shows such an init with this hostname, or with none
-abbrev pub AsksHostname : Struct → Option (List ℕ) → Type 0
-AsksHostname server None = server.state ≡ 5
-AsksHostname server (Some hostname) = (server.state ≡ 6) × (server.bare_len ≤ 1024)
-    × (hostname ≡ take server.bare_len server.bare) × IsUtf8 hostname
+-- the struct is that of a server that has sent its signature to this user, if there is one
+abbrev pub ShowsSigned : Struct → Option (List ℕ) → Option (List ℕ) → Type 0
+ShowsSigned server None acts_for = ⊥
+ShowsSigned server (Some user) acts_for = HasSigned server user acts_for
 
--- the struct is that of a server that has asked this init for its initial response
-abbrev pub HasAsked : Struct → PendingInit → Type 0
-HasAsked server init = AsksHostname server init.hostname × (server.nonce_len ≡ 32) × (init.nonce ≡ take 32 server.nonce)
-    × (server.first_len ≤ 1024) × (init.mechanism ≡ take server.first_len server.first) × IsAscii init.mechanism
-
--- what a server keeps of a login that is not complete: nothing, an open challenge of SCRAM with its hash, the user to
--- which it has sent its signature in a challenge, with the identity that it acts for, or the init that it has asked for its
--- initial response
-pub data KeptExchange : Type 0 where
-  NothingKept : KeptExchange
-  ChallengeOpen : (version : ScramVersion) → (challenge : ServerChallenge) → KeptExchange
-  SignatureSent : (user : List ℕ) → (acts_for : Option (List ℕ)) → KeptExchange
-  InitialResponseAsked : (init : PendingInit) → KeptExchange
-
--- the struct shows that a server keeps this
-abbrev pub ShowsExchange : Struct → KeptExchange → Type 0
-ShowsExchange server NothingKept =
+-- the struct shows how far a login has come. By which mechanism a signature was sent or a user logged in it does not say
+abbrev pub ShowsStage : Struct → KeptStage → Type 0
+ShowsStage server KeptNothing =
     ((version : ScramVersion) (challenge : ServerChallenge) → ¬ IsOpenBy server version challenge)
     × ((user : List ℕ) (acts_for : Option (List ℕ)) → ¬ HasSigned server user acts_for)
-    × ((init : PendingInit) → ¬ HasAsked server init)
-ShowsExchange server (ChallengeOpen version challenge) = IsOpenBy server version challenge
-ShowsExchange server (SignatureSent user acts_for) = HasSigned server user acts_for
-ShowsExchange server (InitialResponseAsked init) = HasAsked server init
-
--- the mechanism of an init that was asked is ASCII
-abbrev pub AsksInAscii : KeptExchange → Type 0
-AsksInAscii (InitialResponseAsked init) = IsAscii init.mechanism
-AsksInAscii exchange = Unit {0}
-
--- an open challenge with its hash, if there is one, as what a server keeps
-abbrev pub open_exchange : Option (ScramVersion × ServerChallenge) → KeptExchange
-open_exchange None = NothingKept
-open_exchange (Some shown) = ChallengeOpen shown.0 shown.1
-
--- and the user to whom the signature was sent, if there is one, with the identity that it acts for
-abbrev pub signed_exchange : Option (List ℕ) → Option (List ℕ) → KeptExchange
-signed_exchange None acts_for = NothingKept
-signed_exchange (Some user) acts_for = SignatureSent user acts_for
-
--- what a server keeps in this phase, with this open challenge, this user and this identity
-abbrev pub exchange_in : Phase → Option (ScramVersion × ServerChallenge) → Option (List ℕ) → Option (List ℕ)
-    → KeptExchange
-exchange_in Signing opened user acts_for = signed_exchange user acts_for
-exchange_in (Asking mechanism hostname nonce) opened user acts_for = InitialResponseAsked (record {
-  mechanism = mechanism;
-  hostname = hostname;
-  nonce = nonce;
-})
-exchange_in phase opened user acts_for = open_exchange opened
-
--- the phase in which a server is restored that keeps this
-abbrev pub phase_for : KeptExchange → Phase
-phase_for (SignatureSent user acts_for) = Signing
-phase_for (InitialResponseAsked init) = Asking init.mechanism init.hostname init.nonce
-phase_for exchange = Idle
-
--- an init is asked for its initial response
-abbrev pub IsAsking : Phase → Type 0
-IsAsking phase = (init : PendingInit) × (phase ≡ Asking init.mechanism init.hostname init.nonce)
-
--- a server whose acceptor keeps this of SCRAM is in this phase: an init may have been asked after it
-abbrev pub IsPhaseOf : KeptExchange → Phase → Type 0
-IsPhaseOf (SignatureSent user acts_for) phase = (phase ≡ Signing) ⊎ IsAsking phase
-IsPhaseOf (InitialResponseAsked init) phase = phase ≡ Asking init.mechanism init.hostname init.nonce
-IsPhaseOf exchange phase = (phase ≡ Idle) ⊎ ((phase ≡ Unconfirmed) ⊎ IsAsking phase)
+    × ((way : Way) (nonce : List ℕ) → ¬ HasAsked server way nonce)
+ShowsStage server (KeptAsked way nonce) = HasAsked server way nonce
+ShowsStage server (KeptOpen version challenge) = IsOpenBy server version challenge
+ShowsStage server (KeptSignature login) = ShowsSigned server login.user login.acts_for
+ShowsStage server (KeptLogin login) = ShowsUser server login.user login.acts_for
 
 -- ---- the structs that calls write: every field that a state does not name is zero, and so is each byte after a length
 
@@ -270,35 +211,36 @@ authenticated_struct user acts_for = named_struct 2 user acts_for
 abbrev pub signed_struct : List ℕ → Option (List ℕ) → Struct
 signed_struct user acts_for = named_struct 4 user acts_for
 
--- an init whose mechanism is ASCII, and whose texts have room in a struct
-abbrev pub HasRoomForInit : PendingInit → Type 0
-HasRoomForInit init = IsAscii init.mechanism × (length init.mechanism ≤ 1024) × (length (or_empty init.hostname) ≤ 1024)
-
--- of one that has asked this init for its initial response: the hostname is where the client-first message is
--- otherwise, and the mechanism where the server-first message is
-abbrev pub asked_struct : PendingInit → Struct
-asked_struct init = record {
-  state = asked_number init.hostname;
+-- of one that has asked an init for its initial response: the mechanism's name is where the server-first message is otherwise
+abbrev pub asked_struct : Way → List ℕ → Struct
+asked_struct way nonce = record {
+  state = 5;
   version = 0;
   user_len = 0;
-  bare_len = length (or_empty init.hostname);
+  bare_len = 0;
   nonce_len = 32;
-  first_len = length init.mechanism;
+  first_len = length (way_name way);
   acts_for_len = 0;
   rejection = 0;
   user = replicate 256 0;
-  bare = zero_filled 1024 (or_empty init.hostname);
-  nonce = zero_filled 512 init.nonce;
-  first = zero_filled 1024 init.mechanism;
+  bare = replicate 1024 0;
+  nonce = zero_filled 512 nonce;
+  first = zero_filled 1024 (way_name way);
   acts_for = replicate 256 0;
 }
 
--- of one that keeps this
-abbrev pub exchange_struct : KeptExchange → Struct
-exchange_struct NothingKept = fresh_server_struct
-exchange_struct (ChallengeOpen version challenge) = open_struct (version_number version) challenge
-exchange_struct (SignatureSent user acts_for) = signed_struct user acts_for
-exchange_struct (InitialResponseAsked init) = asked_struct init
+-- of one that keeps a user in the state of this number, if there is one
+abbrev pub struct_where : ℕ → Option (List ℕ) → Option (List ℕ) → Struct
+struct_where state None acts_for = fresh_server_struct
+struct_where state (Some user) acts_for = named_struct state user acts_for
+
+-- of one whose login has come this far
+abbrev pub stage_struct : KeptStage → Struct
+stage_struct KeptNothing = fresh_server_struct
+stage_struct (KeptAsked way nonce) = asked_struct way nonce
+stage_struct (KeptOpen version challenge) = open_struct (version_number version) challenge
+stage_struct (KeptSignature login) = struct_where 4 login.user login.acts_for
+stage_struct (KeptLogin login) = struct_where 2 login.user login.acts_for
 
 -- ---- what the calls return (RFC 5802, section 5), and the struct after them
 
@@ -412,16 +354,3 @@ TellsIdentity server (Ok name) = (user : List ℕ) × (acts_for : Option (List �
     × (name ≡ or_empty acts_for)
 TellsIdentity server (Err status) = (status ≡ server_status IllegalAuthenticatorState)
     × ((user : List ℕ) (acts_for : Option (List ℕ)) → ¬ IsLoggedIn server user acts_for)
-
--- ---- the code's values
-
--- the init that a value is
-abbrev pub init_shown : AskedInit → PendingInit
-init_shown init = record { mechanism = init.mechanism.now; hostname = shown init.hostname; nonce = init.nonce }
-
--- what a server keeps that a value is
-abbrev pub exchange_shown : ScramExchange → KeptExchange
-exchange_shown forms.NothingKept = NothingKept
-exchange_shown (forms.ChallengeOpen version challenge) = ChallengeOpen version (challenge_kept challenge)
-exchange_shown (forms.SignatureSent user acts_for) = SignatureSent user.now (shown acts_for)
-exchange_shown (forms.InitialResponseAsked init) = InitialResponseAsked (init_shown init)

@@ -20,7 +20,9 @@ use Rattle.sasl_c.specs.declared.status.Status.{Status}
 use Rattle.sasl_c.specs.declared.status.Status.TheVariants as statuses
 use Rattle.sasl_c.specs.Connection.{closed_status, frame_status, profile_status}
 use Rattle.sasl_c.specs.SaslClient.{ProfileIsReached, HasNoHostname, IsHostname, IsNoProfile, IsProfile, WritesProfile}
-use Rattle.sasl_c.specs.SaslServer.{BodyNames, BodyNamesNoUser, ServerIsReached as ConfigReached, IsNoConfig, ShowsState, State, server_machine, server_names, state_struct}
+use Rattle.fe2o3_sasl_core.specs.Servers.{ServerSettings, sasl_names}
+use Rattle.sasl_c.specs.Rejections.{Logged, server_machine}
+use Rattle.sasl_c.specs.SaslServer.{AreSettings, BodyNames, BodyNamesNoUser, ServerIsReached as ConfigReached, IsNoConfig, ShowsState, state_struct}
 use Rattle.sasl_c.specs.Status.{status_number}
 
 -- the progress of a login after an outcome of this code (part 5, section 5.3.3.6)
@@ -93,14 +95,15 @@ ClientSteps login event before after progress (Err status) = ClientNotStepped lo
 -- ---- a server
 
 -- the struct is that of this server of a configuration, with this progress of its login
-abbrev pub ConfigServes : Config → ServerStruct → Progress → State → Type 0
+abbrev pub ConfigServes : Config → ServerStruct → Progress → Logged → Type 0
 ConfigServes config scram stands server = ConfigReached config stands server × ShowsState scram stands server
 
 -- the body with which a server offers its mechanisms (part 5, section 5.3.3.1), or why there is none
 abbrev pub ConfigOffers : Config → Result (List ℕ) Status → Type 0
-ConfigOffers config (Ok body) = (server : State) × ConfigReached config InProgress server × (offer_body (server_names server) ≡ Some body)
+ConfigOffers config (Ok body) = (settings : ServerSettings) × AreSettings config settings
+    × (offer_body (sasl_names settings) ≡ Some body)
 ConfigOffers config (Err status) = IsNoConfig config status ⊎ ((status ≡ statuses.FrameTooLarge)
-    × ((server : State) × ConfigReached config InProgress server × (offer_body (server_names server) ≡ None)))
+    × ((settings : ServerSettings) × AreSettings config settings × (offer_body (sasl_names settings) ≡ None)))
 
 -- what a reply sends: a challenge and an outcome are sent
 abbrev pub ServerTells : ServerSays → List ℕ → Progress → Type 0
@@ -132,16 +135,16 @@ NotStepped {A} state machine shows server event status = (next : A) × (says : S
 
 -- a step between two structs: the one that the library's acceptor of the configuration makes over the body
 unfoldable pub ServerStepped : Config → Given → ServerStruct → ServerStruct → ℕ → List ℕ → Type 0
-ServerStepped config event before after progress sent = (server : State) × (stands : Progress)
+ServerStepped config event before after progress sent = (server : Logged) × (stands : Progress)
     × ConfigServes config before InProgress server
-    × IsStepped (λ (next : State). next) server_machine (ConfigServes config) state_struct server event after stands sent
+    × IsStepped (λ (next : Logged). next) server_machine (ConfigServes config) state_struct server event after stands sent
     × (progress ≡ progress_number stands)
 
 -- or none: the configuration has no acceptor, or it makes none
 unfoldable pub ServerNotStepped : Config → Given → ServerStruct → Status → Type 0
 ServerNotStepped config event before status = IsNoConfig config status
-    ⊎ ((server : State) × ConfigServes config before InProgress server
-    × NotStepped (λ (next : State). next) server_machine (ConfigServes config) server event status)
+    ⊎ ((server : Logged) × ConfigServes config before InProgress server
+    × NotStepped (λ (next : Logged). next) server_machine (ConfigServes config) server event status)
 
 -- the result of a body for a call
 abbrev pub ServerSteps : Config → Given → ServerStruct → ServerStruct → ℕ → Result (List ℕ) Status → Type 0

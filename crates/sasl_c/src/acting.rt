@@ -10,7 +10,6 @@ ghost use Rattle.sasl_c.specs.declared.status.Status.TheVariants.{OutOfMemory as
 use crate::status::Status;
 use fe2o3_scram::ActingRights;
 use std::alloc::Global;
-use std::sync::Arc;
 
 /// Returns whether a user may act for an identity: the user's own name, or one of a text, in which a zero byte is after
 /// each. `None` is a client that acts for itself, which each user may.
@@ -35,20 +34,13 @@ fn has_identity(identities: &[u8], name: &[u8]) -> bool
 }
 
 /// Returns the rights of a user to the identities of a text. `OutOfMemory` is the only error.
-pub fn acting_rights(
-    alloc: Global,
-    user: &str,
-    identities: &str,
-) -> Result<Arc<ActingRights>, Status>
-    ensures ok { IfOk result (λ rights. rights.value ≡ rights_for user.now identities.now) }
+pub fn acting_rights(alloc: Global, user: &str, identities: &str) -> Result<ActingRights, Status>
+    ensures ok { IfOk result (λ rights. rights ≡ rights_for user.now identities.now) }
     ensures err { IfErr result (λ status. status ≡ StatusOutOfMemory) }
 {
     let mut rights = ActingRights::new(alloc);
     for identity in identities.split('\0') {
         rights.allow(alloc, user, identity)?;
     }
-    match Arc::new(alloc, rights) {
-        Ok(rights) => Ok(rights),
-        Err(_) => Err(Status::OutOfMemory),
-    }
+    Ok(rights)
 }

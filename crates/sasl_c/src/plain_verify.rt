@@ -189,7 +189,10 @@ fn server_for(
     ensures err { IfErr result (λ status. status ≡ StatusOutOfMemory) }
 {
     let rights = match acting_rights(alloc, username, terms.identities) {
-        Ok(rights) => rights,
+        Ok(rights) => match Arc::new(alloc, rights) {
+            Ok(rights) => rights,
+            Err(_) => return Err(Status::OutOfMemory),
+        },
         Err(status) => return Err(status),
     };
     match store_for(alloc, username, records) {

@@ -1,17 +1,13 @@
 //! The library's server of a configuration, which keeps why its last reply rejects the login.
 
-ghost use Rattle.std.specs.Prelude.{◌≡◌};
-ghost use Rattle.std.proofs.Common.{ap};
-ghost use Rattle.fe2o3_sasl_core.specs.ExtraChallenges.{extended_allocates, extended_hmacs, extended_user, phase_of};
-ghost use Rattle.fe2o3_sasl_core.specs.PasswordServer.{PasswordKnown, password_acting, password_allocates, password_hmacs, password_known, password_names, password_state, password_user};
-ghost use Rattle.fe2o3_sasl_core.specs.SaslAcceptor.{reason_in};
-ghost use Rattle.sasl_c.specs.Rejections.{reason_number, rejection_number};
-ghost use Rattle.sasl_c.specs.SaslServer.{State, replying_reasons, server_machine, server_names, state_of};
+ghost use Rattle.std.specs.Prelude.{◌≡◌, option_map};
+ghost use Rattle.std.proofs.Common.{ap, refl};
+ghost use Rattle.fe2o3_sasl_core.specs.Servers.{rejection_of_server, sasl_acting, sasl_allocates, sasl_hmacs, sasl_reasons, sasl_server, sasl_user};
+ghost use Rattle.sasl_c.specs.Rejections.{Logged, reason_number, rejection_number, server_machine, server_names, state_of};
 
 use crate::status::server_number;
 use fe2o3_sasl_core::{
-    AuthenticatedUser, OutOfMemory, PasswordServer, Rejection, SaslAcceptor, SaslServerFrame,
-    WithExtraChallenges,
+    AuthenticatedUser, OutOfMemory, Rejection, SaslAcceptor, SaslServerFrame, Server,
 };
 use fe2o3_sasl_wire::{Array, SaslInit, SaslResponse, Symbol};
 use fe2o3_scram::Meter;
@@ -49,53 +45,24 @@ pub fn rejection_number(rejection: Option<Rejection>) -> u32
     }
 }
 
-/// Returns the reason of a reply, if it rejects the login.
-fn rejection_of(reply: &SaslServerFrame) -> Option<Rejection>
-    ensures { result ≡ reason_in reply.now }
-{
-    match reply {
-        SaslServerFrame::Rejected(reason) => Some(*reason),
-        SaslServerFrame::Challenge(_) | SaslServerFrame::Outcome(_) => None,
-    }
-}
-
-/// What replies.
-type Replying = WithExtraChallenges<PasswordServer>;
-
-/// The library's server of a configuration. It replies as the server that it holds, and keeps why its last reply rejects
-/// the login.
+/// A server whose state has the reason for which its last reply rejects the login.
 #[derive(Drop)]
-pub struct LoggedServer {
-    pub server: Replying,
-    pub rejection: Option<Rejection>,
+pub struct LoggedServer<'a> {
+    pub server: Server<'a>,
 }
 
-impl LoggedServer {
-    /// Returns the server before its first reply.
-    pub fn new(server: Replying) -> LoggedServer
-        ensures { result ≡ record { server = server; rejection = None } }
-    {
-        LoggedServer {
-            server,
-            rejection: None,
-        }
-    }
-}
-
-impl Clone for LoggedServer {
-    ghost is_clone = { λ logged copy. ⟦<Replying as Clone>⟧.is_clone logged.server copy.server
-        × (copy.rejection ≡ logged.rejection) };
+impl Clone for LoggedServer<'_> {
+    ghost is_clone = { λ logged copy. state_of copy ≡ state_of logged };
 
     fn clone(&self) -> Result<Self, AllocError> {
         Ok(Self {
             server: self.server.clone()?,
-            rejection: self.rejection,
         })
     }
 }
 
-impl SaslAcceptor for LoggedServer {
-    ghost State = { State };
+impl SaslAcceptor for LoggedServer<'_> {
+    ghost State = { Logged };
 
     ghost state = { state_of };
 
@@ -103,19 +70,19 @@ impl SaslAcceptor for LoggedServer {
 
     ghost machine = { server_machine };
 
-    ghost Known = { PasswordKnown };
+    ghost Known = { Unit {0} };
 
-    ghost known = { λ logged. password_known logged.server.acceptor };
+    ghost known = { λ _. tt };
 
-    ghost reasons = { λ known logged frame reason. replying_reasons known logged.server frame reason };
+    ghost reasons = { λ _ logged. sasl_reasons logged.server };
 
-    ghost allocates = { λ logged frame. extended_allocates password_names password_allocates logged.server frame };
+    ghost allocates = { λ logged. sasl_allocates logged.server };
 
-    ghost hmacs = { λ logged frame n. extended_hmacs password_names password_hmacs logged.server frame n };
+    ghost hmacs = { λ logged. sasl_hmacs logged.server };
 
-    ghost clone_keeps = { λ logged copy same. cc };
+    ghost clone_keeps = { λ logged copy same. same };
 
-    ghost clone_knows = { λ logged copy same. cc };
+    ghost clone_knows = { λ logged copy same. refl };
 
     fn mechanisms(&self, alloc: Global) -> Result<Array<Symbol>, OutOfMemory> {
         self.server.mechanisms(alloc)
@@ -127,7 +94,7 @@ impl SaslAcceptor for LoggedServer {
         init: SaslInit,
         nonce: &[u8; 32],
     ) -> Result<SaslServerFrame, OutOfMemory> {
-        self.on_init_metered(alloc, init, nonce, &mut Meter::new())
+        self.server.on_init(alloc, init, nonce)
     }
 
     fn on_response(
@@ -135,7 +102,7 @@ impl SaslAcceptor for LoggedServer {
         alloc: Global,
         response: SaslResponse,
     ) -> Result<SaslServerFrame, OutOfMemory> {
-        self.on_response_metered(alloc, response, &mut Meter::new())
+        self.server.on_response(alloc, response)
     }
 
     fn on_init_metered(
@@ -145,9 +112,7 @@ impl SaslAcceptor for LoggedServer {
         nonce: &[u8; 32],
         meter: &mut Meter,
     ) -> Result<SaslServerFrame, OutOfMemory> {
-        let reply = self.server.on_init_metered(alloc, init, nonce, meter)?;
-        self.rejection = rejection_of(&reply);
-        Ok(reply)
+        self.server.on_init_metered(alloc, init, nonce, meter)
     }
 
     fn on_response_metered(
@@ -156,22 +121,18 @@ impl SaslAcceptor for LoggedServer {
         response: SaslResponse,
         meter: &mut Meter,
     ) -> Result<SaslServerFrame, OutOfMemory> {
-        let reply = self.server.on_response_metered(alloc, response, meter)?;
-        self.rejection = rejection_of(&reply);
-        Ok(reply)
+        self.server.on_response_metered(alloc, response, meter)
     }
 }
 
-impl AuthenticatedUser for LoggedServer {
-    ghost named = { λ logged. ⟦<Replying as AuthenticatedUser>⟧.named logged.server };
+impl AuthenticatedUser for LoggedServer<'_> {
+    ghost named = { λ logged. sasl_user (sasl_server logged.server) };
 
-    ghost acting = { λ logged. ⟦<Replying as AuthenticatedUser>⟧.acting logged.server };
+    ghost acting = { λ logged. sasl_acting (sasl_server logged.server) };
 
-    ghost named_by_state = { λ logged other same.
-        ap (λ (s : State). extended_user s.server.phase (password_user s.server.inner)) same };
+    ghost named_by_state = { λ logged other same. ap (λ (s : Logged). sasl_user s.server) same };
 
-    ghost acting_by_state = { λ logged other same.
-        ap (λ (s : State). extended_user s.server.phase (password_acting s.server.inner)) same };
+    ghost acting_by_state = { λ logged other same. ap (λ (s : Logged). sasl_acting s.server) same };
 
     fn authenticated_user(&self) -> Option<&str> {
         self.server.authenticated_user()

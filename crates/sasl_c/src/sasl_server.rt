@@ -1,20 +1,16 @@
 //! The server's side of a connection, as a struct between its calls.
 
-ghost use Rattle.std.specs.Prelude.{[], false, ◌≡◌, ◌≢◌, ◌<◌, ◌≤◌, ◌⊎◌, ◌+◌, ◌^◌, ℕ, List, Option, length, option_map, IfOk, IfErr, IfSome, OnErr, OnOk, MatchOption, MatchResult};
+ghost use Rattle.std.specs.Prelude.{◌≡◌, ◌≢◌, ◌<◌, ◌≤◌, ◌⊎◌, ◌+◌, ◌^◌, ℕ, List, IfOk, IfErr, IfSome, OnErr, OnOk, MatchOption, MatchResult, length};
 ghost use Rattle.std.specs.Str.{IsUtf8};
-ghost use Rattle.fe2o3_scram.specs.Credentials.{kept};
 ghost use Rattle.fe2o3_scram.specs.Mixed.{MultiRecords};
 ghost use Rattle.fe2o3_scram.specs.Readings.{NoneHolds};
-ghost use Rattle.fe2o3_sasl_core.specs.ExtraChallenges.{phase_of};
-ghost use Rattle.fe2o3_sasl_core.specs.PasswordServer.{password_known, password_known_for, password_names, password_server, password_state};
-ghost use Rattle.fe2o3_sasl_core.specs.declared.password_server.builder.BuildError.TheVariants.{NoMechanism as BuildNoMechanism, SaltTooLong as BuildSaltTooLong};
+ghost use Rattle.fe2o3_sasl_core.specs.Servers.{offers_any, sasl_server, settings_with};
 ghost use Rattle.fe2o3_sasl_negotiation.specs.declared.progress.Progress.TheVariants.{InProgress};
 ghost use Rattle.fe2o3_sasl_negotiation.specs.Snapshot.{IsServerKept, side_of};
 ghost use Rattle.fe2o3_sasl_negotiation.specs.Sides.{ServerConnectionSide, extended_in, server_side};
-ghost use Rattle.sasl_c.specs.Acting.{rights_for};
+ghost use Rattle.sasl_c.specs.Rejections.{state_of};
 ghost use Rattle.sasl_c.specs.Rules.{channels_of};
-ghost use Rattle.sasl_c.specs.SaslServer.{AddsRecord, HasNoServerWords, HasNone, IsNoConfig, NoRecordIsUnmet, NotReceived, Received, ReceivesAsServer, ServerIsReached, ServerTakes, ShowRecords, ShowsBy, ShowsState, config_tests, extra_for, record_for, saved_for, settings_for, state_of, struct_by, sum_of, version_of_first};
-ghost use Rattle.sasl_c.specs.Server.{exchange_shown, phase_for};
+ghost use Rattle.sasl_c.specs.SaslServer.{AddsRecord, AreSettings, HasNoServerWords, HasNone, IsNoConfig, IsPrepared, NotReceived, Received, ReceivesAsServer, RestoresStage, HasOptions, ServerTakes, ShowRecords, ShowsBy, config_tests, extra_for, settings_for, struct_by, sum_of, version_of_first};
 ghost use Rattle.sasl_c.specs.declared.sasl_server.Choice.{Choice as Choices};
 ghost use Rattle.sasl_c.specs.Connection.{side_tests};
 ghost use Rattle.sasl_c.specs.Status.{AnswersText, AsksText, AsksWhere, FillsWithin};
@@ -24,7 +20,6 @@ ghost use Rattle.sasl_c.specs.declared.status.WriteError.TheVariants.{RoomTooSma
 use crate::acting::acting_rights;
 use crate::arrays::put;
 use crate::connection::Connection;
-use crate::exchange::ScramExchange;
 use crate::flags::{is_set, split, split_passwords};
 use crate::records::ScramRecord;
 use crate::rejections::LoggedServer;
@@ -34,16 +29,12 @@ use crate::shows::Shows;
 use crate::status::{Status, WriteError, text, text_number};
 use bytes::BytesMut;
 use fe2o3_sasl_core::{
-    AuthenticatedUser, BuildError, ChallengePhase, ExtraChallenges, PasswordServer,
-    PasswordServerBuilder, PlainPasswords, ScramHashes, WithExtraChallenges,
+    AuthenticatedUser, ExtraChallenges, Mechanisms, PlainPasswords, Server, ServerOptions,
+    Transport,
 };
 use fe2o3_sasl_negotiation::{RestoreError, ServerNegotiation, Snapshot};
-use fe2o3_scram::{
-    ActingRights, ChannelBindings, Meter, MultiRecordStore, ScramCredentialProvider, ScramVersion,
-    StoredPassword,
-};
+use fe2o3_scram::{Meter, MultiRecordStore, ScramVersion};
 use std::alloc::Global;
-use std::sync::Arc;
 
 /// What a server offers, and the records of one user. You lend the struct to each call.
 #[repr(C)]
@@ -186,42 +177,75 @@ impl Choice {
         }
     }
 
-    /// The hashes of SCRAM.
-    fn hashes(self) -> ScramHashes
-        ensures { result ≡ record { sha_512 = self.sha_512; sha_256 = self.sha_256; sha_1 = self.sha_1 } }
+    /// The mechanisms.
+    fn mechanisms(self) -> Mechanisms
+        ensures { result ≡ record {
+          scram_sha_512 = self.sha_512;
+          scram_sha_256 = self.sha_256;
+          scram_sha_1 = self.sha_1;
+          plain = self.plain;
+          anonymous = self.anonymous;
+          external = self.external;
+        } }
     {
-        ScramHashes {
-            sha_512: self.sha_512,
-            sha_256: self.sha_256,
-            sha_1: self.sha_1,
+        Mechanisms {
+            scram_sha_512: self.sha_512,
+            scram_sha_256: self.sha_256,
+            scram_sha_1: self.sha_1,
+            plain: self.plain,
+            anonymous: self.anonymous,
+            external: self.external,
         }
     }
 }
 
-/// The record of a user for a hash, or one without keys if there is none.
-#[tactic(auto, using(crate::proofs::SaslServerLemmas::never_met))]
-fn record_for<'a>(
-    store: &'a MultiRecordStore,
-    version: ScramVersion,
-    username: &str,
-) -> StoredPassword<'a>
-    ensures record { kept result ≡ record_for store.now version username.now }
-    ensures unmet { NoRecordIsUnmet }
-{
-    match store.for_version(version).get_stored_password(username) {
-        Some(stored) => stored,
-        None => NO_RECORD,
-    }
+/// What a server of a configuration borrows.
+#[derive(Drop)]
+pub struct Prepared<'a> {
+    records: MultiRecordStore,
+    options: ServerOptions,
+    transport: Transport<'a>,
 }
 
-/// A record without keys, which no proof meets (clause `unmet` of `record_for`). It is passed where the configuration
-/// has no record of the challenge's user: the open challenge has to survive a call that completes no frame.
-const NO_RECORD: StoredPassword<'static> = StoredPassword {
-    salt: &[],
-    iterations: 0,
-    stored_key: &[],
-    server_key: &[],
-};
+impl Prepared<'_> {
+    /// Whether the server offers a mechanism.
+    fn offers_any(&self) -> bool
+        ensures { result ≡ offers_any (settings_with self.now.records self.now.options self.now.transport) }
+    {
+        Server::new(&self.records, &self.options, self.transport).offers_any()
+    }
+
+    /// The server before any init.
+    pub fn fresh(&self) -> LoggedServer<'_>
+        ensures { (sasl_server result.server).settings
+            ≡ settings_with self.now.records self.now.options self.now.transport }
+    {
+        LoggedServer {
+            server: Server::new(&self.records, &self.options, self.transport),
+        }
+    }
+
+    /// The server that continues what the struct of SCRAM keeps of a login. It has no mock records, so that no HMAC value is
+    /// made. `OutOfMemory` is the only error.
+    pub fn restored(&self, alloc: Global, scram: &ScramServer) -> Result<LoggedServer<'_>, Status>
+        ensures settings { IfOk result (λ made. (sasl_server made.server).settings
+            ≡ settings_with self.now.records self.now.options self.now.transport) }
+        ensures stage { IfOk result (λ made. RestoresStage scram.now (sasl_server made.server)) }
+        ensures err { IfErr result (λ status. status ≡ StatusOutOfMemory) }
+    {
+        let saved = scram.saved_stage();
+        let server = Server::restore(
+            alloc,
+            &self.records,
+            &self.options,
+            self.transport,
+            &saved,
+            None,
+            &mut Meter::new(),
+        )?;
+        Ok(LoggedServer { server })
+    }
+}
 
 /// Adds the record of a struct for a user, if it shows one. `OutOfMemory` is the only error.
 fn add_record(
@@ -272,60 +296,29 @@ impl SaslServerConfig<'_> {
         ScramVersion::Sha256
     }
 
-    /// The library's server of these settings, which continues what was kept of a login.
-    fn server(
+    /// The options of a server with this choice, this hash of PLAIN's records and these rights.
+    fn options(
         &self,
         alloc: Global,
         choice: Choice,
-        store: &MultiRecordStore,
         version: ScramVersion,
-        external: &str,
-        channels: Option<ChannelBindings>,
-        rights: &Arc<ActingRights>,
-        exchange: &ScramExchange<'_>,
-    ) -> Result<PasswordServer, BuildError>
-        requires channels { channels ≡ channels_of self.now.channels }
-        requires version { version ≡ version_of_first store.now }
-        requires external { external.now ≡ self.now.external_authcid.now }
-        requires rights { rights.now.value ≡ rights_for self.now.username.now self.now.identities.now }
-        ensures ok { IfOk result (λ server. password_state server
-            ≡ password_server (settings_for self.now choice store.now (saved_for store.now version false (exchange_shown exchange.now)))) }
-        ensures known { IfOk result (λ server. password_known server ≡ password_known_for store.now) }
-        ensures none { IfErr result (λ error. error ≡ BuildNoMechanism
-            → password_names (password_server (settings_for self.now choice store.now
-            (saved_for store.now version false (exchange_shown exchange.now)))) ≡ []) }
-        ensures salts { IfErr result (λ error. error ≢ BuildSaltTooLong) }
+        identities: &str,
+        username: &str,
+    ) -> Result<ServerOptions, Status>
+        ensures ok { IfOk result (λ options. HasOptions self.now choice version username.now identities.now options) }
+        ensures err { IfErr result (λ status. status ≡ StatusOutOfMemory) }
     {
-        let builder = PasswordServerBuilder::new(store)
-            .hashes(choice.hashes())
-            .accept_cbind_flag_y(choice.cbind_flag_y)
-            .strict(choice.strict)
-            .reject_misplaced(choice.reject_misplaced)
-            .channels(channels)
-            .accept_authzid(is_set(self.accept_authzid))
-            .acting_rights(rights)
-            .plain_under_tls(choice.plain)
-            .plain_records(version, self.iterations)
-            .plain_passwords(choice.passwords)
-            .anonymous(choice.anonymous)
-            .external(if choice.external { external } else { "" });
-        match exchange {
-            ScramExchange::NothingKept => builder.build(alloc),
-            ScramExchange::InitialResponseAsked(_) => builder.build(alloc),
-            ScramExchange::SignatureSent(user, acts_for) => builder
-                .authenticated(version, user, *acts_for)
-                .build(alloc),
-            ScramExchange::ChallengeOpen(hash, challenge) => {
-                let stored = record_for(store, *hash, challenge.username);
-                match builder
-                    .open_challenge(*hash, challenge, &stored)
-                    .build(alloc)
-                {
-                    Ok(server) => Ok(server),
-                    Err(error) => Err(error),
-                }
-            }
-        }
+        let mut options = ServerOptions::new(alloc, choice.mechanisms());
+        options.rights = acting_rights(alloc, username, identities)?;
+        options.accept_authzid = is_set(self.accept_authzid);
+        options.strict = choice.strict;
+        options.reject_misplaced = choice.reject_misplaced;
+        options.accept_cbind_flag_y = choice.cbind_flag_y;
+        options.plain_version = version;
+        options.plain_iterations = Some(self.iterations);
+        options.plain_passwords = choice.passwords;
+        options.extra_challenges = choice.extra();
+        Ok(options)
     }
 
     /// Tests that the words of the configuration are texts.
@@ -340,11 +333,28 @@ impl SaslServerConfig<'_> {
         Ok((username, external, text(self.identities)?))
     }
 
-    /// The library's server, which continues what the struct of SCRAM keeps of a login.
-    #[tactic(auto, using(crate::proofs::SaslServerLemmas::acceptor))]
-    pub fn acceptor(&self, alloc: Global, scram: &ScramServer) -> Result<LoggedServer, Status>
-        ensures ok { IfOk result (λ acceptor. ServerIsReached self.now InProgress (state_of acceptor)
-            × ShowsState scram.now InProgress (state_of acceptor)) }
+    /// What a server of the configuration borrows, if that offers a mechanism.
+    #[tactic(auto, using(crate::proofs::SaslServerLemmas::no_offer))]
+    pub fn prepared(&self, alloc: Global) -> Result<Prepared<'_>, Status>
+        ensures ok { IfOk result (λ prepared. IsPrepared self.now prepared) }
+        ensures tests { IfOk result (λ _. NoneHolds (config_tests self.now)) }
+        ensures err { IfErr result (λ status. status ≢ StatusOutOfMemory → IsNoConfig self.now status) }
+        ensures memory { AsksWhere (NoneHolds (config_tests self.now)) result }
+    {
+        let prepared = match self.tested(alloc) {
+            Ok(prepared) => prepared,
+            Err(status) => return Err(status),
+        };
+        if !prepared.offers_any() {
+            return Err(Status::NoSuchMechanism);
+        }
+        Ok(prepared)
+    }
+
+    /// What a server of the configuration borrows, if no test rejects it.
+    #[tactic(auto, using(crate::proofs::SaslServerLemmas::prepared))]
+    fn tested(&self, alloc: Global) -> Result<Prepared<'_>, Status>
+        ensures ok { IfOk result (λ prepared. IsPrepared self.now prepared) }
         ensures tests { IfOk result (λ _. NoneHolds (config_tests self.now)) }
         ensures err { IfErr result (λ status. status ≢ StatusOutOfMemory → IsNoConfig self.now status) }
         ensures memory { AsksWhere (NoneHolds (config_tests self.now)) result }
@@ -360,28 +370,26 @@ impl SaslServerConfig<'_> {
             Ok(channels) => channels,
             Err(status) => return Err(status),
         };
-        let store = match self.store(alloc, username) {
-            Ok(store) => store,
-            Err(status) => return Err(status),
-        };
-        let rights = match acting_rights(alloc, username, identities) {
-            Ok(rights) => rights,
+        let records = match self.store(alloc, username) {
+            Ok(records) => records,
             Err(status) => return Err(status),
         };
         let version = self.first_version();
-        let exchange = scram.kept_exchange();
-        let phase = exchange.phase(alloc)?;
-        match self.server(
-            alloc, choice, &store, version, external, channels, &rights, &exchange,
-        ) {
-            Ok(server) => {
-                let extended = WithExtraChallenges::with_phase(server, choice.extra(), phase);
-                Ok(LoggedServer::new(extended))
-            }
-            Err(BuildError::NoMechanism) => Err(Status::NoSuchMechanism),
-            Err(BuildError::SaltTooLong) => unreachable!(),
-            Err(BuildError::OutOfMemory) => Err(Status::OutOfMemory),
-        }
+        let options = match self.options(alloc, choice, version, identities, username) {
+            Ok(options) => options,
+            Err(status) => return Err(status),
+        };
+        // PLAIN is offered if the configuration says so.
+        let transport = Transport {
+            is_tls: true,
+            channels,
+            external,
+        };
+        Ok(Prepared {
+            records,
+            options,
+            transport,
+        })
     }
 }
 
@@ -517,7 +525,11 @@ fn received(
         Ok(kept) => kept,
         Err(status) => return Err(status),
     };
-    let acceptor = match config.acceptor(alloc, &server.scram) {
+    let prepared = match config.prepared(alloc) {
+        Ok(prepared) => prepared,
+        Err(status) => return Err(status),
+    };
+    let acceptor = match prepared.restored(alloc, &server.scram) {
         Ok(acceptor) => acceptor,
         Err(status) => return Err(status),
     };

@@ -48,11 +48,11 @@ fn compute_offer(alloc: Global, config: &SaslServerConfig<'_>) -> Result<BytesMu
     ensures err { IfErr result (λ status. status ≢ StatusOutOfMemory → ConfigOffers config.now (Err status)) }
     ensures memory { AsksWhere (NoneHolds (config_tests config.now)) result }
 {
-    let acceptor = match config.acceptor(alloc, &ScramServer::fresh()) {
-        Ok(acceptor) => acceptor,
+    let prepared = match config.prepared(alloc) {
+        Ok(prepared) => prepared,
         Err(status) => return Err(status),
     };
-    match offer_of(alloc, acceptor) {
+    match offer_of(alloc, prepared.fresh()) {
         Ok(body) => Ok(body),
         Err(status) => Err(status),
     }
@@ -147,7 +147,11 @@ fn answered(
         → ServerNotStepped config.now (record { body = body.now; nonce = nonce.now }) server.now status) }
     ensures memory { AsksWhere (NoneHolds (config_tests config.now)) result }
 {
-    let acceptor = match config.acceptor(alloc, server) {
+    let prepared = match config.prepared(alloc) {
+        Ok(prepared) => prepared,
+        Err(status) => return Err(status),
+    };
+    let acceptor = match prepared.restored(alloc, server) {
         Ok(acceptor) => acceptor,
         Err(status) => return Err(status),
     };

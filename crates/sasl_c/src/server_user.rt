@@ -65,14 +65,14 @@ fn answer_user(alloc: Global, scram: &ScramServer, text: &[u8]) -> Result<Option
     ensures err { IfErr result (λ status. status ≡ StatusOutOfMemory) }
     ensures memory { OnErr result (AnswerNeedsMemory scram.now text.now) }
 {
-    let Some(init) = scram.asked_init() else {
+    let Some((mechanism, _)) = scram.asked_init() else {
         return match open_user(alloc, scram) {
             Ok(Some(name)) => Ok(Some(name)),
             Ok(None) => Ok(None),
             Err(status) => Err(status),
         };
     };
-    match claimed_user(alloc, init.mechanism, text) {
+    match claimed_user(alloc, mechanism.name(), text) {
         Ok(Some(name)) => Ok(Some(name)),
         Ok(None) => Ok(None),
         Err(_) => Err(Status::OutOfMemory),

@@ -57,7 +57,7 @@ pub fn named_by(row: &mut Row<'_>) -> Option<(SaslProfile, Option<String>, usize
     Some((profile, hostname, limit))
 }
 
-impl Side for ClientNegotiation {
+impl Side<()> for ClientNegotiation {
     fn wants_nonce(&self) -> bool {
         self.wants_nonce()
     }
@@ -66,7 +66,7 @@ impl Side for ClientNegotiation {
         Some(self.snapshot())
     }
 
-    fn restore(&mut self, row: &mut Row<'_>, is_copy: bool) {
+    fn restore(&mut self, row: &mut Row<'_>, _over: (), is_copy: bool) {
         let hostname = text_after(row, "hostname");
         // By `match`: `Row::get` has no contract, and `restored_client` requires a profile in the same state.
         let profile = match self.profile().clone() {
@@ -83,7 +83,7 @@ impl Side for ClientNegotiation {
     }
 }
 
-impl Side for PolicyClient<'_> {
+impl Side<()> for PolicyClient<'_> {
     fn wants_nonce(&self) -> bool {
         self.wants_nonce()
     }
@@ -95,7 +95,7 @@ pub fn answer_paragraph<'a>(row: &mut Row<'a>, lines: &'a str) {
         return row.refuse("no profile");
     };
     let mut side = ClientNegotiation::with_frame_limit(row.alloc, profile, hostname, limit);
-    answer_events(row, &mut side, lines);
+    answer_events(row, &mut side, (), lines);
 }
 
 /// Reads what a client may log in by: `MECHANISM`, the weakest SCRAM, and the options `plain`, `channel KIND DATA` and
@@ -133,5 +133,5 @@ pub fn answer_policy_paragraph<'a>(row: &mut Row<'a>, lines: &'a str) {
     };
     let limit = frame_limit(row);
     let mut side = PolicyClient::with_frame_limit(row.alloc, login, limit);
-    answer_events(row, &mut side, lines);
+    answer_events(row, &mut side, (), lines);
 }

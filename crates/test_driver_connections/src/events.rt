@@ -7,8 +7,8 @@ use fe2o3_sasl_negotiation::{
 use std::fmt::Debug;
 use test_rows::{Row, again, call, free_call};
 
-/// A side of a server, or of a client.
-pub trait Side {
+/// A side of a server, or of a client, which may be restored over a value of this type.
+pub trait Side<C: Copy> {
     /// Returns whether the next call may use its nonce.
     fn wants_nonce(&self) -> bool;
 
@@ -20,9 +20,9 @@ pub trait Side {
         None
     }
 
-    /// Restores what the side saves, over a copy of its acceptor or its profile, or over those that the row names, and
-    /// says the error if there is one.
-    fn restore(&mut self, row: &mut Row<'_>, _is_copy: bool) {
+    /// Restores what the side saves, over a copy of its acceptor or its profile, or over what that saves or the row names,
+    /// and says the error if there is one.
+    fn restore(&mut self, row: &mut Row<'_>, _over: C, _is_copy: bool) {
         row.refuse("no snapshot");
     }
 }
@@ -46,23 +46,30 @@ pub fn say_progress(row: &mut Row<'_>, progress: Progress) {
     }
 }
 
-/// What is sent, and the HMAC values that are counted.
+/// What is sent, the HMAC values that are counted, and what a side is restored over.
 #[derive(Drop)]
-struct Wire {
+struct Wire<C: Copy> {
     out: BytesMut,
     cost: u64,
+    over: C,
 }
 
 /// Answers the lines of a paragraph, `EVENT => ANSWER`, one after another.
-pub fn answer_events<'a, E, R>(row: &mut Row<'a>, side: &mut ConnectionSide<E, R>, lines: &'a str)
+pub fn answer_events<'a, E, R, C: Copy>(
+    row: &mut Row<'a>,
+    side: &mut ConnectionSide<E, R>,
+    over: C,
+    lines: &'a str,
+)
 where
     E: Endpoint<R>,
     R: Role,
-    ConnectionSide<E, R>: Side,
+    ConnectionSide<E, R>: Side<C>,
 {
     let mut wire = Wire {
         out: BytesMut::new(row.alloc),
         cost: 0,
+        over,
     };
     for line in lines.lines() {
         if let Some((event, wanted)) = line.split_once(" => ") {
@@ -76,11 +83,11 @@ where
 }
 
 /// Answers an event.
-fn answer<E, R>(row: &mut Row<'_>, side: &mut ConnectionSide<E, R>, wire: &mut Wire)
+fn answer<E, R, C: Copy>(row: &mut Row<'_>, side: &mut ConnectionSide<E, R>, wire: &mut Wire<C>)
 where
     E: Endpoint<R>,
     R: Role,
-    ConnectionSide<E, R>: Side,
+    ConnectionSide<E, R>: Side<C>,
 {
     if row.takes("end") {
         let progress = free_call!(row: "ConnectionSide::end_of_input" => side.end_of_input());
@@ -97,9 +104,9 @@ where
     } else if row.takes("wants-nonce") {
         row.say(side.wants_nonce());
     } else if row.takes("restore") {
-        side.restore(row, false);
+        side.restore(row, wire.over, false);
     } else if row.takes("restore-copy") {
-        side.restore(row, true);
+        side.restore(row, wire.over, true);
     } else if row.takes("save") {
         say_saved(row, side.saved());
     } else if row.takes("frame") {
@@ -110,11 +117,11 @@ where
 }
 
 /// Passes bytes with a nonce, and says how many are taken, what is sent, and the progress.
-fn receive<E, R>(row: &mut Row<'_>, side: &mut ConnectionSide<E, R>, wire: &mut Wire)
+fn receive<E, R, C: Copy>(row: &mut Row<'_>, side: &mut ConnectionSide<E, R>, wire: &mut Wire<C>)
 where
     E: Endpoint<R>,
     R: Role,
-    ConnectionSide<E, R>: Side,
+    ConnectionSide<E, R>: Side<C>,
 {
     let (nonce, bytes, mut meter) = (row.nonce(), row.digits(), Meter::new());
     let made = call!(row: "ConnectionSide::receive" =>

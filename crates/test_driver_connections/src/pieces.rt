@@ -55,12 +55,10 @@ fn say_served<A: AuthenticatedUser + Drop>(
 /// Answers the pieces of a row by a server: its words, and `NONCE BYTES..`.
 pub fn answer_server(row: &mut Row<'_>) {
     let served = served_by(row);
-    let Some(server) = served.server(row) else {
-        return row.refuse("no server");
-    };
     let (nonce, bytes) = (row.nonce(), bytes_by(row));
     let pieces = pieces_of(row, nonce, &bytes);
-    let made = call!(row: "server_connection" => server_connection(row.alloc, server, &pieces));
+    let made =
+        call!(row: "server_connection" => server_connection(row.alloc, served.server(), &pieces));
     say_served(row, made);
 }
 

@@ -12,7 +12,6 @@ macro_rules! show_call {
 mod audits;
 mod clients;
 mod frames;
-mod lent;
 mod offers;
 mod replies;
 mod runs;
@@ -44,6 +43,7 @@ impl Answers for Driver {
             "from_url" => values::from_url(row),
             "select" => values::select(row),
             "keyed" => values::keyed(row),
+            "mechanism" => values::mechanism(row),
             "errors" => texts::errors(row),
             "shown" => texts::shown(row),
             name => row.refuse(name),

@@ -1,16 +1,15 @@
-//! Servers of several mechanisms over records of users.
+//! Servers of several mechanisms, with lent records and options.
 
-use crate::lent;
-use crate::runs::Run;
-use crate::servers::serve;
+use crate::runs::{Run, Side, check_side};
+use crate::servers::{own_step, run_copy, say_offer, say_reply};
 use crate::words::{channels, passwords, version};
 use fe2o3_sasl::*;
+use fe2o3_sasl_wire::{Error, view_frame};
 use std::fmt::Write;
-use std::sync::Arc;
-use test_rows::{Row, again, call};
+use test_rows::{Row, call};
 
 /// Returns the users of the words `user NAME RECORD`.
-pub fn users_of(row: &mut Row<'_>) -> MultiRecordStore {
+fn users_of(row: &mut Row<'_>) -> MultiRecordStore {
     let mut lines = String::new(row.alloc);
     for _ in 0..4 {
         if row.takes("user") {
@@ -23,7 +22,7 @@ pub fn users_of(row: &mut Row<'_>) -> MultiRecordStore {
 }
 
 /// Returns the rights of the words `right USER IDENTITY`.
-pub fn rights_of(row: &mut Row<'_>) -> ActingRights {
+fn rights_of(row: &mut Row<'_>) -> ActingRights {
     let (alloc, mut rights) = (row.alloc, ActingRights::new(row.alloc));
     for _ in 0..4 {
         if row.takes("right") {
@@ -34,106 +33,112 @@ pub fn rights_of(row: &mut Row<'_>) -> ActingRights {
     rights
 }
 
-/// Returns a builder with the options of the words that are left, the extra challenges, and the mechanisms of `only`.
-fn options_of<'a: 'b, 'b>(
-    row: &mut Row<'a>,
-    mut builder: PasswordServerBuilder<'b>,
-) -> (PasswordServerBuilder<'b>, ExtraChallenges, &'a str) {
-    let (mut extra, mut only) = (ExtraChallenges::default(), "");
-    for _ in 0..12 {
-        if !row.is_over() {
-            match row.word() {
-                "asks" => extra.initial_response = true,
-                "signs" => extra.signature = true,
-                "only" => only = row.word(),
-                word => builder = option_of(row, builder, word),
-            }
-        }
-    }
-    (builder, extra, only)
-}
-
-/// Returns a builder with the option of a word and of those after it.
-fn option_of<'a: 'b, 'b>(
-    row: &mut Row<'a>,
-    builder: PasswordServerBuilder<'b>,
-    word: &str,
-) -> PasswordServerBuilder<'b> {
-    match word {
-        "plain" => builder.plain_records(version(row), row.number()),
-        "passwords" => builder.plain_passwords(passwords(row)),
-        "external" => builder.external(row.word()),
-        "mock" => {
-            let (secret, len, count) = (row.word(), row.number() as usize, row.number());
-            builder.mock_unknown_users(secret.as_bytes(), len, count)
-        }
-        "channel" => builder.channels(channels(row)),
-        "cbind_flag_y" => builder.accept_cbind_flag_y(true),
-        "strict" => builder.strict(true),
-        "reject_misplaced" => builder.reject_misplaced(true),
-        "authzid" => builder.accept_authzid(true),
-        _ => {
-            row.refuse("no option");
-            builder
-        }
-    }
-}
-
-/// Checks a server: `MECHANISM,.. USER.. RIGHT.. OPTION..`, as the head of `offers.txt` has them.
+/// Checks a server: `MECHANISM,.. USER.. RIGHT.. OPTION..`, as the head of `offers.txt` has them. If an option cannot be made,
+/// the row says why.
 pub fn check<'a>(row: &mut Row<'a>, run: &Run<'a>) {
     let names = row.word();
     let has = |name: &str| names.split(',').any(|it| it == name);
-    let hashes = ScramHashes {
-        sha_512: has("SCRAM-SHA-512"),
-        sha_256: has("SCRAM-SHA-256"),
-        sha_1: has("SCRAM-SHA-1"),
-    };
     let users = users_of(row);
-    let Ok(rights) = Arc::new(row.alloc, rights_of(row)) else {
-        return row.refuse("no memory");
+    let mut options = ServerOptions::new(
+        row.alloc,
+        Mechanisms {
+            scram_sha_512: has("SCRAM-SHA-512"),
+            scram_sha_256: has("SCRAM-SHA-256"),
+            scram_sha_1: has("SCRAM-SHA-1"),
+            plain: has("PLAIN"),
+            anonymous: has("ANONYMOUS"),
+            external: true,
+        },
+    );
+    options.reject_misplaced = false;
+    options.rights = rights_of(row);
+    let mut transport = Transport {
+        is_tls: true,
+        ..Transport::plaintext()
     };
-    let builder = PasswordServerBuilder::new(&users)
-        .hashes(hashes)
-        .plain_under_tls(has("PLAIN"))
-        .anonymous(has("ANONYMOUS"))
-        .acting_rights(&rights);
-    let (builder, extra, only) = options_of(row, builder);
-    if !only.is_empty() {
-        let mut restricted = None;
-        again!(row: restricted = restricted_of(row, &builder, only));
-        return serve(row, run, restricted, "RestrictMechanisms::clone");
+    for _ in 0..12 {
+        if !row.is_over() {
+            option_of(row, &mut options, &mut transport);
+        }
     }
-    let mut server = None;
-    again!(row: server = built(row, &builder));
-    let is_built = server.is_some();
-    if extra == ExtraChallenges::default() {
-        serve(row, run, server, "PasswordServer::clone");
-    } else {
-        let asking = server.map(|server| WithExtraChallenges::new(server, extra));
-        serve(row, run, asking, "WithExtraChallenges::clone");
+    if row.fault().is_some() {
+        return run.agree(row);
     }
-    if is_built {
-        lent::check(row, run);
+    check_side(row, run, &mut Server::new(&users, &options, transport));
+}
+
+/// Sets the option of the next words.
+fn option_of<'a>(row: &mut Row<'a>, options: &mut ServerOptions, transport: &mut Transport<'a>) {
+    match row.word() {
+        "asks" => options.extra_challenges.initial_response = true,
+        "signs" => options.extra_challenges.signature = true,
+        "plain" => {
+            options.plain_version = version(row);
+            options.plain_iterations = Some(row.number());
+        }
+        "passwords" => options.plain_passwords = passwords(row),
+        "external" => transport.external = row.word(),
+        "mock" => {
+            let (secret, len, count) = (row.bytes(), row.number() as usize, row.number());
+            options.mock = row.get(MockAuthentication::new(secret, len, count));
+        }
+        "channel" => transport.channels = channels(row),
+        "cbind_flag_y" => options.accept_cbind_flag_y = true,
+        "strict" => options.strict = true,
+        "reject_misplaced" => options.reject_misplaced = true,
+        "authzid" => options.accept_authzid = true,
+        _ => row.refuse("no option"),
     }
 }
 
-/// Returns a server, or says why there is none.
-fn built(row: &mut Row<'_>, builder: &PasswordServerBuilder<'_>) -> Option<PasswordServer> {
-    let server = call!(row: "PasswordServerBuilder::build" => builder.build(row.alloc));
-    row.get(server)
+impl Side for Server<'_> {
+    fn run(&self, row: &mut Row<'_>, events: &[Event]) {
+        run_copy(row, self, events);
+    }
+
+    /// Says the answer to an event by a call: one of the steps, one of the server's own, or what it says of itself. `brief`
+    /// says only the kind of the answer, and why it rejects.
+    fn step(&mut self, row: &mut Row<'_>, call: &str, event: &Event) {
+        let (alloc, mut meter) = (row.alloc, Meter::new());
+        let Event { body, nonce } = event;
+        let reply = match (call, view_frame(body)) {
+            ("step" | "brief" | "body", _) =>
+                call!(row: "Server::body_step" => self.body_step(alloc, body, nonce, &mut meter)),
+            ("frame", Ok((view, _))) =>
+                call!(row: "Server::frame_step" => self.frame_step(alloc, view, nonce, &mut meter)),
+            (_, Ok(_)) => return own_step(row, self, call, event),
+            _ => return say_part(row, self, call),
+        };
+        match call {
+            "brief" => say_briefly(row, &reply, self.last_rejection()),
+            _ => say_reply(row, self, call, &reply, meter),
+        }
+    }
 }
 
-/// Returns a server that offers only these of its mechanisms, or says why there is none.
-fn restricted_of(
-    row: &mut Row<'_>,
-    builder: &PasswordServerBuilder<'_>,
-    only: &str,
-) -> Option<RestrictMechanisms<PasswordServer>> {
-    let (server, mut names) = (built(row, builder)?, Vec::new(row.alloc));
-    for name in only.split(',') {
-        row.push(&mut names, name);
+/// Says what a server says of itself.
+fn say_part(row: &mut Row<'_>, server: &Server<'_>, call: &str) {
+    match (call, server.last_attempt()) {
+        ("clone", _) => {
+            let copy = call!(row: "Server::clone" => server.clone());
+            row.judge(&copy, "copied");
+        }
+        ("offers_any", _) => row.say(server.offers_any()),
+        ("login", _) => row.show(&server.mechanism()),
+        ("claims", None) => row.say("none"),
+        ("claims", Some(it)) => show_call!(row: "LoginAttempt::clone" => it.clone()),
+        _ => say_offer(row, server, call),
     }
-    let restricted =
-        call!(row: "RestrictMechanisms::new" => RestrictMechanisms::new(row.alloc, server, &names));
-    row.get(restricted)
+}
+
+/// Says the kind of a reply, and why it rejects.
+fn say_briefly(row: &mut Row<'_>, reply: &Result<ServerReply, Error>, reason: Option<Rejection>) {
+    match reply {
+        Ok(ServerReply::Challenge { .. }) => row.say("Challenge"),
+        Ok(ServerReply::Outcome { code, .. }) => row.show(code),
+        Err(error) => row.show(error),
+    }
+    if let Some(reason) = reason {
+        row.show(&reason);
+    }
 }

@@ -9,76 +9,70 @@ use fe2o3_sasl::*;
 use fe2o3_sasl_wire::{Error, Frame, view_frame};
 use test_rows::{Row, again, call};
 
-impl<A: HasMechanism + Drop> Side for WithLastAttempt<A> {
+/// An acceptor as a side.
+#[derive(Drop)]
+struct Acceptor<A> {
+    acceptor: A,
+}
+
+impl<A: AuthenticatedUser + Drop> Side for Acceptor<A> {
     fn run(&self, row: &mut Row<'_>, events: &[Event]) {
-        let copy = call!(row: "WithLastAttempt::clone" => self.clone());
-        if let Some(mut copy) = row.get(copy) {
-            let replies = call!(row: "run_acceptor" => run_acceptor(row.alloc, &mut copy, events));
-            say_all(row, replies);
-        }
+        run_copy(row, &self.acceptor, events);
     }
 
-    /// Says the answer to an event by a call: one of the steps, one of the server's own, or what it says of itself. `body`
-    /// and `frame` count the HMAC values, and name the user. `brief` says only the kind of the answer, and why it rejects.
+    /// Says the answer to an event by a call: one of the steps, one of the acceptor's own, or what it says of itself.
     fn step(&mut self, row: &mut Row<'_>, call: &str, event: &Event) {
-        let (alloc, mut meter) = (row.alloc, Meter::new());
+        let (alloc, acceptor, mut meter) = (row.alloc, &mut self.acceptor, Meter::new());
         let Event { body, nonce } = event;
         let reply = match (call, view_frame(body)) {
-            ("step" | "brief", _) =>
-                call!(row: "acceptor_step" => acceptor_step(alloc, self, event)),
-            ("body", _) =>
-                call!(row: "acceptor_body_step" => acceptor_body_step(alloc, self, body, nonce, &mut meter)),
-            ("frame", Ok((view, _))) =>
-                call!(row: "acceptor_frame_step" => acceptor_frame_step(alloc, self, view, nonce, &mut meter)),
-            (_, Ok(_)) => return own_step(row, self, call, event),
-            _ => return say_part(row, self, self.last_attempt(), call),
+            ("step", _) => call!(row: "acceptor_step" => acceptor_step(alloc, acceptor, event)),
+            ("body", _) => call!(row: "acceptor_body_step" =>
+                acceptor_body_step(alloc, acceptor, body, nonce, &mut meter)),
+            ("frame", Ok((view, _))) => call!(row: "acceptor_frame_step" =>
+                acceptor_frame_step(alloc, acceptor, view, nonce, &mut meter)),
+            (_, Ok(_)) => return own_step(row, acceptor, call, event),
+            _ => return say_offer(row, acceptor, call),
         };
-        match (call, &reply) {
-            ("brief", _) => return say_briefly(row, &reply, self.last_rejection()),
-            ("step", _) | (_, Err(_)) => return reply.say(row),
-            _ => reply.say(row),
-        }
+        say_reply(row, acceptor, call, &reply, meter);
+    }
+}
+
+/// Says the answers of a copy in a whole run.
+pub fn run_copy<A: SaslAcceptor + Drop>(row: &mut Row<'_>, acceptor: &A, events: &[Event]) {
+    let copy = call!(row: "SaslAcceptor::clone" => acceptor.clone());
+    if let Some(mut copy) = row.get(copy) {
+        let replies = call!(row: "run_acceptor" => run_acceptor(row.alloc, &mut copy, events));
+        say_all(row, replies);
+    }
+}
+
+/// Says the mechanisms of an acceptor, or its offer.
+pub fn say_offer<A: SaslAcceptor>(row: &mut Row<'_>, acceptor: &A, call: &str) {
+    if call == "mechanisms" {
+        show_call!(row: "SaslAcceptor::mechanisms" => acceptor.mechanisms(row.alloc));
+    } else {
+        show_call!(row: "SaslAcceptorExt::sasl_mechanisms" => acceptor.sasl_mechanisms(row.alloc));
+    }
+}
+
+/// Says a reply. That by `body` or `frame` is followed by the count of HMAC values, and by the user.
+pub fn say_reply<A: AuthenticatedUser>(
+    row: &mut Row<'_>,
+    acceptor: &A,
+    call: &str,
+    reply: &Result<ServerReply, Error>,
+    meter: Meter,
+) {
+    reply.say(row);
+    if call != "step" && reply.is_ok() {
         row.say("hmacs");
         row.say(meter.count());
-        say_user(row, self);
-    }
-}
-
-/// Says what a server says of itself.
-pub fn say_part<A: SaslAcceptor>(
-    row: &mut Row<'_>,
-    server: &A,
-    attempt: Option<&LoginAttempt>,
-    call: &str,
-) {
-    match (call, attempt) {
-        ("mechanisms", _) =>
-            show_call!(row: "SaslAcceptor::mechanisms" => server.mechanisms(row.alloc)),
-        ("offer", _) =>
-            show_call!(row: "SaslAcceptorExt::sasl_mechanisms" => server.sasl_mechanisms(row.alloc)),
-        (_, Some(attempt)) => show_call!(row: "LoginAttempt::clone" => attempt.clone()),
-        (_, None) => row.say("none"),
-    }
-}
-
-/// Says the kind of a reply, and why it rejects.
-pub fn say_briefly(
-    row: &mut Row<'_>,
-    reply: &Result<ServerReply, Error>,
-    reason: Option<Rejection>,
-) {
-    match reply {
-        Ok(ServerReply::Challenge { .. }) => row.say("Challenge"),
-        Ok(ServerReply::Outcome { code, .. }) => row.show(code),
-        Err(error) => row.show(error),
-    }
-    if let Some(reason) = reason {
-        row.show(&reason);
+        say_user(row, acceptor);
     }
 }
 
 /// Says the user that an acceptor names, and for whom the user acts.
-pub fn say_user<A: AuthenticatedUser>(row: &mut Row<'_>, acceptor: &A) {
+fn say_user<A: AuthenticatedUser>(row: &mut Row<'_>, acceptor: &A) {
     if let Some(user) = acceptor.authenticated_user() {
         row.say("user");
         row.say(user);
@@ -123,8 +117,8 @@ pub fn own_step<A: AuthenticatedUser>(
     say_user(row, acceptor);
 }
 
-/// Checks a server of this acceptor, or copies the acceptor by a call of this name. If there is none, the row says why.
-pub fn serve<A: HasMechanism + Drop>(
+/// Checks this acceptor, or copies it by a call of this name. If there is none, the row says why.
+fn serve<A: AuthenticatedUser + Drop>(
     row: &mut Row<'_>,
     run: &Run<'_>,
     acceptor: Option<A>,
@@ -134,7 +128,7 @@ pub fn serve<A: HasMechanism + Drop>(
         return run.agree(row);
     };
     if run.calls.first() != Some(&"clone") {
-        return check_side(row, run, &mut WithLastAttempt::new(acceptor));
+        return check_side(row, run, &mut Acceptor { acceptor });
     }
     again!(row: {
         let copy = call!(row: clone => acceptor.clone());
@@ -144,7 +138,7 @@ pub fn serve<A: HasMechanism + Drop>(
 }
 
 /// Checks an acceptor: `MECHANISM,.. NAME PASSWORD`, of which `ANONYMOUS` has no further words, and `EXTERNAL` no
-/// password. After those of PLAIN, the word `strict` may follow.
+/// password. After those of two mechanisms, the words `only MECHANISM,..` may follow.
 pub fn check_acceptor(row: &mut Row<'_>, run: &Run<'_>) {
     let (anonymous, names) = (SaslAnonymousMechanism::new(), row.word());
     if names == "ANONYMOUS" {
@@ -156,15 +150,31 @@ pub fn check_acceptor(row: &mut Row<'_>, run: &Run<'_>) {
         return serve(row, run, external, "ExternalServer::clone");
     }
     let plain = SaslPlainMechanism::new(user, row.text_of_digits());
-    if row.takes("strict") {
-        let strict = plain.strict();
-        return serve(row, run, Some(strict), "StrictPlainMechanism::clone");
-    }
     if names == "PLAIN" {
         return serve(row, run, Some(plain), "SaslPlainMechanism::clone");
     }
     let both = AnyMechanism::new(plain, anonymous);
+    if row.takes("only") {
+        let (only, mut restricted) = (row.word(), None);
+        again!(row: restricted = restricted_of(row, &both, only));
+        return serve(row, run, restricted, "RestrictMechanisms::clone");
+    }
     serve(row, run, Some(both), "AnyMechanism::clone");
+}
+
+/// Returns a copy that offers only these of its mechanisms, or says why there is none.
+fn restricted_of<A: HasMechanism + Drop>(
+    row: &mut Row<'_>,
+    acceptor: &A,
+    only: &str,
+) -> Option<RestrictMechanisms<A>> {
+    let (copy, mut names) = (row.get(acceptor.clone())?, Vec::new(row.alloc));
+    for name in only.split(',') {
+        row.push(&mut names, name);
+    }
+    let restricted =
+        call!(row: "RestrictMechanisms::new" => RestrictMechanisms::new(row.alloc, copy, &names));
+    row.get(restricted)
 }
 
 /// Returns the credential of a server: `USER PASSWORD SALT`.
@@ -218,8 +228,8 @@ fn check_stored<C: ScramCredentialProvider + Drop>(
         again!(row: run_stored(row, run, rules, &credentials));
         run.agree(row);
     }
-    let server = ScramAuthenticator::new(credentials).with_rules(rules);
-    check_steps(row, run, &mut WithLastAttempt::new(server));
+    let acceptor = ScramAuthenticator::new(credentials).with_rules(rules);
+    check_steps(row, run, &mut Acceptor { acceptor });
 }
 
 /// Says the answers of a server of these credentials in a whole run.

@@ -35,7 +35,6 @@ pub fn errors(row: &mut Row<'_>) {
         "UrlError" => say_each!(row, UrlError: NoCredentials OutOfMemory),
         "OfferError" => say_each!(row, OfferError: NoMechanismLeft OutOfMemory),
         "EventError" => say_each!(row, EventError: Invalid OutOfMemory),
-        "BuildError" => say_each!(row, BuildError: SaltTooLong NoMechanism OutOfMemory),
         "ChoiceError" => say_each!(row, ChoiceError: NoAcceptableMechanism OutOfMemory),
         _ => {
             say_each!(row, NegotiationError: ProtocolHeaderMismatch(*b"AMQP\x01\x01\x00\x00"));

@@ -167,6 +167,12 @@ pub fn select(row: &mut Row<'_>) {
     }
 }
 
+/// Says the mechanism of a name.
+pub fn mechanism(row: &mut Row<'_>) {
+    let name = row.word();
+    row.show(&Mechanism::of_name(name).map(|it| (it, it.name())));
+}
+
 /// Says the client of SCRAM-SHA-256 with keys, `USER PASSWORD SALT COUNT`, or its copy.
 pub fn keyed(row: &mut Row<'_>) {
     let (alloc, is_copy) = (row.alloc, row.takes("copy"));

@@ -28,7 +28,7 @@ use Rattle.connection_laws.proofs.lemmas.RestLemmas.{bytes_of-more, taken_within
 
 module _ {S : Type 0} (Answers : Expected → S → List ℕ → List ℕ → SideOutput → S → Type 0) where
   -- the pieces are the front of the stream
-  covers : (side : Side S) (calls : List Call) (stream sent : List ℕ) (last : Side S) (rest : List ℕ)
+  pub covers : (side : Side S) (calls : List Call) (stream sent : List ℕ) (last : Side S) (rest : List ℕ)
       (made : Calls (Receives Answers) side calls stream sent last rest)
       → stream ≡ bytes_of (taken_pieces Answers side calls stream sent last rest made) ++ rest
   covers side [] stream sent last rest (nothing, same, left) = sym left
@@ -46,7 +46,7 @@ module _ {S : Type 0} (Answers : Expected → S → List ℕ → List ℕ → Si
       (one_more : (taken sent : List ℕ) (side next : Side S) (bytes nonce first : List ℕ) (k : ℕ) → Is taken sent side
       → IsBytes (taken ++ bytes) → ((i : ℕ) → i < k → PieceNonceAt all (length taken + i) nonce)
       → Receives Answers side bytes nonce k first next → Is (taken ++ take k bytes) (sent ++ first) next) where
-    in_calls : (calls : List Call) (done : List Piece) (side last : Side S) (stream before sent rest : List ℕ)
+    pub in_calls : (calls : List Call) (done : List Piece) (side last : Side S) (stream before sent rest : List ℕ)
         (made : Calls (Receives Answers) side calls stream sent last rest)
         → all ≡ done ++ taken_pieces Answers side calls stream sent last rest made → Is (bytes_of done) before side
         → IsBytes (bytes_of done ++ stream) → Is (bytes_of all) (before ++ sent) last

@@ -172,7 +172,7 @@ copies (suc n) nonce rest zero found is = inl (same_Some nonce found is)
 copies (suc n) nonce rest (suc k) found is = copies n nonce rest k found is
 
 -- the nonce at a byte is that of a piece
-piece_at : (pieces : List Piece) (n : ℕ) (nonce : List ℕ) → PieceNonceAt pieces n nonce
+pub piece_at : (pieces : List Piece) (n : ℕ) (nonce : List ℕ) → PieceNonceAt pieces n nonce
     → (piece : Piece) × Contains pieces piece × (piece.nonce ≡ nonce)
 piece_at [] n nonce at = absurd (cc)
 piece_at (first ∷ pieces) n nonce at =

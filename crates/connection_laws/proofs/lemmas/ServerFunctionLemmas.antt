@@ -68,7 +68,7 @@ opens_so provider version plus kept next (Ok (Some opened)) reply is = is
 opens_so provider version plus kept next (Ok None) reply is = is
 opens_so provider version plus kept next (Err fault) reply is = is
 
-one_opened : (provider : Provider) (version : ScramVersion) (plus : Bool) (kept next last : ServerStage)
+pub one_opened : (provider : Provider) (version : ScramVersion) (plus : Bool) (kept next last : ServerStage)
     (nonce text : List ℕ) (answer again : Opened) (reply other : SaslFrame)
     → BeginsExchange provider nonce text answer → OpensScram version plus kept answer reply next
     → BeginsExchange provider nonce text again → OpensScram version plus kept again other last

@@ -22,10 +22,10 @@ use Rattle.fe2o3_scram.specs.declared.channel_binding.ChannelKind.{ChannelKind}
 use Rattle.fe2o3_scram.specs.declared.channel_binding.ChannelKind.TheVariants.{TlsUnique, TlsServerEndPoint, TlsExporter}
 use Rattle.fe2o3_scram.specs.declared.scram_messages.client_channel.ClientChannel.{ClientChannel}
 use Rattle.fe2o3_scram.specs.declared.scram_messages.client_channel.ClientChannel.TheVariants.{Absent, NotOffered, Bound}
-use Rattle.fe2o3_scram.specs.declared.scram_messages.channel_binding_flag.ChannelBindingFlag.{ChannelBindingFlag}
-use Rattle.fe2o3_scram.specs.declared.scram_messages.channel_binding_flag.ChannelBindingFlag.TheVariants.{NotSupported, ClientSupports, Required}
+use Rattle.fe2o3_scram.specs.declared.scram_messages.channel_binding_flag.ChannelBindingFlag.TheVariants.{Required}
 use Rattle.fe2o3_scram.specs.ChannelBinding.{cbind_input, flag_of, header_text, is_bound, kind_name, mechanism_of, header_of, flag_text, ClientHeader, Gs2Header, authzid_text}
-use Rattle.fe2o3_scram.specs.ClientFinal.{client_final_of, without_proof_with}
+use Rattle.fe2o3_scram.specs.ClientFinal.{ClientFinal, Server, client_final_of, without_proof_with}
+use Rattle.fe2o3_scram.specs.ServerFinal.{server_final_of}
 use Rattle.fe2o3_scram.specs.ClientFirst.{client_first_bare, client_first_with}
 use Rattle.fe2o3_scram.specs.ClientKeys.{ClientKeys, keys_of}
 use Rattle.fe2o3_scram.specs.Credentials.{Provider}
@@ -42,7 +42,7 @@ use Rattle.fe2o3_scram.proofs.lemmas.messages.ExchangeLemmas.{length-exclusive_o
 use Rattle.fe2o3_sasl_core.specs.Bodies.{SpellsBody, carried}
 use Rattle.fe2o3_sasl_core.specs.ClientHistory.{Answering, answer_at, ReadsChallenge, ClientAnswers, ClientAllocates, ClientHistory, IsDue, OpenAnswer, VerifiedAnswer}
 use Rattle.fe2o3_sasl_core.specs.Events.{Given, Login, login_mechanism, ServerSays, Challenged, Concluded, Failed, ClientSays, Started, Answered, Reported, Refused, scram_fault, login_header}
-use Rattle.fe2o3_sasl_core.specs.ServerHistory.{Challenging, Accepted, FitsAsInit, Open, ServerAnswers, ServerAllocates, ServerHistory, first_message, final_message}
+use Rattle.fe2o3_sasl_core.specs.ServerHistory.{Challenging, Accepted, FitsAsInit, Open, ServerAnswers, ServerAllocates, ServerHistory, first_message, final_message, server_at}
 use Rattle.fe2o3_sasl_core.proofs.lemmas.frames.SpellingLemmas.{one_spelling}
 use Rattle.fe2o3_sasl_core.proofs.lemmas.histories.OneServerHistoryLemmas.{one_fits}
 use Rattle.fe2o3_sasl_core.proofs.lemmas.unaltered.UnalteredReplyLemmas.{NoneMaySign, one_answering}
@@ -134,13 +134,15 @@ response_length header nonce proof short long few = omega (
 )
 
 -- a server-final message
-final_length : (provider : Provider) (accepted : Accepted) → length (final_message provider accepted) ≤ 485
-final_length provider accepted = omega (
+pub final_text_length : (server : Server) (final : ClientFinal) → length (server_final_of server final) ≤ 485
+final_text_length server final = omega (
   arith,
-  digest_text _ (short_digest provider.version _
-      (length-hmac_of provider.version accepted.challenge.stored.server_key
-      (auth_message accepted.challenge.client.bare (first_message accepted.challenge) accepted.final.without))),
+  digest_text _ (short_digest server.version _
+      (length-hmac_of server.version server.stored.server_key (auth_message server.bare server.first final.without))),
 )
+
+final_length : (provider : Provider) (accepted : Accepted) → length (final_message provider accepted) ≤ 485
+final_length provider accepted = final_text_length (server_at provider accepted.challenge) accepted.final
 
 -- ---- bodies
 

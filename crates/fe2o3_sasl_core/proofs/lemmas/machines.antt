@@ -7,7 +7,6 @@ pub mod OneReplyLemmas
 pub mod ServerMachineLemmas
 pub mod PlainMessageLemmas
 pub mod PlainServerLemmas
-pub mod StrictPlainLemmas
 pub mod ZeroPartLemmas
 pub mod SomeRunLemmas
 pub mod ResponseCostLemmas
@@ -20,15 +19,12 @@ pub mod AnyMechanismUserLemmas
 pub mod UnknownUserLemmas
 pub mod RestrictMechanismsLemmas
 pub mod ScramInAnyMechanismLemmas
-pub mod ExtraChallengeLemmas
-pub mod ExtraChallengeRunLemmas
-pub mod WithoutExtraChallengeLemmas
 pub mod ChallengeCountLemmas
-pub mod ExtraChallengeReplyLemmas
 pub mod LoginAttemptLemmas
 pub mod ClaimLemmas
 pub mod LastAttemptLemmas
 pub mod LastAnsweredInitLemmas
 pub mod OfferedScramLemmas
 pub mod RejectionLemmas
+pub mod SavedServerLemmas
 pub mod ServerAnswerLemmas

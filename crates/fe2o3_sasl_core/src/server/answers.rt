@@ -7,8 +7,8 @@ ghost use Rattle.fe2o3_sasl_wire.specs.declared.amqp_types.SaslCode.TheVariants.
 ghost use Rattle.fe2o3_scram.specs.Credentials.{with_rights};
 ghost use Rattle.fe2o3_scram.specs.ScramServer.{lent_mock};
 ghost use Rattle.fe2o3_sasl_core.specs.ExternalServer.{AsksFor};
-ghost use Rattle.fe2o3_sasl_core.specs.PasswordServer.{count_of_unknown, mock_for};
 ghost use Rattle.fe2o3_sasl_core.specs.SaslAcceptor.{HasReason, ends_with, reason_in, sent_frame};
+ghost use Rattle.fe2o3_sasl_core.specs.MockChoices.{count_of_unknown, mock_for};
 ghost use Rattle.fe2o3_sasl_core.specs.Servers.{AsksForResponse, ExchangeOpen, FinalRejects, InitAllocates, InitAnswers, InitRejects, ServerLogin, ResponseAllocates, ResponseAnswers, ResponseRejects, InitWhere, InitWhereRejects, ServerStage, UserAuthenticated, ConfirmsSignature, asked_way, init_hmacs, init_where_hmacs, is_asked_by, is_named, is_response_asked, server_login, is_offered_by, plain_by_settings, response_hmacs, rules_by, settings_in, stage_of};
 ghost use Rattle.fe2o3_sasl_core.specs.declared.rejection.Rejection.TheVariants.{NoInitialResponse};
 ghost use Rattle.fe2o3_sasl_core.specs.declared.server.ways.Way.TheVariants.{Scram as ScramWay, Plain as PlainWay, Anonymous as AnonymousWay, External as ExternalWay};
@@ -115,7 +115,7 @@ impl Server<'_> {
     }
 
     /// Lends the settings of mock records for this hash, if there are any.
-    fn mock_users(&self, version: ScramVersion) -> Option<MockUsers<'_>>
+    pub(crate) fn mock_users(&self, version: ScramVersion) -> Option<MockUsers<'_>>
         ensures { option_map lent_mock result ≡ option_map (mock_for version) (settings_in self.now).mock }
     {
         match &self.options.mock {

@@ -3,12 +3,11 @@
 ghost use Rattle.std.specs.Prelude.{◌≡◌, ◌≤◌, ◌<◌, [], None, MatchResult, false, true};
 ghost use Rattle.fe2o3_scram.specs.Mixed.{all_have};
 ghost use Rattle.fe2o3_scram.specs.ScramServer.{lent_mock};
-ghost use Rattle.fe2o3_sasl_core.specs.PasswordServer.{mock_for};
+ghost use Rattle.fe2o3_sasl_core.specs.MockChoices.{mock_for};
 ghost use Rattle.fe2o3_sasl_core.specs.Servers.{has_hash};
 ghost use Rattle.fe2o3_sasl_core.specs.declared.plain_server.passwords.PlainPasswords.TheVariants.{Typed as FormTyped};
 ghost use Rattle.fe2o3_scram.specs.declared.hmac.ScramVersion.TheVariants.{Sha1, Sha256, Sha512};
 
-use crate::extra_challenges::ExtraChallenges;
 use crate::plain_server::PlainPasswords;
 use fe2o3_scram::hmac::ScramVersion;
 use fe2o3_scram::secrets::SecretBytes;
@@ -107,7 +106,7 @@ pub struct MockAuthentication {
 }
 
 impl Model for MockAuthentication {
-    ghost use Rattle.fe2o3_sasl_core.specs.PasswordServer.{MockChoice};
+    ghost use Rattle.fe2o3_sasl_core.specs.MockChoices.{MockChoice};
 
     ghost Value = { MockChoice };
 
@@ -151,6 +150,18 @@ impl MockAuthentication {
     {
         self.iterations
     }
+}
+
+/// Which challenges a server sends beyond those of its mechanisms. By default it sends none.
+#[derive(Clone, Copy, Debug, PartialEq, Eq, Default)]
+pub struct ExtraChallenges {
+    /// Whether an init without an initial response is answered by an empty challenge. The response is then the initial
+    /// response (RFC 4422, section 5). Inits of ANONYMOUS and EXTERNAL may go without one, and are not asked.
+    pub initial_response: bool,
+
+    /// Whether the data of an outcome Ok, like SCRAM's server signature, are sent in a challenge before it. An empty
+    /// response is then answered by Ok (RFC 4422, section 5). For clients that do not read the data of an outcome.
+    pub signature: bool,
 }
 
 /// What the connections of a server have in common. They share it: make it once, with [`ServerOptions::new`], and set the

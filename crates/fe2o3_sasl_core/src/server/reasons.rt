@@ -3,7 +3,7 @@
 ghost use Rattle.std.specs.Prelude.{◌≡◌, IfErr, IfOk, Ok, option_map};
 ghost use Rattle.fe2o3_scram.specs.ClientFirst.{ClientFirst as FirstValues, HasEscapes, ReadsClientFirst};
 ghost use Rattle.fe2o3_scram.specs.ScramServer.{ServerFirstSent};
-ghost use Rattle.fe2o3_sasl_core.specs.PasswordServer.{known_for};
+ghost use Rattle.fe2o3_sasl_core.specs.Servers.{known_for};
 ghost use Rattle.fe2o3_sasl_core.specs.ScramRejections.{has_record, reason_of_failure, reason_of_final, reason_of_unknown};
 ghost use Rattle.fe2o3_scram.specs.declared.hmac.ScramVersion.TheVariants.{Sha1};
 

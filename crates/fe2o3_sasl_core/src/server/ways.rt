@@ -1,6 +1,7 @@
 //! The mechanisms of a server, with the hash of SCRAM as a value.
 
 ghost use Rattle.std.specs.Prelude.{◌≡◌};
+ghost use Rattle.fe2o3_sasl_core.specs.SavedServers.{way_for};
 ghost use Rattle.fe2o3_sasl_core.specs.Servers.{mechanism_by, way_name};
 
 use crate::client_policy::Mechanism;
@@ -33,6 +34,23 @@ impl Way {
             Way::Plain => PLAIN,
             Way::Anonymous => ANONYMOUS,
             Way::External => EXTERNAL,
+        }
+    }
+
+    /// Returns the way of this mechanism.
+    pub(crate) fn of(mechanism: Mechanism) -> Way
+        ensures { result ≡ way_for mechanism }
+    {
+        match mechanism {
+            Mechanism::ScramSha512Plus => Way::Scram(ScramVersion::Sha512, true),
+            Mechanism::ScramSha256Plus => Way::Scram(ScramVersion::Sha256, true),
+            Mechanism::ScramSha1Plus => Way::Scram(ScramVersion::Sha1, true),
+            Mechanism::ScramSha512 => Way::Scram(ScramVersion::Sha512, false),
+            Mechanism::ScramSha256 => Way::Scram(ScramVersion::Sha256, false),
+            Mechanism::ScramSha1 => Way::Scram(ScramVersion::Sha1, false),
+            Mechanism::Plain => Way::Plain,
+            Mechanism::Anonymous => Way::Anonymous,
+            Mechanism::External => Way::External,
         }
     }
 

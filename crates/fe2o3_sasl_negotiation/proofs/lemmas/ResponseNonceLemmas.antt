@@ -7,7 +7,7 @@ use Rattle.fe2o3_sasl_core.specs.AnyMechanismLaws.{Machine}
 use Rattle.fe2o3_sasl_core.specs.declared.any_mechanism.Selected.{Selected}
 use Rattle.fe2o3_sasl_core.specs.declared.any_mechanism.Selected.TheVariants.{First, Second}
 use Rattle.fe2o3_sasl_core.specs.ExternalServer.{external_machine}
-use Rattle.fe2o3_sasl_core.specs.ExtraChallenges.{Phase, Idle, Asking, Signing, Unconfirmed, PassesFrame, RepliesIn, extended_machine}
+use Rattle.fe2o3_sasl_core.specs.Servers.{sasl_machine}
 use Rattle.fe2o3_sasl_core.specs.PlainServer.{plain_machine}
 use Rattle.fe2o3_sasl_core.specs.RestrictMechanisms.{offering_machine}
 use Rattle.fe2o3_sasl_core.specs.SaslAcceptor.{ScramAcceptor, PlainAcceptor, AnonymousAcceptor, acceptor_machine}
@@ -41,19 +41,5 @@ pub restricted_ignore_nonces : {S : Type 0} (names : S → List (List ℕ)) (mac
 restricted_ignore_nonces names machine same offering next nonce other text reply (moved, answers, is) =
     (moved, same offering.inner moved nonce other text reply answers, is)
 
-pub extra_challenges_ignore_nonces : {S : Type 0} (names : S → List (List ℕ)) (machine : Machine S)
-    → IgnoresResponseNonce machine → IgnoresResponseNonce (extended_machine names machine)
-extra_challenges_ignore_nonces {S} names machine same server next nonce other text reply replies =
-    by server.phase replies
-  where
-    passes : PassesFrame machine server nonce (frames.Response text) reply next
-        → PassesFrame machine server other (frames.Response text) reply next
-    passes (answer, moved, answers, sent, is) =
-        (answer, moved, same server.inner moved nonce other text answer answers, sent, is)
-
-    by : (phase : Phase) → RepliesIn names machine server phase nonce (frames.Response text) reply next
-        → RepliesIn names machine server phase other (frames.Response text) reply next
-    by Idle replies = passes replies
-    by (Asking mechanism hostname kept) replies = replies
-    by Signing replies = replies
-    by Unconfirmed replies = passes replies
+pub servers_ignore_response_nonces : IgnoresResponseNonce sasl_machine
+servers_ignore_response_nonces server next nonce other text reply replies = replies

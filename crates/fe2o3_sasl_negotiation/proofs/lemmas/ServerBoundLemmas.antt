@@ -4,8 +4,6 @@ use Rattle.fe2o3_sasl_wire.specs.declared.amqp_types.SaslCode.TheVariants as out
 use Rattle.fe2o3_sasl_wire.specs.declared.sasl_frames.error.Error.TheVariants as faults
 use Rattle.fe2o3_sasl_wire.specs.SaslFrames.{SaslFrame}
 use Rattle.fe2o3_sasl_core.specs.AnyMechanismLaws.{Machine}
-use Rattle.fe2o3_sasl_core.specs.ChallengeCounts.{challenges_left, most_left}
-use Rattle.fe2o3_sasl_core.specs.ExtraChallenges.{extended_machine}
 use Rattle.fe2o3_sasl_core.specs.Events.{Given, ServerSays, Challenged, Concluded, Failed}
 use Rattle.fe2o3_sasl_core.specs.Runs.{AcceptorSteps}
 use Rattle.fe2o3_sasl_core.specs.SaslAcceptor.{acceptor_names, acceptor_machine}
@@ -16,12 +14,11 @@ use Rattle.fe2o3_sasl_negotiation.specs.declared.progress.Progress.TheVariants.{
 use Rattle.fe2o3_sasl_negotiation.specs.declared.progress.FrameKind.{FrameKind}
 use Rattle.fe2o3_sasl_negotiation.specs.declared.progress.FrameKind.TheVariants as turns
 use Rattle.fe2o3_sasl_negotiation.specs.Connections.{SpellsTurn}
-use Rattle.fe2o3_sasl_negotiation.specs.CostLaws.{ServersOfAreBounded, ServersAreBounded, ExtendedServersAreBounded, extended_names}
+use Rattle.fe2o3_sasl_negotiation.specs.CostLaws.{ServersOfAreBounded, ServersAreBounded}
 use Rattle.fe2o3_sasl_negotiation.specs.Framing.{sasl_header}
 use Rattle.fe2o3_sasl_negotiation.specs.Negotiations.{SideOutput, Sends, closes}
 use Rattle.fe2o3_sasl_negotiation.specs.ServerNegotiation.{offer_body, Offers, behind_header, ServerOutputs, ServerSideAnswers}
 use Rattle.fe2o3_sasl_negotiation.proofs.lemmas.BoundLemmas.{Keeps, closed, logged_in, closes_keeps, sends_keeps, bounded}
-use Rattle.fe2o3_sasl_core.proofs.lemmas.machines.ChallengeCountLemmas.{extra_challenges_are_bounded}
 use Rattle.fe2o3_sasl_negotiation.proofs.lemmas.ChallengeLemmas.{ChallengesAtMost, acceptor_bounds, bounded_steps, challenged_turn}
 
 module _ {S : Type 0} (names : S → List (List ℕ)) (machine : S → List ℕ → SaslFrame → SaslFrame → S → Type 0)
@@ -140,11 +137,3 @@ pub servers_are_bounded : ServersAreBounded
 servers_are_bounded acceptor limit calls stream sent rest last made =
     servers_of_are_bounded acceptor_names acceptor_machine (λ _. 0) (λ _. 0) acceptor_bounds acceptor limit calls stream
     sent rest last made
-
-pub extended_servers_are_bounded : ExtendedServersAreBounded
-extended_servers_are_bounded server limit calls stream sent rest last made =
-    let bounds = extra_challenges_are_bounded acceptor_names acceptor_machine (λ _. 0) (λ _. 0) acceptor_bounds in
-    let whole = servers_of_are_bounded extended_names (extended_machine acceptor_names acceptor_machine)
-    (challenges_left (λ _. 0) (λ _. 0)) (most_left (λ _. 0)) bounds server limit calls stream sent rest last made in
-    let sent_few = whole.0 in
-    (omega (arith, sent_few), whole.1)

@@ -1,19 +1,82 @@
--- How many challenges a login has: `bounds_hold`, `extra_challenges_are_bounded`, `logins_have_few_challenges`.
-use Rattle.std.proofs.Common.{◌≡◌, ◌⊎◌, ◌<◌, ◌≤◌, ◌+◌, ℕ, Bool, true, false, Option, Some, None, List, [], ◌∷◌, length, refl, sym, ap, subst, inl, inr, arith}
-use Rattle.std.specs.Prelude.{◌&&◌, if◌then◌else◌}
+-- How many challenges a login has: `bounds_hold`, `servers_are_bounded`, `servers_have_few_challenges`.
+use Rattle.std.proofs.Common.{◌≡◌, ◌⊎◌, ◌<◌, ◌≤◌, ◌+◌, ℕ, Bool, true, false, Option, Some, None, List, [], ◌∷◌, length, refl, sym, ap, subst, inl, inr, arith, Result, Ok, Err}
+use Rattle.std.specs.Prelude.{MatchOption}
 use Rattle.std.specs.List.{AllByRecursion}
+use Rattle.fe2o3_sasl_wire.specs.declared.amqp_types.SaslCode.{SaslCode}
 use Rattle.fe2o3_sasl_wire.specs.declared.amqp_types.SaslCode.TheVariants as outcomes
+use Rattle.fe2o3_sasl_wire.specs.declared.sasl_frames.error.Error.TheVariants as faults
 use Rattle.fe2o3_sasl_wire.specs.SaslFrames as frames
-use Rattle.fe2o3_sasl_wire.specs.SaslFrames.{SaslFrame}
+use Rattle.fe2o3_sasl_wire.specs.SaslFrames.{SaslFrame, canonical}
+use Rattle.fe2o3_scram.specs.ServerFirst.{OpenExchange}
+use Rattle.fe2o3_scram.specs.declared.hmac.ScramVersion.{ScramVersion}
+use Rattle.fe2o3_scram.specs.declared.scram_messages.error.ServerScramErrorKind.{ServerScramErrorKind}
 use Rattle.fe2o3_sasl_core.specs.AnyMechanismLaws.{Machine}
-use Rattle.fe2o3_sasl_core.specs.Bodies.{server_says}
-use Rattle.fe2o3_sasl_core.specs.ChallengeCounts.{BoundsChallenges, BoundsHold, ExtraChallengesAreBounded, GoesOn, IsChallenge, IsInit, IsResponse, LoginsHaveFewChallenges, challenges_left, left_in, most_left, one_if}
+use Rattle.fe2o3_sasl_core.specs.Bodies.{SpellsBody, server_says}
+use Rattle.fe2o3_sasl_core.specs.ChallengeCounts.{BoundsChallenges, BoundsHold, GoesOn, IsChallenge, IsError, IsInit, IsResponse, SaslServersAreBounded, ServersHaveFewChallenges, one_if, challenges_left, challenges_most, stage_left}
 use Rattle.fe2o3_sasl_core.specs.Events.{Given, ServerSays, Failed}
-use Rattle.fe2o3_sasl_core.specs.ExtraChallengeLaws.{IsError}
-use Rattle.fe2o3_sasl_core.specs.ExtraChallenges.{Extended, Phase, Idle, Asking, Signing, extended_machine, is_asked, passed_in, passed_nonce, phase_after, sent_for}
-use Rattle.fe2o3_sasl_core.specs.Runs.{Runs, AcceptorSteps}
+use Rattle.fe2o3_sasl_core.specs.Runs.{Runs, AcceptorSteps, SendsCanonical}
+use Rattle.fe2o3_sasl_core.specs.Servers.{AsksForResponse, ClosesExchange, ConfirmsSignature, ExchangeOpen, InitAnswers, InitWhere, NotStarted, OpensScram, ResponseAnswers, ResponseAsked, SendsSignature, ServerLogin, ServerSettings, ServerStage, SignatureShown, StageRejects, UserAuthenticated, asked_way, exchange_login, is_response_asked, sasl_machine}
+use Rattle.fe2o3_sasl_core.specs.declared.server.ways.Way.{Way}
+use Rattle.fe2o3_sasl_core.specs.declared.server.ways.Way.TheVariants as ways
 use Rattle.fe2o3_sasl_core.proofs.lemmas.frames.SpellingLemmas.{one_spelled_frame}
-use Rattle.fe2o3_sasl_core.proofs.lemmas.machines.ExtraChallengeLemmas.{AnsweredIn, Sends, Stays, answered_in, step_sends}
+
+-- ---- a step of any acceptor
+
+-- the reply of a machine to the frame of a body, which is sent
+record Sends {S : Type 0} (machine : Machine S) (state : S) (event : Given) (says : ServerSays) (next : S)
+    : Type 0 where
+  frame : SaslFrame
+  reply : SaslFrame
+  body : List ℕ
+  spells : SpellsBody event.body (Ok frame)
+  answers : machine state event.nonce frame reply next
+  written : canonical reply ≡ Some body
+  said : says ≡ server_says reply body
+
+-- an error leaves the state
+abbrev Stays : {S : Type 0} → S → ServerSays → S → Type 0
+Stays state says next = IsError says × (next ≡ state)
+
+written : {S : Type 0} (machine : Machine S) (state moved next : S) (event : Given) (frame reply : SaslFrame)
+    (says : ServerSays) → SpellsBody event.body (Ok frame) → machine state event.nonce frame reply moved
+    → (body : Option (List ℕ)) → canonical reply ≡ body
+    → SendsCanonical (Failed faults.TooLarge) (server_says reply) body state moved says next
+    → Stays state says next ⊎ Sends machine state event says next
+written machine state moved next event frame reply says spells is None e sent =
+    inl (subst IsError (sym sent.0) tt, sent.1)
+written {S} machine state moved next event frame reply says spells is (Some body) e sent = inr (record {
+  frame = frame;
+  reply = reply;
+  body = body;
+  spells = spells;
+  answers = subst (λ (s : S). machine state event.nonce frame reply s) (sym sent.1) is;
+  written = e;
+  said = sent.0;
+})
+
+-- a step is an error, or a reply that is sent
+step_sends : {S : Type 0} (machine : Machine S) (state next : S) (event : Given) (says : ServerSays)
+    → AcceptorSteps machine state event says next → Stays state says next ⊎ Sends machine state event says next
+step_sends machine state next event says (Err fault, spells, is) = inl (subst IsError (sym is.0) tt, is.1)
+step_sends machine state next event says (Ok (frames.Mechanisms list), spells, is) =
+    inl (subst IsError (sym is.0) tt, is.1)
+step_sends machine state next event says (Ok (frames.Challenge text), spells, is) =
+    inl (subst IsError (sym is.0) tt, is.1)
+step_sends machine state next event says (Ok (frames.Outcome code more), spells, is) =
+    inl (subst IsError (sym is.0) tt, is.1)
+step_sends machine state next event says (Ok (frames.Init mechanism response hostname), spells, inl is) =
+    inl (subst IsError (sym is.0) tt, is.1)
+step_sends machine state next event says (Ok (frames.Response text), spells, inl is) =
+    inl (subst IsError (sym is.0) tt, is.1)
+step_sends machine state next event says (
+  Ok (frames.Init mechanism response hostname),
+  spells,
+  inr (reply, moved, is, sent),
+) =
+    written machine state moved next event (frames.Init mechanism response hostname) reply says spells is
+    (canonical reply) refl sent
+step_sends machine state next event says (Ok (frames.Response text), spells, inr (reply, moved, is, sent)) =
+    written machine state moved next event (frames.Response text) reply says spells is (canonical reply) refl sent
 
 -- ---- any acceptor
 
@@ -75,136 +138,127 @@ bounds_hold {S} machine left most bounds state last init events replies is respo
     let rest = responses_lower machine left most bounds runs.1 last events runs.2 responses runs.5 all.1 in
     let longer = ap (λ (r : List ServerSays). length r) runs.4 in omega arith
 
--- ---- extra challenges
+-- ---- a server of all mechanisms
 
--- what is left after a reply of the acceptor that goes on, or that was sent as a challenge
-left_passed : (signature : Bool) (phase : Phase) (answer : SaslFrame) (now after_init bound : ℕ)
-    → GoesOn (sent_for signature answer) → (GoesOn answer → now ≤ bound)
-    → left_in (phase_after signature phase answer) (one_if signature) now after_init ≤ bound + one_if signature
-left_passed true phase (frames.Outcome outcomes.Ok (Some text)) now after_init bound goes below = omega arith
-left_passed true phase (frames.Outcome outcomes.Ok None) now after_init bound goes below = absurd goes
-left_passed true phase (frames.Outcome code more) now after_init bound goes below = absurd goes
-left_passed false phase (frames.Outcome code more) now after_init bound goes below = absurd goes
-left_passed signature Idle answer now after_init bound goes below = let h = below goes in omega arith
-left_passed signature phase answer now after_init bound goes below = let h = below goes in omega arith
+-- an outcome ends a login
+ends : {A : Type 0} (reply : SaslFrame) (code : SaslCode) (more : Option (List ℕ)) → reply ≡ frames.Outcome code more
+    → GoesOn reply → A
+ends reply code more same goes = absurd (subst GoesOn same goes)
 
-left_lowered : (signature : Bool) (phase : Phase) (answer : SaslFrame) (now after_init before : ℕ)
-    → GoesOn (sent_for signature answer) → (GoesOn answer → now < before)
-    → left_in (phase_after signature phase answer) (one_if signature) now after_init < before + one_if signature
-left_lowered true phase (frames.Outcome outcomes.Ok (Some text)) now after_init before goes below = omega arith
-left_lowered true phase (frames.Outcome outcomes.Ok None) now after_init before goes below = absurd goes
-left_lowered true phase (frames.Outcome code more) now after_init before goes below = absurd goes
-left_lowered false phase (frames.Outcome code more) now after_init before goes below = absurd goes
-left_lowered signature Idle answer now after_init before goes below = let h = below goes in omega arith
-left_lowered signature phase answer now after_init before goes below = let h = below goes in omega arith
+module _ (settings : ServerSettings) where
+  abbrev signs : Bool
+  signs = settings.extra.signature
 
--- the acceptor receives an init as it is
-init_passed : {S : Type 0} (names : S → List (List ℕ)) (server : Extended S) (phase : Phase) (mechanism : List ℕ)
-    (response hostname : Option (List ℕ)) (frame : SaslFrame)
-    → passed_in names server phase (frames.Init mechanism response hostname) ≡ Some frame
-    → frame ≡ frames.Init mechanism response hostname
-init_passed names server (Asking other host kept) mechanism response hostname frame is = absurd (cc)
-init_passed names server phase mechanism response hostname frame is =
-    by (is_asked names server (frames.Init mechanism response hostname)) is
-  where
-    by : (asked : Bool) → (if asked then None else Some (frames.Init mechanism response hostname)) ≡ Some frame
-        → frame ≡ frames.Init mechanism response hostname
-    by true e = absurd (cc)
-    by false e = cc
+  abbrev left : ServerStage → ℕ
+  left = stage_left signs
 
--- only an init is asked, and only by option
-asks_where : {S : Type 0} (names : S → List (List ℕ)) (server : Extended S) (mechanism : List ℕ)
-    (response hostname : Option (List ℕ)) → is_asked names server (frames.Init mechanism response hostname) ≡ true
-    → server.extra.initial_response ≡ true
-asks_where names server mechanism None hostname is = left_of server.extra.initial_response _ is
-  where
-    left_of : (a b : Bool) → a && b ≡ true → a ≡ true
-    left_of true b e = refl
-    left_of false b e = e
-asks_where names server mechanism (Some text) hostname is = absurd (cc)
+  -- the stage after an init by this mechanism whose answer goes on
+  abbrev Within : ServerStage → Type 0
+  Within next = left next ≤ one_if signs + one_if settings.extra.initial_response
 
-extended_init : {S : Type 0} (names : S → List (List ℕ)) (machine : Machine S) (left most : S → ℕ)
-    → BoundsChallenges machine left most → (server next : Extended S) (nonce mechanism : List ℕ)
-    (response hostname : Option (List ℕ)) (reply : SaslFrame) → GoesOn reply
-    → AnsweredIn names machine server server.phase nonce (frames.Init mechanism response hostname) reply next
-    → challenges_left left most next ≤ most_left most server
-extended_init {S} names machine left most bounds server next nonce mechanism response hostname reply goes
-    (inl (passed, passes, (answer, moved, answers, sent, to))) =
-    let is = init_passed names server server.phase mechanism response hostname passed passes in
-    let below = left_passed server.extra.signature server.phase answer (left moved) (most moved) (most server.inner)
-    (subst GoesOn sent goes)
-    (bounds.init server.inner moved
-    (passed_nonce server.phase nonce (frames.Init mechanism response hostname)) mechanism response hostname answer
-    (subst (λ (f : SaslFrame). machine server.inner
-    (passed_nonce server.phase nonce (frames.Init mechanism response hostname)) f answer moved) is answers)) in
-    subst (λ (e : Extended S). challenges_left left most e ≤ most_left most server) (sym to) (omega arith)
-extended_init {S} names machine left most bounds server next nonce mechanism response hostname reply goes
-    (inr (inl (asks, name, host, kept, sent, to))) =
-    let one = ap one_if (asks_where names server mechanism response hostname asks) in
-    subst (λ (e : Extended S). challenges_left left most e ≤ most_left most server) (sym to) (omega arith)
-extended_init names machine left most bounds server next nonce mechanism response hostname reply goes
-    (inr (inr (inl rejects))) = absurd (subst GoesOn rejects.0 goes)
-extended_init names machine left most bounds server next nonce mechanism response hostname reply goes
-    (inr (inr (inr confirms))) = absurd (subst GoesOn confirms.1 goes)
+  within : (stage next : ServerStage) → next ≡ stage → Within stage → Within next
+  within stage next same few = subst Within (sym same) few
 
--- a response that is passed on lowers what is left, in each phase
-passed_lowers : {S : Type 0} (names : S → List (List ℕ)) (machine : Machine S) (left most : S → ℕ)
-    → BoundsChallenges machine left most → (server : Extended S) (phase : Phase) (nonce text : List ℕ)
-    (passed answer : SaslFrame) (moved : S) → passed_in names server phase (frames.Response text) ≡ Some passed
-    → machine server.inner (passed_nonce phase nonce (frames.Response text)) passed answer moved
-    → GoesOn (sent_for server.extra.signature answer)
-    → left_in (phase_after server.extra.signature phase answer) (one_if server.extra.signature) (left moved)
-    (most moved) < left_in phase (one_if server.extra.signature) (left server.inner) (most server.inner)
-passed_lowers {S} names machine left most bounds server (Asking mechanism hostname kept) nonce text passed answer moved
-    passes answers goes =
-    let is : passed ≡ frames.Init mechanism (Some text) hostname = cc in
-    let below = left_passed server.extra.signature (Asking mechanism hostname kept) answer (left moved) (most moved)
-    (most server.inner) goes
-    (bounds.init server.inner moved kept mechanism (Some text) hostname answer
-    (subst (λ (f : SaslFrame). machine server.inner kept f answer moved) is answers)) in omega arith
-passed_lowers names machine left most bounds server Signing nonce text passed answer moved passes answers goes =
-    absurd (cc)
-passed_lowers {S} names machine left most bounds server phase nonce text passed answer moved passes answers goes =
-    let is : passed ≡ frames.Response text = cc in
-    left_lowered server.extra.signature phase answer (left moved) (most moved) (left server.inner) goes
-    (bounds.response server.inner moved nonce text answer
-    (subst (λ (f : SaslFrame). machine server.inner nonce f answer moved) is answers))
+  rejects : {A : Type 0} (kept : ServerStage) (reply : SaslFrame) (next : ServerStage) → GoesOn reply
+      → StageRejects kept reply next → A
+  rejects kept reply next goes is = ends reply outcomes.Auth None is.0 goes
 
-extended_response : {S : Type 0} (names : S → List (List ℕ)) (machine : Machine S) (left most : S → ℕ)
-    → BoundsChallenges machine left most → (server next : Extended S) (nonce text : List ℕ) (reply : SaslFrame)
-    → GoesOn reply → AnsweredIn names machine server server.phase nonce (frames.Response text) reply next
-    → challenges_left left most next < challenges_left left most server
-extended_response {S} names machine left most bounds server next nonce text reply goes
-    (inl (passed, passes, (answer, moved, answers, sent, to))) =
-    subst (λ (e : Extended S). challenges_left left most e < challenges_left left most server) (sym to)
-    (passed_lowers names machine left most bounds server server.phase nonce text passed answer moved passes answers
-    (subst GoesOn sent goes))
-extended_response names machine left most bounds server next nonce text reply goes (inr (inl asks)) =
-    let no = asks.0 in absurd (cc)
-extended_response names machine left most bounds server next nonce text reply goes (inr (inr (inl rejects))) =
-    absurd (subst GoesOn rejects.0 goes)
-extended_response names machine left most bounds server next nonce text reply goes (inr (inr (inr confirms))) =
-    absurd (subst GoesOn confirms.1 goes)
+  asks_within : (does : Bool) (way : Way) (kept : ServerStage) (nonce : List ℕ) (reply : SaslFrame)
+      (next : ServerStage) → does ≡ settings.extra.initial_response → GoesOn reply
+      → AsksForResponse does way kept nonce reply next → Within next
+  asks_within true way kept nonce reply next same goes is = let one = ap one_if same in
+      within (ResponseAsked way nonce) next is.1 (omega (arith, one))
+  asks_within false way kept nonce reply next same goes is = rejects kept reply next goes is
 
-pub extra_challenges_are_bounded : {S : Type 0} (names : S → List (List ℕ)) (machine : Machine S)
-    → ExtraChallengesAreBounded names machine
-extra_challenges_are_bounded names machine left most bounds = record {
+  -- an answer to a client-first message that goes on leaves a signature
+  opens_to : (version : ScramVersion) (plus : Bool) (kept : ServerStage)
+      (answer : Result (Option (List ℕ × OpenExchange)) ServerScramErrorKind) (reply : SaslFrame) (next : ServerStage)
+      → GoesOn reply → OpensScram version plus kept answer reply next → left next ≡ one_if signs
+  opens_to version plus kept (Ok (Some opened)) reply next goes is = ap left is.1
+  opens_to version plus kept (Ok None) reply next goes is = rejects kept reply next goes is
+  opens_to version plus kept (Err fault) reply next goes is = rejects kept reply next goes is
+
+  text_to : (way : Way) (kept : ServerStage) (nonce text : List ℕ) (reply : SaslFrame) (next : ServerStage)
+      → GoesOn reply → InitAnswers settings way kept nonce (Some text) reply next → left next ≡ one_if signs
+  text_to ways.Anonymous kept nonce text reply next goes is = ends reply outcomes.Ok None is.0 goes
+  text_to ways.External kept nonce text reply next goes (inl (asked, is)) = ends reply outcomes.Ok None is.0 goes
+  text_to ways.External kept nonce text reply next goes (inr (other, is)) = rejects kept reply next goes is
+  text_to ways.Plain kept nonce text reply next goes (inl (parts, lets, is)) = ends reply outcomes.Ok None is.0 goes
+  text_to ways.Plain kept nonce text reply next goes (inr (none, is)) = rejects kept reply next goes is
+  text_to (ways.Scram version plus) kept nonce text reply next goes (answer, begins, is) =
+      opens_to version plus kept answer reply next goes is
+
+  init_within : (way : Way) (kept : ServerStage) (nonce : List ℕ) (response : Option (List ℕ)) (reply : SaslFrame)
+      (next : ServerStage) → GoesOn reply → InitAnswers settings way kept nonce response reply next → Within next
+  init_within way kept nonce (Some text) reply next goes is =
+      let same = text_to way kept nonce text reply next goes is in omega (arith, same)
+  init_within ways.Anonymous kept nonce None reply next goes is = ends reply outcomes.Ok None is.0 goes
+  init_within ways.External kept nonce None reply next goes (inl (asked, is)) = ends reply outcomes.Ok None is.0 goes
+  init_within ways.External kept nonce None reply next goes (inr (other, is)) = rejects kept reply next goes is
+  init_within ways.Plain kept nonce None reply next goes is =
+      asks_within settings.extra.initial_response ways.Plain kept nonce reply next refl goes is
+  init_within (ways.Scram version plus) kept nonce None reply next goes is =
+      asks_within settings.extra.initial_response (ways.Scram version plus) kept nonce reply next refl goes is
+
+  asked_within : (asked : Option Way) (stage : ServerStage) (nonce : List ℕ) (response : Option (List ℕ))
+      (reply : SaslFrame) (next : ServerStage) → GoesOn reply
+      → MatchOption asked (StageRejects stage reply next)
+      (λ way. InitAnswers settings way stage nonce response reply next) → Within next
+  asked_within None stage nonce response reply next goes is = rejects stage reply next goes is
+  asked_within (Some way) stage nonce response reply next goes is =
+      init_within way stage nonce response reply next goes is
+
+  where_within : (due : Bool) (stage : ServerStage) (nonce name : List ℕ) (response : Option (List ℕ))
+      (reply : SaslFrame) (next : ServerStage) → GoesOn reply
+      → InitWhere due settings stage nonce name response reply next → Within next
+  where_within true stage nonce name response reply next goes is = rejects NotStarted reply next goes is
+  where_within false stage nonce name response reply next goes is =
+      asked_within (asked_way settings name) stage nonce response reply next goes is
+
+  -- a response that goes on lowers what is left
+  sends_lower : (does : Bool) (login : ServerLogin) (message : List ℕ) (reply : SaslFrame) (next : ServerStage)
+      → does ≡ signs → GoesOn reply → SendsSignature does login message reply next → left next < one_if signs
+  sends_lower true login message reply next same goes is =
+      let one = ap one_if same in let none = ap left is.1 in omega (arith, one, none)
+  sends_lower false login message reply next same goes is = ends reply outcomes.Ok (Some message) is.0 goes
+
+  closes_lower : (version : ScramVersion) (plus : Bool) (exchange : OpenExchange)
+      (answer : Result (List ℕ) ServerScramErrorKind) (reply : SaslFrame) (next : ServerStage) → GoesOn reply
+      → ClosesExchange signs version plus exchange answer reply next → left next < one_if signs
+  closes_lower version plus exchange (Ok message) reply next goes is =
+      sends_lower signs (exchange_login version plus exchange) message reply next refl goes is
+  closes_lower version plus exchange (Err fault) reply next goes is = rejects _ reply next goes is
+
+  confirms_none : {A : Type 0} (login : ServerLogin) (text : List ℕ) (reply : SaslFrame) (next : ServerStage)
+      → GoesOn reply → ConfirmsSignature login text reply next → A
+  confirms_none login [] reply next goes is = ends reply outcomes.Ok None is.0 goes
+  confirms_none login (byte ∷ text) reply next goes is = rejects _ reply next goes is
+
+  response_lower : (stage : ServerStage) (text : List ℕ) (reply : SaslFrame) (next : ServerStage) → GoesOn reply
+      → ResponseAnswers settings stage text reply next → left next < left stage
+  response_lower (ResponseAsked way nonce) text reply next goes is =
+      let same = text_to way NotStarted nonce text reply next goes is in omega (arith, same)
+  response_lower (ExchangeOpen version plus exchange) text reply next goes (answer, held, is) =
+      closes_lower version plus exchange answer reply next goes is
+  response_lower (SignatureShown login) text reply next goes is = confirms_none login text reply next goes is
+  response_lower NotStarted text reply next goes is = rejects _ reply next goes is
+  response_lower (UserAuthenticated login) text reply next goes is = rejects _ reply next goes is
+
+-- a server with other settings of the same values has as much left
+left_by : (one other : ServerSettings) (stage : ServerStage) → one ≡ other
+    → stage_left one.extra.signature stage ≡ stage_left other.extra.signature stage
+left_by one other stage same = ap (λ (s : ServerSettings). stage_left s.extra.signature stage) same
+
+pub servers_are_bounded : SaslServersAreBounded
+servers_are_bounded = record {
   init = λ server next nonce mechanism response hostname reply is goes.
-      extended_init names machine left most bounds server next nonce mechanism response hostname reply goes
-      (answered_in names machine server next server.phase nonce (frames.Init mechanism response hostname) reply is);
+      let few = where_within server.settings (is_response_asked server.stage) server.stage nonce mechanism response reply
+      next.stage goes is.1 in
+      omega (arith, few, left_by next.settings server.settings next.stage is.0);
   response = λ server next nonce text reply is goes.
-      extended_response names machine left most bounds server next nonce text reply goes
-      (answered_in names machine server next server.phase nonce (frames.Response text) reply is);
+      let few = response_lower server.settings server.stage text reply next.stage goes is.1 in
+      omega (arith, few, left_by next.settings server.settings next.stage is.0);
 }
 
-pub logins_have_few_challenges : {S : Type 0} (names : S → List (List ℕ)) (machine : Machine S)
-    → LoginsHaveFewChallenges names machine
-logins_have_few_challenges {S} names machine only server last init events replies is responses runs challenges =
-    let none : S → ℕ = λ state. 0 in
-    let bounds : BoundsChallenges machine none none = record {
-      init = λ state next nonce mechanism response hostname reply answers goes. omega arith;
-      response = λ state next nonce text reply answers goes. absurd (only state next nonce text reply answers goes);
-    } in
-    let few = bounds_hold (extended_machine names machine) (challenges_left none none) (most_left none)
-    (extra_challenges_are_bounded names machine none none bounds) server last init events replies is responses runs
-    challenges in omega arith
+pub servers_have_few_challenges : ServersHaveFewChallenges
+servers_have_few_challenges = bounds_hold sasl_machine challenges_left challenges_most servers_are_bounded

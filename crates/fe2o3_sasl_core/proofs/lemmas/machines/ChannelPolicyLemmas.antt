@@ -1,13 +1,11 @@
 -- What a client that has a channel says of it (RFC 5802, section 6): `selection_keeps_channel`, `offered_channel_is_bound`,
 -- `unoffered_channel_is_said`, `required_channel_is_bound`, `selected_scram_has_channel`.
-use Rattle.std.proofs.Common.{◌≡◌, ◌≢◌, ◌⊎◌, ◌&&◌, ◌++◌, not, ℕ, zero, suc, Bool, true, false, Option, Some, None, List, [], ◌∷◌, length, take, refl, sym, ◌∙◌, ap, subst, inl, inr, arith}
+use Rattle.std.proofs.Common.{◌≡◌, ◌≢◌, ◌⊎◌, ◌&&◌, not, ℕ, zero, suc, Bool, true, false, Option, Some, None, List, [], ◌∷◌, take, refl, sym, ◌∙◌, ap, subst, inl, inr, arith}
 use Rattle.std.specs.List.{AllByRecursion, Contains}
 use Rattle.std.specs.Prelude.{is_some, slice_get}
 use Rattle.fe2o3_scram.specs.declared.channel_binding.ChannelBinding.{ChannelBinding}
 use Rattle.fe2o3_scram.specs.declared.hmac.ScramVersion.{ScramVersion}
 use Rattle.fe2o3_scram.specs.declared.hmac.ScramVersion.TheVariants.{Sha1, Sha256, Sha512}
-use Rattle.fe2o3_scram.specs.declared.scram_messages.channel_binding_flag.ChannelBindingFlag.{ChannelBindingFlag}
-use Rattle.fe2o3_scram.specs.declared.scram_messages.channel_binding_flag.ChannelBindingFlag.TheVariants.{ClientSupports, Required}
 use Rattle.fe2o3_scram.specs.declared.scram_messages.client_channel.ClientChannel.{ClientChannel}
 use Rattle.fe2o3_scram.specs.declared.scram_messages.client_channel.ClientChannel.TheVariants.{Absent, Bound, NotOffered}
 use Rattle.fe2o3_scram.specs.ChannelBinding.{flag_of, is_bound, mechanism_of, plus_name, ClientHeader, header_of}
@@ -18,8 +16,8 @@ use Rattle.fe2o3_scram.specs.ScramClient.{ClientSide, fresh_client, with_channel
 use Rattle.fe2o3_scram.specs.Texts.{base64_text}
 use Rattle.fe2o3_scram.proofs.lemmas.texts.DecisionLemmas.{Decided, same_or}
 use Rattle.fe2o3_sasl_core.specs.ClientPolicy.{CanTake, IsFirstTaken, SelectsProfile, bound_channel, by_strength, is_allowed, is_from, policy_name, profile_by, scram_by, secret_for, unbound_channel}
-use Rattle.fe2o3_sasl_core.specs.ClientPolicyLaws.{BeginsWithHeader, BindsExactly, IsAllowedByName, OfferedChannelIsBound, OffersBinding, OffersScram, OffersUnbound, RequiredChannelIsBound, SaysNotOffered, SelectedScramHasChannel, SelectionKeepsChannel, UnofferedChannelIsSaid}
-use Rattle.fe2o3_sasl_core.specs.Profiles.{Profile, ScramProfile, PlainProfile, AnonymousProfile, ExternalProfile, initial_response, profile_name}
+use Rattle.fe2o3_sasl_core.specs.ClientPolicyLaws.{BeginsWithHeader, BindsExactly, IsAllowedByName, OfferedChannelIsBound, OffersBinding, OffersUnbound, RequiredChannelIsBound, SaysNotOffered, SelectedScramHasChannel, SelectionKeepsChannel, UnofferedChannelIsSaid}
+use Rattle.fe2o3_sasl_core.specs.Profiles.{Profile, ScramProfile, initial_response, profile_name}
 use Rattle.fe2o3_sasl_core.specs.declared.client_policy.ClientPolicy.{ClientPolicy}
 use Rattle.fe2o3_sasl_core.specs.declared.client_policy.Mechanism.{Mechanism}
 use Rattle.fe2o3_sasl_core.specs.declared.client_policy.Mechanism.TheVariants.{ScramSha512Plus, ScramSha256Plus, ScramSha1Plus, ScramSha512, ScramSha256, ScramSha1, External, Plain, Anonymous}

@@ -4,13 +4,13 @@ use Rattle.fe2o3_sasl_wire.specs.declared.sasl_frames.error.Error.{Error}
 use Rattle.fe2o3_sasl_wire.specs.declared.sasl_frames.error.Error.TheVariants as faults
 use Rattle.fe2o3_sasl_wire.specs.SaslFrames as frames
 use Rattle.fe2o3_sasl_wire.specs.SaslFrames.{SaslFrame, canonical}
-use Rattle.fe2o3_sasl_core.specs.AnyMechanismLaws.{Machine}
 use Rattle.fe2o3_sasl_core.specs.Bodies.{SpellsBody, server_says}
 use Rattle.fe2o3_sasl_core.specs.Events.{Given, ServerSays, Failed}
-use Rattle.fe2o3_sasl_core.specs.ExtraChallengeLaws.{IsError}
+use Rattle.fe2o3_sasl_core.specs.ChallengeCounts.{IsError}
 use Rattle.fe2o3_sasl_core.specs.LoginAttemptLaws.{AnsweredInit, ContinuesClaim, LastAnsweredInitIsKept, NoAnsweredInit}
-use Rattle.fe2o3_sasl_core.specs.LoginAttempts.{Attempt, IsAttempt, Recorded, RecordsResponse, or_late, recorded_machine, with_late}
+use Rattle.fe2o3_sasl_core.specs.LoginAttempts.{Attempt, IsAttempt, RecordsResponse, or_late, with_late}
 use Rattle.fe2o3_sasl_core.specs.Runs.{Runs, AcceptorSteps, AcceptorGives, SendsCanonical}
+use Rattle.fe2o3_sasl_core.specs.Servers.{ServerAt, sasl_machine}
 use Rattle.fe2o3_sasl_core.proofs.lemmas.frames.SpellingLemmas.{one_spelled_frame}
 
 -- ---- the claim of an init, with the user of a late initial response
@@ -54,12 +54,12 @@ Claims event says attempt =
     (frame : SaslFrame) × SpellsBody event.body (Ok frame) × IsAttempt frame attempt × ¬ IsError says
 
 -- what a step does to the claim: an init that is answered replaces it, and otherwise it continues
-abbrev StepsClaim : {S : Type 0} → Recorded S → Given → ServerSays → Recorded S → Type 0
+abbrev StepsClaim : ServerAt → Given → ServerSays → ServerAt → Type 0
 StepsClaim server event says next =
     ((attempt : Attempt) × Claims event says attempt × (next.last ≡ Some attempt))
     ⊎ (((attempt : Attempt) → ¬ Claims event says attempt) × ContinuesClaim server.last next.last)
 
-stays : {S : Type 0} (server next : Recorded S) (event : Given) (says : ServerSays) (fault : Error)
+stays : (server next : ServerAt) (event : Given) (says : ServerSays) (fault : Error)
     → says ≡ Failed fault → next.last ≡ server.last → StepsClaim server event says next
 stays server next event says fault failed same =
     inr ((λ attempt claims. claims.3 (subst IsError (sym failed) tt)), same_claim server.last next.last same)
@@ -71,10 +71,10 @@ said (frames.Init mechanism response hostname) body error = error
 said (frames.Challenge text) body error = error
 said (frames.Response text) body error = error
 
-last_of : {S : Type 0} → (server other : Recorded S) → server ≡ other → server.last ≡ other.last
-last_of {S} server other is = ap (λ (s : Recorded S). s.last) is
+last_of : (server other : ServerAt) → server ≡ other → server.last ≡ other.last
+last_of server other is = ap (λ (s : ServerAt). s.last) is
 
-init_sent : {S : Type 0} (server mid next : Recorded S) (event : Given) (says : ServerSays) (reply frame : SaslFrame)
+init_sent : (server mid next : ServerAt) (event : Given) (says : ServerSays) (reply frame : SaslFrame)
     (attempt : Attempt) (body : Option (List ℕ)) → SpellsBody event.body (Ok frame) → IsAttempt frame attempt
     → mid.last ≡ Some attempt
     → SendsCanonical (Failed faults.TooLarge) (server_says reply) body server mid says next
@@ -87,7 +87,7 @@ init_sent server mid next event says reply frame attempt (Some body) spells is t
   last_of next mid sent.1 ∙ to,
 )
 
-response_sent : {S : Type 0} (server mid next : Recorded S) (say : List ℕ → ServerSays) (says : ServerSays)
+response_sent : (server mid next : ServerAt) (say : List ℕ → ServerSays) (says : ServerSays)
     (body : Option (List ℕ)) → ContinuesClaim server.last mid.last
     → SendsCanonical (Failed faults.TooLarge) say body server mid says next → ContinuesClaim server.last next.last
 response_sent server mid next say says None to sent =
@@ -101,25 +101,25 @@ no_claim event says text spells attempt (frame, too, is, answered) =
     subst (λ (f : SaslFrame). IsAttempt f attempt) (one_spelled_frame event.body frame (frames.Response text) too spells)
     is
 
-gives : {S : Type 0} (machine : Machine S) (server : Recorded S) (event : Given) (spelled : Result SaslFrame Error)
-    (says : ServerSays) (next : Recorded S) → SpellsBody event.body spelled
-    → AcceptorGives (recorded_machine machine) server event spelled says next → StepsClaim server event says next
-gives machine server event (Ok (frames.Init mechanism response hostname)) says next spells (inl want) =
+gives : (server : ServerAt) (event : Given) (spelled : Result SaslFrame Error)
+    (says : ServerSays) (next : ServerAt) → SpellsBody event.body spelled
+    → AcceptorGives sasl_machine server event spelled says next → StepsClaim server event says next
+gives server event (Ok (frames.Init mechanism response hostname)) says next spells (inl want) =
     stays server next event says faults.OutOfMemory want.0 (last_of next server want.1)
-gives machine server event (Ok (frames.Init mechanism response hostname)) says next spells
-    (inr (reply, mid, (answers, (attempt, is, to)), sent)) =
+gives server event (Ok (frames.Init mechanism response hostname)) says next spells
+    (inr (reply, mid, (same, answers, (attempt, is, to)), sent)) =
     init_sent server mid next event says reply (frames.Init mechanism response hostname) attempt (canonical reply) spells
     is to sent
-gives machine server event (Ok (frames.Response text)) says next spells (inl want) =
+gives server event (Ok (frames.Response text)) says next spells (inl want) =
     stays server next event says faults.OutOfMemory want.0 (last_of next server want.1)
-gives machine server event (Ok (frames.Response text)) says next spells (inr (reply, mid, (answers, to), sent)) = inr (
+gives server event (Ok (frames.Response text)) says next spells (inr (reply, mid, (same, answers, to), sent)) = inr (
   no_claim event says text spells,
   response_sent server mid next (server_says reply) says (canonical reply)
       (response_continues text server.last mid.last to) sent,
 )
-gives machine server event (Ok frame) says next spells is =
+gives server event (Ok frame) says next spells is =
     stays server next event says faults.NotImplemented is.0 (last_of next server is.1)
-gives machine server event (Err fault) says next spells is =
+gives server event (Err fault) says next spells is =
     stays server next event says fault is.0 (last_of next server is.1)
 
 -- ---- positions
@@ -198,7 +198,7 @@ Keeps before after events replies = (NoAnsweredInit events replies 0 × Continue
     ⊎ ((at : ℕ) × (attempt : Attempt) × AnsweredInit events replies at attempt
     × NoAnsweredInit events replies (at + 1) × ContinuesClaim (Some attempt) after)
 
-keeps_more : {S : Type 0} (server next : Recorded S) (after : Option Attempt) (event : Given) (events : List Given)
+keeps_more : (server next : ServerAt) (after : Option Attempt) (event : Given) (events : List Given)
     (says : ServerSays) (replies : List ServerSays) → StepsClaim server event says next
     → Keeps next.last after events replies → Keeps server.last after (event ∷ events) (says ∷ replies)
 keeps_more server next after event events says replies step (inr (at, attempt, answered, none, is)) = inr (
@@ -218,20 +218,20 @@ keeps_more server next after event events says replies (inl (attempt, claims, to
 keeps_more server next after event events says replies (inr (not, to)) (inl (none, is)) =
     inl (none_at_all event events says replies not none, on_and_on server.last next.last after to is)
 
-runs_keep : {S : Type 0} (machine : Machine S) (server last : Recorded S) (events : List Given)
-    (replies : List ServerSays) → Runs (AcceptorSteps (recorded_machine machine)) server events replies last
+runs_keep : (server last : ServerAt) (events : List Given)
+    (replies : List ServerSays) → Runs (AcceptorSteps sasl_machine) server events replies last
     → Keeps server.last last.last events replies
-runs_keep machine server last [] replies runs =
+runs_keep server last [] replies runs =
     inl (
       (λ at attempt least a. let is = a.is in absurd (cc)),
       same_claim server.last last.last (last_of last server runs.1),
     )
-runs_keep machine server last (event ∷ events) replies runs =
-    let step = gives machine server event runs.3.0 runs.0 runs.1 runs.3.1 runs.3.2 in
-    let rest = runs_keep machine runs.1 last events runs.2 runs.5 in
+runs_keep server last (event ∷ events) replies runs =
+    let step = gives server event runs.3.0 runs.0 runs.1 runs.3.1 runs.3.2 in
+    let rest = runs_keep runs.1 last events runs.2 runs.5 in
     subst (λ (r : List ServerSays). Keeps server.last last.last (event ∷ events) r) (sym runs.4)
     (keeps_more server runs.1 last.last event events runs.0 runs.2 step rest)
 
-pub last_answered_init_is_kept : {S : Type 0} (machine : Machine S) → LastAnsweredInitIsKept machine
-last_answered_init_is_kept machine server last events replies runs =
-    runs_keep machine server last events replies runs
+pub last_answered_init_is_kept : LastAnsweredInitIsKept
+last_answered_init_is_kept server last events replies runs =
+    runs_keep server last events replies runs

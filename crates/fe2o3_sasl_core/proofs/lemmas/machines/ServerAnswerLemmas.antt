@@ -1,6 +1,6 @@
 -- What the parts of a server's answer say of its machine.
-use Rattle.std.proofs.Common.{◌≡◌, ◌≢◌, ◌⊎◌, inl, inr, ℕ, Bool, List, Option, Some, None, Result, Ok, Err, ap, sym, subst, refl, arith}
-use Rattle.std.specs.Prelude.{IfErr, IfOk, IsAscii, codes, option_map}
+use Rattle.std.proofs.Common.{◌≡◌, inl, inr, ℕ, Bool, List, Option, Some, Result, Ok, Err, sym, subst, refl}
+use Rattle.std.specs.Prelude.{IsAscii, codes}
 use Rattle.fe2o3_sasl_core.proofs.lemmas.frames.SpellingLemmas.{IsAscii-mechanism_of}
 use Rattle.fe2o3_sasl_wire.proofs.lemmas.reading.TextLemmas.{IsAscii-from_is_ascii}
 use Rattle.fe2o3_sasl_wire.specs.SaslFrames.{SaslFrame, canonical}

@@ -1,5 +1,5 @@
 -- Of a client that has a channel and a server that takes no `y,,`: equal AuthMessages are of one channel.
-use Rattle.std.proofs.Common.{◌≡◌, ℕ, List, ap, inl}
+use Rattle.std.proofs.Common.{ℕ, List, ap, inl}
 use Rattle.fe2o3_scram.specs.ChannelBinding.{TakesHeader, Gs2Header}
 use Rattle.fe2o3_scram.specs.Credentials.{Provider}
 use Rattle.fe2o3_scram.proofs.lemmas.messages.BoundChannelLemmas.{one_channel}

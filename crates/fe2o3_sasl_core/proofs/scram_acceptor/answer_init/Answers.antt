@@ -1,4 +1,4 @@
-use Rattle.std.proofs.Common.{◌≡◌, ◌∙◌, inl, refl, sym, subst, None, Some, Ok, Err, ℕ, List, Option}
+use Rattle.std.proofs.Common.{◌≡◌, ◌∙◌, refl, sym, subst, None, Some, Ok, Err, ℕ, List, Option}
 use Rattle.std.specs.Prelude.{option_map, string_bytes, Vec}
 use Rattle.std.specs.declared.alloc.Global.{Global}
 use Rattle.fe2o3_sasl_wire.specs.declared.amqp_types.SaslCode.TheVariants.{Auth}
@@ -11,18 +11,8 @@ use Rattle.fe2o3_sasl_core.specs.ScramRejections.{known_by}
 use Rattle.fe2o3_sasl_core.proofs.lemmas.machines.InitCostLemmas.{refusal_most, refusal_takes}
 use Rattle.fe2o3_sasl_core.proofs.lemmas.machines.LoginAttemptLemmas.{not_apart}
 use Rattle.fe2o3_sasl_core.proofs.lemmas.machines.RejectionLemmas.{first_rejected}
-use Rattle.fe2o3_sasl_core.proofs.lemmas.machines.PlainServerLemmas.{err_where}
 use Rattle.fe2o3_sasl_core.proofs.lemmas.steps.AcceptorReplyLemmas.{init_answered, init_refused, init_wants}
 use Rattle.fe2o3_sasl_core.proofs.scram_acceptor.answer_init.Goals as goal
-
-pub returns-in_err-reason_of_unknown-in-Ok-None-clause-memory :
-    goal.returns-in_err-reason_of_unknown-in-Ok-None-clause-memory
-returns-in_err-reason_of_unknown-in-Ok-None-clause-memory g c =
-    let name = (sym c.as_str.ensures.text ∙ not_apart c.as_str.result.now c.mechanism.result.now c.if-ne.ensures)
-    ∙ c.mechanism.ensures in
-    let escapes = rw (c.rules.ensures ∙ c.compute_server_first_message_metered.ensures.rules)
-    at (rw c.deref-in-Ok-None.ensures.value at c.in_err-reason_of_unknown-in-Ok-None.ensures.memory) in
-    rw c.in-Some.is (err_where c.from_residual.result (name, inl escapes))
 
 pub returns-in-Ok-Some-clause-ok : goal.returns-in-Ok-Some-clause-ok
 returns-in-Ok-Some-clause-ok g c =
@@ -37,11 +27,10 @@ returns-in-Ok-Some-clause-ok g c =
     (Ok (Some c.in-Ok-Some.server_first.items)) (sent_frame c.challenge.result)
     (λ i. with_rights (made.ensures.rights i)
     (mocking (made.ensures.mock i) (serving (made.ensures.rules i) (m.meaning (made.ensures.provider i)))))
-    name answers c.challenge.ensures.frame)
+    name answers (rw c.in-Ok-Some.field-0-is at c.challenge.ensures.frame))
 
-pub returns-in_ok-reason_of_unknown-in-Ok-None-clause-ok :
-    goal.returns-in_ok-reason_of_unknown-in-Ok-None-clause-ok
-returns-in_ok-reason_of_unknown-in-Ok-None-clause-ok g c =
+pub returns-in-Ok-None-clause-ok : goal.returns-in-Ok-None-clause-ok
+returns-in-Ok-None-clause-ok g c =
     let m = g.C.ScramCredentialProvider in
     let name = (sym c.as_str.ensures.text ∙ not_apart c.as_str.result.now c.mechanism.result.now c.if-ne.ensures)
     ∙ c.mechanism.ensures in
@@ -76,10 +65,10 @@ returns-in-Err-clause-reason g c =
     let name = (sym c.as_str.ensures.text ∙ not_apart c.as_str.result.now c.mechanism.result.now c.if-ne.ensures)
     ∙ c.mechanism.ensures in
     let answers = rw c.deref.ensures.value at c.in-Err.ensures.answer in
-    let first = rw (c.rules-in-Err.ensures ∙ c.compute_server_first_message_metered.ensures.rules)
+    let first = rw (c.rules.ensures ∙ c.compute_server_first_message_metered.ensures.rules)
     at (rw c.deref-in-Err.ensures.value at c.reason_of_first.ensures) in
     rw c.in-Some.is (first_rejected (option_map (λ (message : Vec ℕ Global). message.items))
-    (known_by (m.meaning (provider_in c.args.scram.now)) (option_map (λ records. records.now) c.args.records))
+    (known_by (m.meaning (provider_in c.args.scram.now)))
     (served_by m.meaning c.args.scram.now) (state_in c.args.scram.now)
     (state_in c.compute_server_first_message_metered.new.self) c.args.nonce.now c.args.init.now.mechanism
     c.in-Some.client_first.0.items (option_map string_bytes c.args.init.now.hostname) c.in-Err.kind

@@ -1,6 +1,6 @@
-use Rattle.std.proofs.Common.{◌≡◌, IfOk, map, subst}
+use Rattle.std.proofs.Common.{IfOk, map, subst}
 use Rattle.fe2o3_sasl_core.specs.Headline.{TakenVerifiersAgree}
-use Rattle.fe2o3_sasl_core.specs.Runs.{given, client_answer, login_of}
+use Rattle.fe2o3_sasl_core.specs.Runs.{given, client_answer}
 use Rattle.fe2o3_sasl_core.specs.UnalteredRuns.{ClientLogsIn}
 use Rattle.fe2o3_sasl_core.proofs.lemmas.steps.OptionLemmas.{limited_login}
 use Rattle.fe2o3_sasl_core.proofs.whole_runs.scram_client_run_limited.Goals as goal

@@ -10,9 +10,9 @@ loop-identity-preserved c = c.in_ok-allow.ensures.ok
     ∙ (ap (λ (r : Rights). r ++ ((c.args.user.now, c.in-Some.identity.now) ∷ [])) c.loop-identity.invariant
     ∙ sym (right_more (λ identity. identity.now) c.args.user.now c.in-Some.identity c.loop-identity.yielded))
 
-pub returns-in-Ok-clause-ok : goal.returns-in-Ok-clause-ok
-returns-in-Ok-clause-ok c =
+pub returns-clause-ok : goal.returns-clause-ok
+returns-clause-ok c =
     let end = YieldsList-end (YieldsList-from_str_split 0 c.args.identities.now (lit< tt) (cc) (cc) (cc))
     c.loop-identity.yielded _ c.loop-identity.yielded_by _ _ c.in-None.is c.next.ensures.steps in
-    c.in-Ok.ensures.ok ∙ (c.loop-identity.invariant ∙ (sym (rights_of (λ identity. identity.now) c.args.user.now
-    c.loop-identity.yielded) ∙ ap (rights_to c.args.user.now) end.0))
+    c.loop-identity.invariant ∙ (sym (rights_of (λ identity. identity.now) c.args.user.now c.loop-identity.yielded)
+    ∙ ap (rights_to c.args.user.now) end.0)

@@ -2,4 +2,4 @@ use Rattle.fe2o3_sasl_core.proofs.lemmas.machines.LastAnsweredInitLemmas.{last_a
 use Rattle.fe2o3_sasl_core.proofs.login_attempts.laws.last_answered_init.Goals as goal
 
 pub returns : goal.returns
-returns g c = last_answered_init_is_kept g.A.SaslAcceptor.machine
+returns c = last_answered_init_is_kept

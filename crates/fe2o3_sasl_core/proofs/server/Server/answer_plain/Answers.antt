@@ -1,4 +1,4 @@
-use Rattle.std.proofs.Common.{◌≡◌, ◌∙◌, Some, None, inl, inr, refl, sym}
+use Rattle.std.proofs.Common.{◌∙◌, Some, None, inl, inr, refl, sym}
 use Rattle.std.specs.Prelude.{codes}
 use Rattle.fe2o3_sasl_wire.specs.SaslFrames as frames
 use Rattle.fe2o3_sasl_core.specs.PlainServer.{parts_of}

@@ -1,6 +1,5 @@
 use Rattle.std.proofs.Common.{refl, Ok, Err}
-use Rattle.fe2o3_scram.specs.ClientFinal.{ReachesBase64}
-use Rattle.fe2o3_sasl_core.specs.Servers.{ResponseAllocates, ExchangeOpen, settings_in}
+use Rattle.fe2o3_sasl_core.specs.Servers.{settings_in}
 use Rattle.fe2o3_sasl_core.proofs.lemmas.machines.PlainServerLemmas.{err_where}
 use Rattle.fe2o3_sasl_core.proofs.lemmas.machines.ServerAnswerLemmas.{exchange_costs}
 use Rattle.fe2o3_sasl_core.proofs.server.Server.conclude.Goals as goal

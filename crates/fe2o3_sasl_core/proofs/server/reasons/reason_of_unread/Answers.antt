@@ -1,7 +1,7 @@
 use Rattle.std.proofs.Common.{rules}
 use Rattle.fe2o3_scram.specs.ClientFirst.{client_first_values}
 use Rattle.fe2o3_scram.specs.declared.hmac.ScramVersion.TheVariants.{Sha1}
-use Rattle.fe2o3_sasl_core.specs.PasswordServer.{known_for}
+use Rattle.fe2o3_sasl_core.specs.Servers.{known_for}
 use Rattle.fe2o3_sasl_core.proofs.lemmas.machines.RejectionLemmas.{not_both, same_reason}
 use Rattle.fe2o3_sasl_core.proofs.server.reasons.reason_of_unread.Goals as goal
 
