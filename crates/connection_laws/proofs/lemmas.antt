@@ -48,3 +48,9 @@ pub mod ServerReplayLemmas
 pub mod ServerByteLemmas
 pub mod ServerRetryLemmas
 pub mod LoginByteLemmas
+pub mod PolicyCallLemmas
+pub mod PolicyByteLemmas
+pub mod PolicySelectedLemmas
+pub mod PolicyLoginLemmas
+pub mod ProfileKindLemmas
+pub mod PolicyScramLemmas
