@@ -54,3 +54,5 @@ pub mod PolicySelectedLemmas
 pub mod PolicyLoginLemmas
 pub mod ProfileKindLemmas
 pub mod PolicyScramLemmas
+pub mod PolicyCostLemmas
+pub mod PolicyBoundLemmas

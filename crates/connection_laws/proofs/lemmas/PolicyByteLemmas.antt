@@ -1,7 +1,7 @@
 -- What a client that has selected no profile has taken, one call after the other.
 use Rattle.std.proofs.Common.{◌≡◌, ◌≢◌, ◌⊎◌, ℕ, ◌+◌, ◌-◌, ◌<◌, ◌≤◌, Option, Some, None, List, [], ◌++◌, length, take, drop, refl, sym, ◌∙◌, ap, subst, inl, inr, arith, append_assoc, Result, Ok, Err}
 use Rattle.std.proofs.lemmas.List.{append-nil, length-append, length-take-le, take_all, take-append-drop, drop_at}
-use Rattle.bytes.proofs.Ranges.{take-append_past}
+use Rattle.std.proofs.Math.Seq.{take-append-add}
 use Rattle.fe2o3_sasl_wire.specs.SaslFrames as frames
 use Rattle.fe2o3_sasl_wire.specs.SaslFrames.{SaslFrame, IsBytes}
 use Rattle.fe2o3_sasl_wire.proofs.lemmas.reading.StepLemmas.{IsBytes-take, IsBytes-drop}
@@ -35,6 +35,10 @@ pub bytes_after : (front more : List ℕ) → IsBytes (front ++ more) → IsByte
 bytes_after front more are = subst (λ (l : List ℕ). IsBytes l) (drop_at front more (length front) refl)
     (IsBytes-drop (length front) (front ++ more) are)
 
+-- the front of some bytes, after others
+take_past : (front more : List ℕ) (k n : ℕ) → n ≡ length front + k → front ++ take k more ≡ take n (front ++ more)
+take_past front more k n is = sym (ap (λ m. take m (front ++ more)) is ∙ take-append-add front more k)
+
 -- what has arrived of the first frame, and the bytes of a call that complete it
 module _ (limit : ℕ) (tail bytes : List ℕ) (k : ℕ) (part : IsPart (Frame turns.Mechanisms) limit tail)
     (are_bytes : IsBytes (tail ++ bytes)) (whole : IsWhole (Frame turns.Mechanisms) limit (tail ++ bytes))
@@ -54,7 +58,7 @@ module _ (limit : ℕ) (tail bytes : List ℕ) (k : ℕ) (part : IsPart (Frame t
   come : tail ++ take k bytes ≡ unit
   come = let few : length tail < size_of (tail ++ bytes) =
       part_is_shorter (Frame turns.Mechanisms) limit tail bytes part whole in
-      sym (take-append_past tail bytes k (size_of (tail ++ bytes)) (omega (arith, few, taken)))
+      take_past tail bytes k (size_of (tail ++ bytes)) (omega (arith, few, taken))
 
   size : size_of unit ≡ size_of (tail ++ bytes)
   size = let n = count in let e = eight in
@@ -86,7 +90,7 @@ refused_size limit tail bytes k part refused taken =
     sym (size_of-append (take 4 (tail ++ bytes)) (drop 4 (tail ++ bytes)) (omega (arith, four)))
     ∙ ap size_of (take-append-drop 4 (tail ++ bytes)) in
     let come : tail ++ take k bytes ≡ take 4 (tail ++ bytes) =
-    sym (take-append_past tail bytes k 4 (omega (arith, few, taken))) in (
+    take_past tail bytes k 4 (omega (arith, few, taken)) in (
       ap length come ∙ four,
       λ (fits : Fits limit (size_of (tail ++ take k bytes))).
           refused.1 (subst (λ (n : ℕ). Fits limit n) (ap size_of come ∙ size) fits),
@@ -117,7 +121,7 @@ module _ (selection : Selection) (limit : ℕ) (next : Side (Option Profile)) (b
   header_more taken few (inr (inr (answer, moved, whole, (opens, same), (t, s, is)))) = go opens
     where
       come : taken ++ take k bytes ≡ take 8 (taken ++ bytes)
-      come = sym (take-append_past taken bytes k 8 (omega (arith, few, t)))
+      come = take_past taken bytes k 8 (omega (arith, few, t))
 
       go : ClientOpens (take 8 (taken ++ bytes)) answer → Is (taken ++ take k bytes)
       go (inl (other, closed)) = inr (inl (
