@@ -56,3 +56,5 @@ pub mod ProfileKindLemmas
 pub mod PolicyScramLemmas
 pub mod PolicyCostLemmas
 pub mod PolicyBoundLemmas
+pub mod PolicyProfileLemmas
+pub mod PolicyChoiceLemmas

@@ -1,14 +1,16 @@
 -- What any number of calls of a client that selects its mechanism from the server's offer do over a stream, divided in any way
 -- (AMQP 1.0, part 5, sections 5.3.2 and 5.3.3.2; RFC 5802, sections 3 and 5). Each law is the contract of a clause in
 -- `policy_clients`.
-use Rattle.std.specs.Prelude.{◌≡◌, ◌≢◌, ◌⊎◌, ◌+◌, ◌*◌, ◌≤◌, ◌++◌, ℕ, false, Option, Some, None, List, [], length, Ok}
+use Rattle.std.specs.Prelude.{◌≡◌, ◌≢◌, ◌⊎◌, ◌+◌, ◌*◌, ◌<◌, ◌≤◌, ◌^◌, ◌++◌, ℕ, false, Option, Some, None, List, [], length, Ok}
+use Rattle.std.specs.Str.{IsUtf8}
 use Rattle.fe2o3_sasl_wire.specs.SaslFrames as frames
 use Rattle.fe2o3_sasl_wire.specs.SaslFrames.{IsBytes}
+use Rattle.fe2o3_scram.specs.ChannelBinding.{HoldsHeaderBytes, authzid_text}
 use Rattle.fe2o3_scram.specs.ScramClient.{ClientSide, identity_named}
 use Rattle.fe2o3_scram.specs.declared.scram_messages.client_channel.ClientChannel.TheVariants.{Absent}
 use Rattle.fe2o3_sasl_core.specs.Bodies.{SpellsBody}
 use Rattle.fe2o3_sasl_core.specs.ClientPolicy.{secret_for, unbound_channel, bound_channel}
-use Rattle.fe2o3_sasl_core.specs.Events.{IsSecret, Login}
+use Rattle.fe2o3_sasl_core.specs.Events.{IsLogin, IsSecret, Login}
 use Rattle.fe2o3_sasl_core.specs.Profiles.{Profile, ScramProfile, scram_profile}
 use Rattle.fe2o3_sasl_core.specs.declared.sasl_profile.error.ProfileError.TheVariants.{NotImplemented}
 use Rattle.fe2o3_sasl_negotiation.specs.declared.progress.CloseReason.TheVariants.{Mechanism as ProfileRefused}
@@ -55,6 +57,21 @@ SelectedClientsActAsProfile = (selection : Selection) (limit : ℕ) (calls : Lis
     (last : Side (Option Profile)) (now : Profile) → IsBytes stream
     → Calls (PolicyReceives selection) (fresh limit None) calls stream sent last rest → last.state ≡ Some now
     → ActsAsSelected selection limit calls stream sent rest (side_in_state last now)
+
+-- and the reverse: calls of a fresh client of a profile, which is selected from the offer that they read, are calls of a new
+-- client of the selection, with the same nonces, and it has selected that profile. The size of a frame has 32 bits (part 2,
+-- section 2.3.1)
+abbrev pub SelectedProfilesActAsClient : Type 0
+SelectedProfilesActAsClient = (selection : Selection) (limit : ℕ) (calls : List Call) (stream sent rest : List ℕ)
+    (last : Side Profile) (names : List (List ℕ)) (profile : Profile) → limit < 2 ^ 32
+    → ReadsOffer limit stream rest names → IsSelected selection names profile
+    → Calls (ClientReceives selection.hostname) (fresh limit profile) calls stream sent last rest
+    → Calls (PolicyReceives selection) (fresh limit None) calls stream sent (side_in_state last (Some last.state)) rest
+
+-- an offer has one such profile at most, and none where the client selects none
+abbrev pub OneIsSelected : Type 0
+OneIsSelected = (selection : Selection) (names : List (List ℕ)) (profile : Profile) → IsSelected selection names profile
+    → ((other : Profile) → IsSelected selection names other → other ≡ profile) × ¬ NoneIsSelected selection names
 
 -- ---- a client that has selected none
 
@@ -141,11 +158,25 @@ ScramClientsReportSelected = (selection : Selection) (limit : ℕ) (calls : List
     → last.state ≡ Some (ScramProfile now)
     → IsScramClient selection limit calls stream sent rest (side_in_state last (ScramProfile now))
 
--- what the laws of `pairs` ask of a login holds of each login of a selection: the secret is one that the code holds if that of
--- the selection is, and a client with a channel has one, bound or not
+-- what the code holds of a selection, as `IsLogin` says of a login: texts in UTF-8, a limit of 32 bits, and a header that is
+-- bytes, also where the channel is bound
+pub record HoldsSelection (selection : Selection) : Type 0 where
+  pub user : IsUtf8 selection.user
+  pub secret : IsSecret selection.secret
+  pub limit : selection.policy.limits.max_iterations < 2 ^ 32
+  pub channel : HoldsHeaderBytes (record {
+    channel = bound_channel selection.policy.channel;
+    acts_for = identity_named selection.acts_for;
+  })
+  pub identity : IsUtf8 (authzid_text (identity_named selection.acts_for))
+  pub hostname : (text : List ℕ) → selection.hostname ≡ Some text → IsUtf8 text
+
+-- each login of a selection meets the premises of the laws of `pairs`: the code holds of it what they ask, and a client with a
+-- channel has one, bound or not
 abbrev pub LoginsMeetPremises : Type 0
 LoginsMeetPremises = (selection : Selection) (login : Login) → IsLoginOf selection login
-    → (IsSecret selection.secret → IsSecret login.secret) × (selection.policy.channel ≢ None → login.channel ≢ Absent)
+    → (HoldsSelection selection → IsLogin login × IsSecret login.secret)
+    × (selection.policy.channel ≢ None → login.channel ≢ Absent)
 
 -- ---- what a connection costs
 

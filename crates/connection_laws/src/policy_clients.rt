@@ -1,7 +1,7 @@
 //! What the bytes of a connection say of a `PolicyClient`, which selects its mechanism from the server's offer: what it does once it
 //! has selected one, what it does before, and what it costs.
 
-ghost use Rattle.connection_laws.specs.PolicyClients.{LoginsMeetPremises, PolicyClientsAreBounded, PolicyClientsCost, PolicyClientsRetry, ScramClientsReportSelected, SelectedClientsActAsProfile, UnselectedClientsSendNothing};
+ghost use Rattle.connection_laws.specs.PolicyClients.{LoginsMeetPremises, OneIsSelected, PolicyClientsAreBounded, PolicyClientsCost, PolicyClientsRetry, ScramClientsReportSelected, SelectedClientsActAsProfile, SelectedProfilesActAsClient, UnselectedClientsSendNothing};
 
 /// What any number of calls of a new [`PolicyClient`](fe2o3_sasl_negotiation::PolicyClient) do that has selected a profile, over any
 /// bytes, in whatever calls they are passed. They are, byte for byte, calls of a fresh
@@ -10,7 +10,9 @@ ghost use Rattle.connection_laws.specs.PolicyClients.{LoginsMeetPremises, Policy
 /// the profile is the one that is selected from this list (`IsSelected`): that of the strongest mechanism which the policy allows and
 /// for which the secret serves. So all laws of clients hold of it.
 pub fn selected()
-    ensures { SelectedClientsActAsProfile }
+    ensures acts { SelectedClientsActAsProfile }
+    ensures reverse { SelectedProfilesActAsClient }
+    ensures one { OneIsSelected }
 {}
 
 /// What any number of calls of a new [`PolicyClient`](fe2o3_sasl_negotiation::PolicyClient) do that has selected no profile: they send

@@ -1,6 +1,11 @@
 -- The login of a profile of SCRAM that a policy selects (RFC 5802, sections 3, 5 and 6): `logins_meet_premises`.
-use Rattle.std.proofs.Common.{◌≡◌, ◌≢◌, ◌⊎◌, ℕ, Bool, true, false, Option, Some, None, List, [], refl, sym, ◌∙◌, ap, subst, inl, inr}
+use Rattle.std.proofs.Common.{◌≡◌, ◌≢◌, ◌⊎◌, ◌<◌, ◌^◌, ℕ, Bool, true, false, Option, Some, None, List, [], refl, sym, ◌∙◌, ap, subst, inl, inr}
 use Rattle.std.proofs.lemmas.Option.{same_Some}
+use Rattle.std.specs.Str.{IsUtf8}
+use Rattle.base64.specs.GeneralPurpose.{IsBytes}
+use Rattle.fe2o3_scram.specs.ChannelBinding.{HoldsHeaderBytes, authzid_text, cbind_data}
+use Rattle.fe2o3_scram.proofs.lemmas.hashes.DigestLemmas.{IsBytes-nil}
+use Rattle.fe2o3_scram.specs.declared.client_secret.IterationLimits.{IterationLimits}
 use Rattle.fe2o3_scram.specs.declared.channel_binding.ChannelBinding.{ChannelBinding}
 use Rattle.fe2o3_scram.specs.declared.hmac.ScramVersion.{ScramVersion}
 use Rattle.fe2o3_scram.specs.declared.hmac.ScramVersion.TheVariants.{Sha1, Sha256, Sha512}
@@ -223,8 +228,33 @@ channel_kept None channel says some absent = some refl
 channel_kept (Some binding) channel (inl is) some absent = let no : NotOffered ≡ Absent = sym is ∙ absent in cc
 channel_kept (Some binding) channel (inr is) some absent = let no : Bound binding ≡ Absent = sym is ∙ absent in cc
 
+-- the header of a login without -PLUS has no data of the channel
+unbound_bytes : (held : Option ChannelBinding) → IsBytes (cbind_data (unbound_channel held))
+unbound_bytes None = IsBytes-nil
+unbound_bytes (Some binding) = IsBytes-nil
+
+header_bytes : (held : Option ChannelBinding) (acts_for : Option (List ℕ)) (channel : ClientChannel)
+    → (channel ≡ unbound_channel held) ⊎ (channel ≡ bound_channel held)
+    → HoldsHeaderBytes (record { channel = bound_channel held; acts_for = acts_for })
+    → HoldsHeaderBytes (record { channel = channel; acts_for = acts_for })
+header_bytes held acts_for channel (inl is) holds =
+    (subst (λ (c : ClientChannel). IsBytes (cbind_data c)) (sym is) (unbound_bytes held), holds.1)
+header_bytes held acts_for channel (inr is) holds =
+    (subst (λ (c : ClientChannel). IsBytes (cbind_data c)) (sym is) holds.0, holds.1)
+
 pub logins_meet_premises : LoginsMeetPremises
 logins_meet_premises selection login of = (
-  secret_kept login.version selection.secret login.secret of.secret,
+  λ holds. (
+    record {
+      user = subst IsUtf8 (sym of.user) holds.user;
+      limit = subst (λ (l : IterationLimits). l.max_iterations < 2 ^ 32) (sym of.limits) holds.limit;
+      channel = subst (λ (name : Option (List ℕ)). HoldsHeaderBytes (record { channel = login.channel; acts_for = name }))
+          (sym of.acts_for) (header_bytes selection.policy.channel (identity_named selection.acts_for) login.channel
+          of.channel holds.channel);
+      identity = subst (λ (name : Option (List ℕ)). IsUtf8 (authzid_text name)) (sym of.acts_for) holds.identity;
+      hostname = λ text is. holds.hostname text (sym of.hostname ∙ is);
+    },
+    secret_kept login.version selection.secret login.secret of.secret holds.secret,
+  ),
   channel_kept selection.policy.channel login.channel of.channel,
 )
