@@ -1,5 +1,5 @@
 -- What a client that has selected no profile has taken, one call after the other.
-use Rattle.std.proofs.Common.{◌≡◌, ◌≢◌, ◌⊎◌, ℕ, ◌+◌, ◌-◌, ◌<◌, ◌≤◌, Option, Some, None, List, [], ◌++◌, length, take, drop, refl, sym, ◌∙◌, ap, subst, inl, inr, arith, append_assoc, Result, Ok, Err}
+use Rattle.std.proofs.Common.{◌≡◌, ◌≢◌, ℕ, ◌+◌, ◌-◌, ◌<◌, ◌≤◌, Option, Some, None, List, [], ◌++◌, length, take, drop, refl, sym, ◌∙◌, ap, subst, inl, inr, arith, append_assoc, Result, Ok, Err}
 use Rattle.std.proofs.lemmas.List.{append-nil, length-append, length-take-le, take_all, take-append-drop, drop_at}
 use Rattle.std.proofs.Math.Seq.{take-append-add}
 use Rattle.fe2o3_sasl_wire.specs.SaslFrames as frames
@@ -7,14 +7,12 @@ use Rattle.fe2o3_sasl_wire.specs.SaslFrames.{SaslFrame, IsBytes}
 use Rattle.fe2o3_sasl_wire.proofs.lemmas.reading.StepLemmas.{IsBytes-take, IsBytes-drop}
 use Rattle.fe2o3_sasl_wire.specs.declared.sasl_frames.error.Error.{Error}
 use Rattle.fe2o3_sasl_core.specs.Bodies.{SpellsBody}
-use Rattle.fe2o3_sasl_core.specs.Events.{Given}
 use Rattle.fe2o3_sasl_core.specs.Profiles.{Profile}
-use Rattle.fe2o3_sasl_core.specs.declared.sasl_profile.error.ProfileError.TheVariants.{NotImplemented}
 use Rattle.fe2o3_sasl_core.proofs.lemmas.frames.SpellingLemmas.{one_spelled_frame}
 use Rattle.fe2o3_sasl_negotiation.specs.ClientNegotiation.{ClientOpens}
-use Rattle.fe2o3_sasl_negotiation.specs.Connections.{IsHeaderPart, IsOtherHeader, LeftOver, Unanswered, fresh}
+use Rattle.fe2o3_sasl_negotiation.specs.Connections.{LeftOver, Unanswered, fresh}
 use Rattle.fe2o3_sasl_negotiation.specs.Framing.{Fits, IsPart, IsRefused, IsWhole, framed, sasl_header, size_of}
-use Rattle.fe2o3_sasl_negotiation.specs.Negotiations.{Ends, IsInTurn, ReceivesAt, Side, SideOutput, closes}
+use Rattle.fe2o3_sasl_negotiation.specs.Negotiations.{IsInTurn, ReceivesAt, Side, SideOutput, closes}
 use Rattle.fe2o3_sasl_negotiation.specs.PolicyClient.{PolicyReceives, PolicySideAnswers, Selection, SelectsFor}
 use Rattle.fe2o3_sasl_negotiation.specs.declared.progress.CloseReason.{CloseReason}
 use Rattle.fe2o3_sasl_negotiation.specs.declared.progress.CloseReason.TheVariants.{FrameSize, MalformedFrame, ProtocolHeaderMismatch, UnexpectedFrame}
@@ -27,7 +25,7 @@ use Rattle.fe2o3_sasl_negotiation.proofs.lemmas.CutLemmas.{nothing_is_part}
 use Rattle.fe2o3_sasl_negotiation.proofs.lemmas.FramingLemmas.{part_is_shorter, refused_is_short, size_of-append}
 use Rattle.fe2o3_sasl_negotiation.proofs.lemmas.PieceLemmas.{is_framed}
 use Rattle.fe2o3_sasl_negotiation.proofs.lemmas.PolicyLawLemmas.{waiting}
-use Rattle.connection_laws.specs.PolicyClients.{HasNoOffer, IsUnselected, SelectsNone}
+use Rattle.connection_laws.specs.PolicyClients.{IsUnselected}
 use Rattle.connection_laws.proofs.lemmas.PolicyCallLemmas.{ended_rests, offered}
 
 -- the bytes after a front of bytes are bytes

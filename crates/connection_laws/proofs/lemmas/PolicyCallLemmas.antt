@@ -1,14 +1,13 @@
 -- One call of a client that selects its mechanism from the server's offer, before it has selected one.
-use Rattle.std.proofs.Common.{◌≡◌, ◌≢◌, ◌⊎◌, ℕ, ◌-◌, Option, Some, None, List, [], ◌++◌, length, take, drop, refl, sym, ◌∙◌, ap, subst, inl, inr, Result, Ok, Err}
+use Rattle.std.proofs.Common.{◌≡◌, ◌≢◌, ◌⊎◌, ℕ, ◌-◌, Option, Some, None, List, [], ◌++◌, length, take, drop, refl, sym, ◌∙◌, ap, subst, inl, inr, Ok, Err}
 use Rattle.fe2o3_sasl_wire.specs.SaslFrames as frames
 use Rattle.fe2o3_sasl_wire.specs.SaslFrames.{SaslFrame}
 use Rattle.fe2o3_sasl_core.specs.Bodies.{SpellsBody}
 use Rattle.fe2o3_sasl_core.specs.Events.{Given}
 use Rattle.fe2o3_sasl_core.specs.Profiles.{Profile}
-use Rattle.fe2o3_sasl_core.specs.declared.sasl_profile.error.ProfileError.TheVariants.{NotImplemented}
-use Rattle.fe2o3_sasl_negotiation.specs.ClientNegotiation.{ClientOpens, ClientReceives}
-use Rattle.fe2o3_sasl_negotiation.specs.Framing.{size_of, unit_size, IsWhole}
-use Rattle.fe2o3_sasl_negotiation.specs.Negotiations.{IsInTurn, ReceivesAt, Rests, Side, SideOutput}
+use Rattle.fe2o3_sasl_negotiation.specs.ClientNegotiation.{ClientReceives}
+use Rattle.fe2o3_sasl_negotiation.specs.Framing.{size_of, IsWhole}
+use Rattle.fe2o3_sasl_negotiation.specs.Negotiations.{ReceivesAt, Rests, Side, SideOutput}
 use Rattle.fe2o3_sasl_negotiation.specs.PolicyClient.{IsSelected, PolicyReceives, PolicySideAnswers, Selection, SelectsFor}
 use Rattle.fe2o3_sasl_negotiation.specs.PolicyLaws.{side_in_state}
 use Rattle.fe2o3_sasl_negotiation.specs.declared.progress.CloseReason.{CloseReason}
@@ -209,16 +208,24 @@ module _ (selection : Selection) (next : Side (Option Profile)) (bytes nonce sen
   early_step_at side Authenticated ended early receives =
       let (t, s, is) = ended_rests (PolicySideAnswers selection) side.progress side next bytes nonce sent taken
       (λ going. apart (sym ended ∙ going)) receives in
-      inl (s, subst Early (sym is) early, inr (λ going. apart (sym ended
-      ∙ (sym (ap (λ (n : Side (Option Profile)). n.progress) is) ∙ going))))
+      inl (
+        s,
+        subst Early (sym is) early,
+        inr (λ going. apart (sym ended
+            ∙ (sym (ap (λ (n : Side (Option Profile)). n.progress) is) ∙ going))),
+      )
     where
       apart : Authenticated ≢ InProgress
       apart same = cc
   early_step_at side (Failed why) ended early receives =
       let (t, s, is) = ended_rests (PolicySideAnswers selection) side.progress side next bytes nonce sent taken
       (λ going. failed_is_not_in_progress why (sym ended ∙ going)) receives in
-      inl (s, subst Early (sym is) early, inr (λ going. failed_is_not_in_progress why (sym ended
-      ∙ (sym (ap (λ (n : Side (Option Profile)). n.progress) is) ∙ going))))
+      inl (
+        s,
+        subst Early (sym is) early,
+        inr (λ going. failed_is_not_in_progress why (sym ended
+            ∙ (sym (ap (λ (n : Side (Option Profile)). n.progress) is) ∙ going))),
+      )
 
 pub early_step : (selection : Selection) (side next : Side (Option Profile)) (bytes nonce sent : List ℕ) (taken : ℕ)
     → Early side → PolicyReceives selection side bytes nonce taken sent next

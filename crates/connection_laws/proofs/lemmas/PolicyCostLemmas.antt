@@ -1,21 +1,20 @@
 -- What calls of a client that selects its mechanism cost: `policy_clients_cost` and `policy_clients_retry`.
-use Rattle.std.proofs.Common.{◌≡◌, ◌≢◌, ◌⊎◌, ◌+◌, ◌*◌, ◌≤◌, ℕ, Bool, true, false, Option, Some, None, List, [], ◌∷◌, take, drop, refl, sym, ◌∙◌, ap, subst, inl, inr, arith, Result, Ok, Err}
+use Rattle.std.proofs.Common.{◌≡◌, ◌≢◌, ◌⊎◌, ◌+◌, ◌*◌, ◌≤◌, ℕ, false, Option, Some, None, List, [], ◌∷◌, take, drop, refl, sym, ◌∙◌, ap, subst, inl, inr, arith, Result, Ok, Err}
 use Rattle.fe2o3_sasl_wire.specs.SaslFrames.{SaslFrame}
 use Rattle.fe2o3_sasl_wire.specs.declared.sasl_frames.error.Error.{Error}
 use Rattle.fe2o3_scram.specs.declared.client_secret.IterationLimits.{IterationLimits}
 use Rattle.fe2o3_sasl_core.specs.Costs.{ProfileCostsOf}
-use Rattle.fe2o3_sasl_core.specs.Events.{Given, Login}
+use Rattle.fe2o3_sasl_core.specs.Events.{Login}
 use Rattle.fe2o3_sasl_core.specs.Profiles.{AnonymousProfile, ExternalProfile, MessageProfile, PlainProfile, Profile, ScramProfile, is_scram, scram_profile}
-use Rattle.fe2o3_sasl_negotiation.specs.ClientNegotiation.{ClientCosts, ClientReplyCosts, ClientSideAnswers}
+use Rattle.fe2o3_sasl_negotiation.specs.ClientNegotiation.{ClientCosts, ClientSideAnswers}
 use Rattle.fe2o3_sasl_negotiation.specs.Connections.{fresh}
 use Rattle.fe2o3_sasl_negotiation.specs.CostLaws.{MeteredCalls}
 use Rattle.fe2o3_sasl_negotiation.specs.Laws.{Call}
-use Rattle.fe2o3_sasl_negotiation.specs.Negotiations.{Side, SideOutput, Receives}
-use Rattle.fe2o3_sasl_negotiation.specs.PolicyClient.{IsSelected, PolicyCosts, PolicyReceives, PolicyReplyCosts, PolicySideAnswers, Selection}
+use Rattle.fe2o3_sasl_negotiation.specs.Negotiations.{Side, SideOutput}
+use Rattle.fe2o3_sasl_negotiation.specs.PolicyClient.{IsSelected, PolicyCosts, PolicyReplyCosts, PolicySideAnswers, Selection}
 use Rattle.fe2o3_sasl_negotiation.specs.PolicyLaws.{side_in_state}
 use Rattle.fe2o3_sasl_negotiation.specs.Retries.{RetriedCalls}
 use Rattle.fe2o3_sasl_negotiation.specs.declared.progress.Expected.{Expected}
-use Rattle.fe2o3_sasl_negotiation.specs.declared.progress.FrameKind.{FrameKind}
 use Rattle.fe2o3_sasl_negotiation.specs.declared.progress.Progress.TheVariants.{InProgress}
 use Rattle.fe2o3_sasl_negotiation.proofs.lemmas.AnsweredProfileLemmas.{IsPast, past_costs}
 use Rattle.fe2o3_sasl_negotiation.proofs.lemmas.ClientCostLemmas.{clients_retry}
@@ -56,10 +55,10 @@ selected_retried : (selection : Selection) (calls : List Call) (profile : Profil
 selected_retried selection [] profile side stream failed before after has made = made
 selected_retried selection (call ∷ calls) profile side stream failed before after has
     (between, costs, inl (fewer, is, others)) = (
-  between,
-  as_profile side profile (take call.handed stream) call.nonce before between has costs,
-  inl (fewer, is, selected_retried selection calls profile side stream fewer between after has others),
-)
+      between,
+      as_profile side profile (take call.handed stream) call.nonce before between has costs,
+      inl (fewer, is, selected_retried selection calls profile side stream fewer between after has others),
+    )
 selected_retried selection (call ∷ calls) profile side stream failed before after has
     (between, costs, inr (taken, sent, next, receives, others)) =
     let (moved, at, one) = goes_on_by_profile selection profile side next (take call.handed stream) call.nonce sent taken has

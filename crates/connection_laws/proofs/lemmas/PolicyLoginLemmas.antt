@@ -1,5 +1,5 @@
 -- The login of a profile of SCRAM that a policy selects (RFC 5802, sections 3, 5 and 6): `logins_meet_premises`.
-use Rattle.std.proofs.Common.{◌≡◌, ◌≢◌, ◌⊎◌, ◌<◌, ◌^◌, ℕ, Bool, true, false, Option, Some, None, List, [], refl, sym, ◌∙◌, ap, subst, inl, inr}
+use Rattle.std.proofs.Common.{◌≡◌, ◌≢◌, ◌⊎◌, ◌<◌, ◌^◌, ℕ, false, Option, Some, None, List, refl, sym, ◌∙◌, ap, subst, inl, inr}
 use Rattle.std.proofs.lemmas.Option.{same_Some}
 use Rattle.std.specs.Str.{IsUtf8}
 use Rattle.base64.specs.GeneralPurpose.{IsBytes}
@@ -14,7 +14,7 @@ use Rattle.fe2o3_scram.specs.declared.scram_messages.client_channel.ClientChanne
 use Rattle.fe2o3_scram.specs.ClientSecret.{Secret, Password, Keys, Both}
 use Rattle.fe2o3_scram.specs.ScramClient.{ClientSide, fresh_client, identity_named, with_channel, with_limits}
 use Rattle.fe2o3_sasl_core.specs.ActingProfiles.{acting_profile}
-use Rattle.fe2o3_sasl_core.specs.ClientPolicy.{SelectsProfile, bound_channel, keys_for_version, plain_by, profile_by, scram_by, secret_for, unbound_channel}
+use Rattle.fe2o3_sasl_core.specs.ClientPolicy.{bound_channel, keys_for_version, plain_by, profile_by, scram_by, secret_for, unbound_channel}
 use Rattle.fe2o3_sasl_core.specs.Events.{IsSecret, Login}
 use Rattle.fe2o3_sasl_core.specs.Profiles.{AnonymousMessage, AnonymousProfile, ExternalMessage, ExternalProfile, MessageProfile, PlainProfile, Profile, ScramProfile, accepts_signature_by_challenge, is_scram, scram_profile}
 use Rattle.fe2o3_sasl_core.specs.declared.client_policy.ClientPolicy.{ClientPolicy}

@@ -1,5 +1,5 @@
 -- Calls of a fresh client of a profile that is selected from the offer which they read: `selected_profiles_act_as_client`.
-use Rattle.std.proofs.Common.{◌≡◌, ◌≢◌, ◌⊎◌, ℕ, ◌+◌, ◌-◌, ◌<◌, ◌≤◌, ◌^◌, Option, Some, None, List, [], ◌∷◌, ◌++◌, length, take, drop, min, refl, sym, ◌∙◌, ap, subst, inl, inr, arith, append_assoc, Ok}
+use Rattle.std.proofs.Common.{◌≡◌, ◌⊎◌, ℕ, ◌+◌, ◌-◌, ◌<◌, ◌≤◌, ◌^◌, Option, Some, None, List, [], ◌∷◌, ◌++◌, length, take, drop, min, refl, sym, ◌∙◌, ap, subst, inl, inr, arith, append_assoc, Ok}
 use Rattle.std.proofs.lemmas.List.{append-nil, length-append, length-take, take_all, take_at, take-append-drop, take-append-le, take-take}
 use Rattle.std.proofs.Math.Seq.{take-append-add}
 use Rattle.fe2o3_sasl_wire.specs.SaslFrames as frames
@@ -21,7 +21,7 @@ use Rattle.fe2o3_sasl_negotiation.proofs.lemmas.CutLemmas.{nothing_is_part}
 use Rattle.fe2o3_sasl_negotiation.proofs.lemmas.FramingLemmas.{size_of-append}
 use Rattle.fe2o3_sasl_negotiation.proofs.lemmas.PolicyLawLemmas.{waiting}
 use Rattle.fe2o3_sasl_negotiation.proofs.lemmas.UnitLemmas.{body_of-framed, length-framed, size_of-framed}
-use Rattle.connection_laws.specs.PolicyClients.{ReadsOffer, SelectedProfilesActAsClient}
+use Rattle.connection_laws.specs.PolicyClients.{SelectedProfilesActAsClient}
 use Rattle.connection_laws.proofs.lemmas.FramesLemmas.{one_split, without_header}
 use Rattle.connection_laws.proofs.lemmas.RestLemmas.{taken_within}
 

@@ -1,7 +1,6 @@
 -- Calls of a client that has selected a profile of SCRAM: `scram_clients_report_selected`.
-use Rattle.std.proofs.Common.{◌≡◌, ℕ, Bool, true, false, Option, Some, None, List, [], ◌∷◌, ◌++◌, take, drop, refl, sym, ◌∙◌, ap, subst, inl, inr, append_assoc, Result, Ok, Err, ◌⊎◌}
+use Rattle.std.proofs.Common.{◌≡◌, ℕ, true, false, Option, List, [], ◌∷◌, ◌++◌, take, drop, refl, sym, ◌∙◌, ap, subst, inl, inr, append_assoc, Ok, Err, ◌⊎◌}
 use Rattle.fe2o3_sasl_wire.specs.SaslFrames.{IsBytes}
-use Rattle.fe2o3_scram.specs.ScramClient.{ClientSide}
 use Rattle.fe2o3_sasl_core.specs.Events.{Login}
 use Rattle.fe2o3_sasl_core.specs.Profiles.{Profile, ScramProfile, is_scram, scram_profile}
 use Rattle.fe2o3_sasl_core.specs.Runs.{ProfileSteps}
@@ -17,7 +16,6 @@ use Rattle.fe2o3_sasl_negotiation.specs.declared.progress.Expected.TheVariants.{
 use Rattle.fe2o3_sasl_negotiation.proofs.lemmas.CostLemmas.{Left, leaves}
 use Rattle.fe2o3_sasl_negotiation.proofs.lemmas.LoginLemmas.{scram_clients_report}
 use Rattle.connection_laws.specs.Cuts.{taken_pieces}
-use Rattle.connection_laws.specs.Pairs.{ClientOf}
 use Rattle.connection_laws.specs.PolicyClients.{ActsAsSelected, IsLoginOf, IsScramClient, ReadsOffer, ScramClientsReportSelected}
 use Rattle.connection_laws.proofs.lemmas.CallPieceLemmas.{client_calls_connect}
 use Rattle.connection_laws.proofs.lemmas.CutConnectionLemmas.{other_is_not, part_is_short}

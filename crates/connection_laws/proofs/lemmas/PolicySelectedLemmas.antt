@@ -11,7 +11,7 @@ use Rattle.fe2o3_sasl_core.specs.Bodies.{SpellsBody}
 use Rattle.fe2o3_sasl_core.specs.Profiles.{Profile}
 use Rattle.fe2o3_sasl_negotiation.specs.ClientNegotiation.{ClientReceives}
 use Rattle.fe2o3_sasl_negotiation.specs.Connections.{LeftOver, bytes_of, fresh}
-use Rattle.fe2o3_sasl_negotiation.specs.Framing.{Fits, IsPart, IsWhole, framed, sasl_header, size_of}
+use Rattle.fe2o3_sasl_negotiation.specs.Framing.{IsPart, IsWhole, framed, sasl_header, size_of}
 use Rattle.fe2o3_sasl_negotiation.specs.Laws.{Call, Calls}
 use Rattle.fe2o3_sasl_negotiation.specs.Negotiations.{Side}
 use Rattle.fe2o3_sasl_negotiation.specs.PolicyClient.{IsSelected, PolicyReceives, PolicySideAnswers, Selection}
@@ -21,12 +21,11 @@ use Rattle.fe2o3_sasl_negotiation.specs.declared.progress.CloseReason.TheVariant
 use Rattle.fe2o3_sasl_negotiation.specs.declared.progress.Expected.{Expected}
 use Rattle.fe2o3_sasl_negotiation.specs.declared.progress.Expected.TheVariants.{Header, Frame}
 use Rattle.fe2o3_sasl_negotiation.specs.declared.progress.FrameKind.TheVariants as turns
-use Rattle.fe2o3_sasl_negotiation.specs.declared.progress.Progress.{Progress}
 use Rattle.fe2o3_sasl_negotiation.specs.declared.progress.Progress.TheVariants.{Authenticated, Failed, InProgress}
 use Rattle.fe2o3_sasl_negotiation.proofs.lemmas.ConnectionLemmas.{closed_is_not_logged_in, failed_is_not_in_progress}
 use Rattle.fe2o3_sasl_negotiation.proofs.lemmas.PolicyLawLemmas.{goes_on_by_profile}
 use Rattle.connection_laws.specs.Cuts.{taken_pieces}
-use Rattle.connection_laws.specs.PolicyClients.{ActsAsSelected, HasNoOffer, IsUnselected, ReadsOffer, SelectedClientsActAsProfile, UnselectedClientsSendNothing}
+use Rattle.connection_laws.specs.PolicyClients.{ActsAsSelected, IsUnselected, ReadsOffer, SelectedClientsActAsProfile, UnselectedClientsSendNothing}
 use Rattle.connection_laws.proofs.lemmas.CutCallLemmas.{covers}
 use Rattle.connection_laws.proofs.lemmas.PolicyByteLemmas.{bytes_after, first_fits, first_frame, unselected_more}
 use Rattle.connection_laws.proofs.lemmas.PolicyCallLemmas.{Early, Stays, Takes, early_step, ended_rests}

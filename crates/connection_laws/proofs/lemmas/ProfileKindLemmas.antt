@@ -4,9 +4,7 @@ use Rattle.fe2o3_sasl_wire.specs.declared.amqp_types.SaslCode.TheVariants as out
 use Rattle.fe2o3_sasl_wire.specs.declared.sasl_frames.error.Error.{Error}
 use Rattle.fe2o3_sasl_wire.specs.SaslFrames as frames
 use Rattle.fe2o3_sasl_wire.specs.SaslFrames.{SaslFrame, canonical}
-use Rattle.fe2o3_scram.specs.declared.scram_messages.error.ScramErrorKind.{ScramErrorKind}
-use Rattle.fe2o3_scram.specs.ScramClient as client_states
-use Rattle.fe2o3_scram.specs.ScramClient.{ClientSide, ClientState, AnswersIn, ChecksSignatureIn, ConcludesIn, VerifiesIn, expects_signature}
+use Rattle.fe2o3_scram.specs.ScramClient.{ClientSide, expects_signature}
 use Rattle.fe2o3_sasl_core.specs.Bodies.{carried}
 use Rattle.fe2o3_sasl_core.specs.Events.{Given, ClientSays}
 use Rattle.fe2o3_sasl_core.specs.Profiles.{Profile, ScramProfile, PlainProfile, AnonymousProfile, ExternalProfile, MessageProfile, ChallengeReplies, profile_machine, is_scram}
