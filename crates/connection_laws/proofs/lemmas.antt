@@ -58,3 +58,4 @@ pub mod PolicyCostLemmas
 pub mod PolicyBoundLemmas
 pub mod PolicyProfileLemmas
 pub mod PolicyChoiceLemmas
+pub mod PolicyDivisionLemmas

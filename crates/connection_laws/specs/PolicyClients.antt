@@ -27,7 +27,7 @@ use Rattle.fe2o3_sasl_negotiation.specs.PolicyClient.{IsSelected, NoneIsSelected
 use Rattle.fe2o3_sasl_negotiation.specs.PolicyLaws.{side_in_state}
 use Rattle.fe2o3_sasl_negotiation.specs.Retries.{RetriedCalls}
 use Rattle.fe2o3_sasl_negotiation.specs.ScramConnections.{ScramReports}
-use Rattle.connection_laws.specs.Cuts.{taken_pieces}
+use Rattle.connection_laws.specs.Cuts.{CallsEndEqually, taken_pieces}
 use Rattle.connection_laws.specs.Pairs.{ClientOf}
 
 -- ---- a client that has selected a profile
@@ -177,6 +177,13 @@ abbrev pub LoginsMeetPremises : Type 0
 LoginsMeetPremises = (selection : Selection) (login : Login) → IsLoginOf selection login
     → (HoldsSelection selection → IsLogin login × IsSecret login.secret)
     × (selection.policy.channel ≢ None → login.channel ≢ Absent)
+
+-- ---- in any division
+
+-- what two lists of calls of a new client over one stream have in common, in any two divisions of the stream, where each frame
+-- has one nonce in both
+abbrev pub PolicyCallsEndEqually : Type 0
+PolicyCallsEndEqually = (selection : Selection) → CallsEndEqually (PolicySideAnswers selection) None
 
 -- ---- what a connection costs
 

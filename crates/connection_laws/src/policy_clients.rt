@@ -1,7 +1,7 @@
 //! What the bytes of a connection say of a `PolicyClient`, which selects its mechanism from the server's offer: what it does once it
 //! has selected one, what it does before, and what it costs.
 
-ghost use Rattle.connection_laws.specs.PolicyClients.{LoginsMeetPremises, OneIsSelected, PolicyClientsAreBounded, PolicyClientsCost, PolicyClientsRetry, ScramClientsReportSelected, SelectedClientsActAsProfile, SelectedProfilesActAsClient, UnselectedClientsSendNothing};
+ghost use Rattle.connection_laws.specs.PolicyClients.{LoginsMeetPremises, OneIsSelected, PolicyCallsEndEqually, PolicyClientsAreBounded, PolicyClientsCost, PolicyClientsRetry, ScramClientsReportSelected, SelectedClientsActAsProfile, SelectedProfilesActAsClient, UnselectedClientsSendNothing};
 
 /// What any number of calls of a new [`PolicyClient`](fe2o3_sasl_negotiation::PolicyClient) do that has selected a profile, over any
 /// bytes, in whatever calls they are passed. They are, byte for byte, calls of a fresh
@@ -38,6 +38,13 @@ pub fn unselected()
 pub fn scram()
     ensures reports { ScramClientsReportSelected }
     ensures premises { LoginsMeetPremises }
+{}
+
+/// States for a [`PolicyClient`](fe2o3_sasl_negotiation::PolicyClient) what [`one_result`](crate::cuts::one_result) states for a
+/// client of one profile: the division of a stream into calls does not change the result, if the calls that complete a frame have
+/// one nonce in both divisions.
+pub fn divisions()
+    ensures { PolicyCallsEndEqually }
 {}
 
 /// Bounds how many HMAC values a connection of a [`PolicyClient`](fe2o3_sasl_negotiation::PolicyClient) makes, whatever its bytes are

@@ -11,7 +11,7 @@ use Rattle.fe2o3_sasl_core.specs.Bodies.{SpellsBody}
 use Rattle.fe2o3_sasl_core.specs.Profiles.{Profile}
 use Rattle.fe2o3_sasl_negotiation.specs.ClientNegotiation.{ClientReceives}
 use Rattle.fe2o3_sasl_negotiation.specs.Connections.{LeftOver, bytes_of, fresh}
-use Rattle.fe2o3_sasl_negotiation.specs.Framing.{IsPart, IsWhole, framed, sasl_header, size_of}
+use Rattle.fe2o3_sasl_negotiation.specs.Framing.{Fits, IsPart, IsWhole, framed, sasl_header, size_of}
 use Rattle.fe2o3_sasl_negotiation.specs.Laws.{Call, Calls}
 use Rattle.fe2o3_sasl_negotiation.specs.Negotiations.{Side}
 use Rattle.fe2o3_sasl_negotiation.specs.PolicyClient.{IsSelected, PolicyReceives, PolicySideAnswers, Selection}
@@ -141,63 +141,79 @@ module _ (selection : Selection) (limit : ℕ) where
       append_assoc taken (take k stream) (drop k stream) ∙ ap (λ l. taken ++ l) (take-append-drop k stream)
 
   -- the offer that a call completes
-  offer_at : (taken : List ℕ) (side next last : Side (Option Profile)) (call : Call) (calls : List Call)
-      (stream first later rest : List ℕ) (k : ℕ) → IsUnselected selection limit taken side → IsBytes (taken ++ stream)
-      → (receives : PolicyReceives selection side (take call.handed stream) call.nonce k first next)
-      → (takes : Takes selection next (take call.handed stream) call.nonce first k side)
-      → Calls (PolicyReceives selection) next calls (drop k stream) later last rest
-      → ReadsOffer limit (taken ++ stream) rest takes.names
-  offer_at taken side next last call calls stream first later rest k is are receives takes made = go is
+  pub offer_taken : (taken : List ℕ) (side next : Side (Option Profile)) (bytes nonce first : List ℕ) (k : ℕ)
+      → IsUnselected selection limit taken side → IsBytes (taken ++ bytes)
+      → (takes : Takes selection next bytes nonce first k side)
+      → (body : List ℕ) × Fits limit (length body + 4) × SpellsBody body (Ok (frames.Mechanisms takes.names))
+      × (taken ++ take k bytes ≡ sasl_header ++ framed body)
+  offer_taken taken side next bytes nonce first k is are takes = go is
     where
-      same_expected : {A : Type 0} → side.expected ≡ Header → A
-      same_expected header = let no : ◌≡◌ {A = Expected} Header (Frame turns.Mechanisms) = sym header ∙ takes.expects in
+      at_header : {A : Type 0} → side.expected ≡ Header → A
+      at_header header = let no : ◌≡◌ {A = Expected} Header (Frame turns.Mechanisms) = sym header ∙ takes.expects in
           absurd (cc)
 
       ended : {A : Type 0} (why : CloseReason) → side.progress ≡ Failed why → A
       ended why closed = absurd (failed_is_not_in_progress why (sym closed ∙ takes.going))
 
       held : (tail : List ℕ) → taken ≡ sasl_header ++ tail → IsPart (Frame turns.Mechanisms) limit tail
-          → side.limit ≡ limit → side.held ≡ tail → ReadsOffer limit (taken ++ stream) rest takes.names
+          → side.limit ≡ limit → side.held ≡ tail
+          → (body : List ℕ) × Fits limit (length body + 4) × SpellsBody body (Ok (frames.Mechanisms takes.names))
+          × (taken ++ take k bytes ≡ sasl_header ++ framed body)
       held tail carried part limit_is held_is =
-          let whole : IsWhole (Frame turns.Mechanisms) limit (tail ++ (take call.handed stream)) =
-          subst (λ (l : List ℕ). IsWhole (Frame turns.Mechanisms) limit (l ++ (take call.handed stream))) held_is
-          (subst (λ (n : ℕ). IsWhole (Frame turns.Mechanisms) n (side.held ++ (take call.handed stream))) limit_is takes.whole) in
-          let count : k ≡ size_of (tail ++ (take call.handed stream)) - length tail =
-          subst (λ (l : List ℕ). k ≡ size_of (l ++ (take call.handed stream)) - length l) held_is takes.count in
-          let fine : IsBytes (tail ++ (take call.handed stream)) = bytes_after sasl_header (tail ++ (take call.handed stream))
-          (subst (λ (l : List ℕ). IsBytes l) (ap (λ l. l ++ (take call.handed stream)) carried ∙ append_assoc sasl_header tail (take call.handed stream))
-          (handed_bytes taken stream call.handed are)) in
-          let body = drop 4 (take (size_of (tail ++ (take call.handed stream))) (tail ++ (take call.handed stream))) in
-          let more = bytes_of (taken_pieces (PolicySideAnswers selection) next calls (drop k stream) later last rest made) in
-          let first_part : taken ++ take k stream ≡ sasl_header ++ framed body =
-          ap (λ l. l ++ take k stream) carried ∙ (append_assoc sasl_header tail (take k stream)
-          ∙ (ap (λ l. sasl_header ++ (tail ++ l)) (sym (front side next call.handed k stream call.nonce first receives))
-          ∙ ap (λ l. sasl_header ++ l) (first_frame limit tail (take call.handed stream) k part fine whole count))) in
-          record {
-            body = body;
-            more = more;
-            fits = first_fits limit tail (take call.handed stream) k part fine whole count;
-            spells = subst (λ (l : List ℕ). SpellsBody (drop 4 (take (size_of (l ++ (take call.handed stream))) (l ++ (take call.handed stream))))
-                (Ok (frames.Mechanisms takes.names))) held_is takes.spells;
-            carried = sym (parts taken stream k) ∙ (ap (λ l. l ++ drop k stream) first_part
-                ∙ (ap (λ l. (sasl_header ++ framed body) ++ l)
-                (covers (PolicySideAnswers selection) next calls (drop k stream) later last rest made)
-                ∙ append_assoc sasl_header (framed body) (more ++ rest)));
-          }
+          let whole : IsWhole (Frame turns.Mechanisms) limit (tail ++ bytes) =
+          subst (λ (l : List ℕ). IsWhole (Frame turns.Mechanisms) limit (l ++ bytes)) held_is
+          (subst (λ (n : ℕ). IsWhole (Frame turns.Mechanisms) n (side.held ++ bytes)) limit_is takes.whole) in
+          let count : k ≡ size_of (tail ++ bytes) - length tail =
+          subst (λ (l : List ℕ). k ≡ size_of (l ++ bytes) - length l) held_is takes.count in
+          let fine : IsBytes (tail ++ bytes) = bytes_after sasl_header (tail ++ bytes)
+          (subst (λ (l : List ℕ). IsBytes l) (ap (λ l. l ++ bytes) carried ∙ append_assoc sasl_header tail bytes) are) in (
+            drop 4 (take (size_of (tail ++ bytes)) (tail ++ bytes)),
+            first_fits limit tail bytes k part fine whole count,
+            subst (λ (l : List ℕ). SpellsBody (drop 4 (take (size_of (l ++ bytes)) (l ++ bytes)))
+                (Ok (frames.Mechanisms takes.names))) held_is takes.spells,
+            ap (λ l. l ++ take k bytes) carried ∙ (append_assoc sasl_header tail (take k bytes)
+                ∙ ap (λ l. sasl_header ++ l) (first_frame limit tail bytes k part fine whole count)),
+          )
 
-      go : IsUnselected selection limit taken side → ReadsOffer limit (taken ++ stream) rest takes.names
-      go (inl (few, nothing, same)) = same_expected (ap (λ (s : Side (Option Profile)). s.expected) same)
+      go : IsUnselected selection limit taken side
+          → (body : List ℕ) × Fits limit (length body + 4) × SpellsBody body (Ok (frames.Mechanisms takes.names))
+          × (taken ++ take k bytes ≡ sasl_header ++ framed body)
+      go (inl (few, nothing, same)) = at_header (ap (λ (s : Side (Option Profile)). s.expected) same)
       go (inr (inl (eight, other, closed, none))) = ended (ProtocolHeaderMismatch taken) closed
       go (inr (inr (inr closed))) = ended _ closed.closed
       go (inr (inr (inl unread))) = left unread.left
         where
           left : LeftOver turns.Mechanisms limit unread.tail side.progress
-              → ReadsOffer limit (taken ++ stream) rest takes.names
+              → (body : List ℕ) × Fits limit (length body + 4) × SpellsBody body (Ok (frames.Mechanisms takes.names))
+              × (taken ++ take k bytes ≡ sasl_header ++ framed body)
           left (inl (part, going)) = held unread.tail unread.carried part
               (ap (λ (s : Side (Option Profile)). s.limit) (unread.waits going))
               (ap (λ (s : Side (Option Profile)). s.held) (unread.waits going))
           left (inr (inl size)) = ended FrameSize size.2
           left (inr (inr frame)) = ended frame.2 frame.7
+
+  -- and what the calls after it leave of the stream
+  offer_at : (taken : List ℕ) (side next last : Side (Option Profile)) (call : Call) (calls : List Call)
+      (stream first later rest : List ℕ) (k : ℕ) → IsUnselected selection limit taken side → IsBytes (taken ++ stream)
+      → PolicyReceives selection side (take call.handed stream) call.nonce k first next
+      → (takes : Takes selection next (take call.handed stream) call.nonce first k side)
+      → Calls (PolicyReceives selection) next calls (drop k stream) later last rest
+      → ReadsOffer limit (taken ++ stream) rest takes.names
+  offer_at taken side next last call calls stream first later rest k is are receives takes made =
+      let (body, fits, spells, first_part) = offer_taken taken side next (take call.handed stream) call.nonce first k is
+      (handed_bytes taken stream call.handed are) takes in
+      let more = bytes_of (taken_pieces (PolicySideAnswers selection) next calls (drop k stream) later last rest made) in
+      record {
+        body = body;
+        more = more;
+        fits = fits;
+        spells = spells;
+        carried = sym (parts taken stream k) ∙ (ap (λ l. (taken ++ l) ++ drop k stream)
+            (sym (front side next call.handed k stream call.nonce first receives))
+            ∙ (ap (λ l. l ++ drop k stream) first_part ∙ (ap (λ l. (sasl_header ++ framed body) ++ l)
+            (covers (PolicySideAnswers selection) next calls (drop k stream) later last rest made)
+            ∙ append_assoc sasl_header (framed body) (more ++ rest))));
+      }
 
   new_calls : (calls : List Call) (taken : List ℕ) (side last : Side (Option Profile)) (stream sent rest : List ℕ)
       → IsUnselected selection limit taken side → IsBytes (taken ++ stream)
