@@ -68,6 +68,15 @@ SelectedProfilesActAsClient = (selection : Selection) (limit : ℕ) (calls : Lis
     → Calls (ClientReceives selection.hostname) (fresh limit profile) calls stream sent last rest
     → Calls (PolicyReceives selection) (fresh limit None) calls stream sent (side_in_state last (Some last.state)) rest
 
+-- so a new client selects wherever an offer was read from which a profile is selected, and then acts as a client of it
+abbrev pub OfferedClientsSelect : Type 0
+OfferedClientsSelect = (selection : Selection) (limit : ℕ) (calls : List Call) (stream sent rest : List ℕ)
+    (last : Side (Option Profile)) (names : List (List ℕ)) (profile : Profile) → limit < 2 ^ 32 → IsBytes stream
+    → ReadsOffer limit stream rest names → IsSelected selection names profile
+    → Calls (PolicyReceives selection) (fresh limit None) calls stream sent last rest
+    → (now : Profile) × (last.state ≡ Some now)
+    × Calls (ClientReceives selection.hostname) (fresh limit profile) calls stream sent (side_in_state last now) rest
+
 -- an offer has one such profile at most, and none where the client selects none
 abbrev pub OneIsSelected : Type 0
 OneIsSelected = (selection : Selection) (names : List (List ℕ)) (profile : Profile) → IsSelected selection names profile

@@ -1,7 +1,7 @@
 //! What the bytes of a connection say of a `PolicyClient`, which selects its mechanism from the server's offer: what it does before
 //! and after it has selected one, and what it costs.
 
-ghost use Rattle.connection_laws.specs.PolicyClients.{LoginsMeetPremises, OneIsSelected, PolicyCallsEndEqually, PolicyClientsAreBounded, PolicyClientsCost, PolicyClientsRetry, ScramClientsReportSelected, SelectedClientsActAsProfile, SelectedProfilesActAsClient, UnselectedClientsSendNothing};
+ghost use Rattle.connection_laws.specs.PolicyClients.{LoginsMeetPremises, OfferedClientsSelect, OneIsSelected, PolicyCallsEndEqually, PolicyClientsAreBounded, PolicyClientsCost, PolicyClientsRetry, ScramClientsReportSelected, SelectedClientsActAsProfile, SelectedProfilesActAsClient, UnselectedClientsSendNothing};
 
 /// States that a [`PolicyClient`](fe2o3_sasl_negotiation::PolicyClient) that has selected a profile is a client of this profile, over
 /// any bytes, in whatever calls they are passed.
@@ -12,12 +12,14 @@ ghost use Rattle.connection_laws.specs.PolicyClients.{LoginsMeetPremises, OneIsS
 ///   The profile is selected from this list (`IsSelected`): that of the strongest mechanism that the policy allows and for which the
 ///   secret serves.
 /// - `reverse`: the calls of a fresh client of such a profile are calls of the policy client.
+/// - `offered`: a client that has read a list of mechanisms from which a profile is selected has selected it.
 /// - `one`: a list of mechanisms has one such profile at most.
 ///
 /// So all laws of clients hold of it.
 pub fn selected()
     ensures acts { SelectedClientsActAsProfile }
     ensures reverse { SelectedProfilesActAsClient }
+    ensures offered { OfferedClientsSelect }
     ensures one { OneIsSelected }
 {}
 
