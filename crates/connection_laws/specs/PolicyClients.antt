@@ -35,6 +35,7 @@ use Rattle.fe2o3_sasl_negotiation.specs.Retries.{RetriedCalls}
 use Rattle.fe2o3_sasl_negotiation.specs.ScramConnections.{ScramReports}
 use Rattle.fe2o3_sasl_negotiation.specs.ServerNegotiation.{ServerReceives}
 use Rattle.connection_laws.specs.Cuts.{CallsEndEqually, taken_pieces}
+use Rattle.connection_laws.specs.JoinedSides.{AreEnough}
 use Rattle.connection_laws.specs.Pairs.{ClientOf}
 use Rattle.connection_laws.specs.Unaltered.{BothLogIn, FitsFrames, HasNonce, Joined}
 
@@ -76,7 +77,7 @@ SelectedProfilesActAsClient = (selection : Selection) (limit : ℕ) (calls : Lis
     → Calls (ClientReceives selection.hostname) (fresh limit profile) calls stream sent last rest
     → Calls (PolicyReceives selection) (fresh limit None) calls stream sent (side_in_state last (Some last.state)) rest
 
--- so a new client selects wherever an offer was read from which a profile is selected, and then acts as a client of it
+-- a new client that has read an offer from which a profile is selected has selected it, and acts as a client of it
 abbrev pub OfferedClientsSelect : Type 0
 OfferedClientsSelect = (selection : Selection) (limit : ℕ) (calls : List Call) (stream sent rest : List ℕ)
     (last : Side (Option Profile)) (names : List (List ℕ)) (profile : Profile) → limit < 2 ^ 32 → IsBytes stream
@@ -233,6 +234,19 @@ UnalteredPolicyClientsLogIn = (selection : Selection) (login : Login) (provider 
     → TakesPolicyFrames joined
     → (now : Profile) × (client.state ≡ Some now)
     × ((both : Joined login provider (side_in_state client now) server) × BothLogIn both salt count)
+
+-- a client and a server that are joined exist, for all calls that are enough for the bytes of the login (`AreEnough`)
+abbrev pub JoinedPolicySidesExist : Type 0
+JoinedPolicySidesExist = (selection : Selection) (login : Login) (provider : Provider) (password salt : List ℕ)
+    (count client_limit server_limit : ℕ) (client_calls server_calls : List Call) → login.hostname ≡ selection.hostname
+    → IsSelected selection (acceptor_names (ScramAcceptor provider Initial)) (scram_profile login) → IsLogin login
+    → HoldsLogin (sides_of login [] [] provider [] []) password salt count → FitsFrames login salt
+    → 512 ≤ client_limit → 512 ≤ server_limit → client_limit < 2 ^ 32 → AllByRecursion HasNonce client_calls
+    → AllByRecursion HasNonce server_calls → AreEnough 1544 4 client_calls → AreEnough 1032 3 server_calls
+    → (client : Side (Option Profile)) × (server : Side Acceptor)
+    × ((joined : JoinedByPolicy selection provider client server) × TakesPolicyFrames joined
+    × (joined.client_calls ≡ client_calls) × (joined.server_calls ≡ server_calls)
+    × (client.progress ≡ Authenticated) × (server.progress ≡ Authenticated))
 
 -- ---- in any division
 

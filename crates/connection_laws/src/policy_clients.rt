@@ -1,7 +1,7 @@
 //! What the bytes of a connection say of a `PolicyClient`, which selects its mechanism from the server's offer: what it does before
 //! and after it has selected one, and what it costs.
 
-ghost use Rattle.connection_laws.specs.PolicyClients.{LoginsMeetPremises, OfferedClientsSelect, OneIsSelected, PolicyCallsEndEqually, PolicyClientsAreBounded, PolicyClientsCost, PolicyClientsRetry, ScramClientsReportSelected, SelectedClientsActAsProfile, SelectedProfilesActAsClient, UnalteredPolicyClientsLogIn, UnselectedClientsSendNothing};
+ghost use Rattle.connection_laws.specs.PolicyClients.{JoinedPolicySidesExist, LoginsMeetPremises, OfferedClientsSelect, OneIsSelected, PolicyCallsEndEqually, PolicyClientsAreBounded, PolicyClientsCost, PolicyClientsRetry, ScramClientsReportSelected, SelectedClientsActAsProfile, SelectedProfilesActAsClient, UnalteredPolicyClientsLogIn, UnselectedClientsSendNothing};
 
 /// States that a [`PolicyClient`](fe2o3_sasl_negotiation::PolicyClient) that has selected a profile is a client of this profile, over
 /// any bytes, in whatever calls they are passed.
@@ -50,11 +50,15 @@ pub fn scram()
 {}
 
 /// States that a [`PolicyClient`](fe2o3_sasl_negotiation::PolicyClient) and a SCRAM server that receive each other's bytes both log in,
-/// in whatever pieces their bytes arrive. The client selects the profile of a login from the server's mechanism. The other premises are
-/// those of [`unaltered`](crate::unaltered::unaltered) for that login, and that frames have sizes of 32 bits. Then both sides are the
-/// two sides of which `unaltered` speaks, so that they mean one login.
+/// in whatever pieces their bytes arrive.
+///
+/// - `log_in`: the client selects the profile of a login from the server's mechanism. The other premises are those of
+///   [`unaltered`](crate::unaltered::unaltered) for that login, and that sizes of frames have 32 bits. Then the two sides are such as
+///   `unaltered` speaks of, so that they mean one login.
+/// - `exist`: such a client and such a server exist, for all calls that are enough for the bytes of the login.
 pub fn unaltered()
-    ensures { UnalteredPolicyClientsLogIn }
+    ensures log_in { UnalteredPolicyClientsLogIn }
+    ensures exist { JoinedPolicySidesExist }
 {}
 
 /// States for a [`PolicyClient`](fe2o3_sasl_negotiation::PolicyClient) what [`one_result`](crate::cuts::one_result) states for a client
