@@ -48,3 +48,6 @@ pub mod ServerReplayLemmas
 pub mod ServerByteLemmas
 pub mod ServerRetryLemmas
 pub mod LoginByteLemmas
+pub mod SignedLoginLemmas
+pub mod ServerPairLemmas
+pub mod ServerProofLemmas

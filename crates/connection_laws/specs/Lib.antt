@@ -12,3 +12,4 @@ pub mod ServerHmacs
 pub mod ServerBytes
 pub mod CallPieces
 pub mod ServerReplays
+pub mod ServerPairs

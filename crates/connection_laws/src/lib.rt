@@ -7,5 +7,6 @@ pub mod hostile;
 pub mod joined;
 pub mod pairs;
 pub mod server_logins;
+pub mod server_pairs;
 pub mod servers;
 pub mod unaltered;
