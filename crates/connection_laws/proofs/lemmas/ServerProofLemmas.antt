@@ -70,8 +70,7 @@ proofs_at_servers_are_judged login settings version plus client server accepted 
 pub proofs_at_servers_bind_channels : ProofsAtServersBindChannels
 proofs_at_servers_bind_channels login settings version plus channels client server accepted is held records has known
     accepts k answer shows =
-    let (verdict, judges) = judged login settings version plus client server accepted accepts k answer held records shows in
-    (
+    let (verdict, judges) = judged login settings version plus client server accepted accepts k answer held records shows in (
       verdict,
       judges,
       agreed_bind login settings version plus client server accepted accepts k answer channels is has known shows verdict
