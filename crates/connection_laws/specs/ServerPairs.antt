@@ -1,6 +1,6 @@
 -- What the bytes of a SCRAM client's connection and those of a server of all mechanisms say of both (RFC 5802, sections 3, 5
 -- and 6). Each law is the contract of a clause in `server_pairs`.
-use Rattle.std.specs.Prelude.{◌≡◌, ◌≢◌, ◌⊎◌, ℕ, Bool, true, Option, Some, None, List, ◌∷◌, Ok, T, slice_get}
+use Rattle.std.specs.Prelude.{◌≡◌, ◌≢◌, ◌⊎◌, ℕ, Bool, true, Option, Some, List, ◌∷◌, Ok, T, slice_get}
 use Rattle.fe2o3_sasl_wire.specs.SaslFrames as frames
 use Rattle.fe2o3_scram.specs.BoundChannels.{BindOne}
 use Rattle.fe2o3_scram.specs.ChannelBinding.{cbind_data, expected_header, header_of, is_strict}

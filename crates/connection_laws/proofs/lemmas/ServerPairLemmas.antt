@@ -1,7 +1,6 @@
 -- What the login of a SCRAM client says of a server of all mechanisms: `clients_agree_with_servers`, `clients_agree_on_all`,
 -- `clients_bind_channels_of_servers`.
-use Rattle.std.proofs.Common.{◌≡◌, ◌≢◌, ◌⊎◌, ◌∙◌, ℕ, Bool, Option, Some, List, ap, codes, sym, subst, inl, inr}
-use Rattle.std.specs.Prelude.{T}
+use Rattle.std.proofs.Common.{◌≡◌, ◌≢◌, ◌⊎◌, ◌∙◌, ℕ, Bool, Some, List, ap, codes, sym, subst, inl, inr}
 use Rattle.fe2o3_scram.specs.BoundChannels.{BindOne}
 use Rattle.fe2o3_scram.specs.ChannelBinding.{Gs2Header, expected_header, is_strict, needs_strict}
 use Rattle.fe2o3_scram.specs.Extensions.{HasAttributeFrom}
@@ -22,7 +21,7 @@ use Rattle.fe2o3_sasl_core.specs.Headline.{VerifierAgrees}
 use Rattle.fe2o3_sasl_core.specs.Laws.{HoldsRecords}
 use Rattle.fe2o3_sasl_core.specs.ServerHistory.{Accepted, final_message, server_at}
 use Rattle.fe2o3_sasl_core.specs.Servers.{ServerSettings, rules_by, sasl_machine}
-use Rattle.fe2o3_sasl_core.specs.TwoSides.{Agree, MessagesCollide, NoneMisplacedIn, ReportedAnswer, SignedAnswer, client_message, keys_at, server_message}
+use Rattle.fe2o3_sasl_core.specs.TwoSides.{Agree, MessagesCollide, NoneMisplacedIn, ReportedAnswer, client_message, keys_at, server_message}
 use Rattle.fe2o3_sasl_core.proofs.lemmas.histories.ReportedOkLemmas.{signature_of_ok}
 use Rattle.fe2o3_sasl_core.proofs.lemmas.machines.OfferedScramLemmas.{offered_scrams_keep_channels}
 use Rattle.fe2o3_sasl_core.proofs.lemmas.two_sides.EqualMessageLemmas.{is_answering}
@@ -108,10 +107,12 @@ module _ (login : Login) (settings : ServerSettings) (version : ScramVersion) (p
       let place = signed_position login events replies m last.more answer stands.2 in (
         place.0,
         answer,
-        (last.more, last.reported, stands.2),
-        place.2,
-        values.0,
-        values.1 ∙ ap (λ (of : ScramVersion). hmac_of of its_key (server_message accepted)) (sym values.0),
+        (
+          (last.more, last.reported, stands.2),
+          place.2,
+          values.0,
+          values.1 ∙ ap (λ (of : ScramVersion). hmac_of of its_key (server_message accepted)) (sym values.0),
+        ),
       )
 
   collides : (m k : ℕ) (answer : Answering) → Signed m k answer → client_message login answer ≢ server_message accepted

@@ -1,6 +1,6 @@
 -- What a proof says that a SCRAM client showed and a server of all mechanisms accepted: `proofs_at_servers_are_judged`,
 -- `proofs_at_servers_bind_channels`.
-use Rattle.std.proofs.Common.{◌≡◌, ◌≢◌, ◌∙◌, ℕ, Bool, Some, List, ap, length, sym}
+use Rattle.std.proofs.Common.{◌≡◌, ◌≢◌, ◌∙◌, ℕ, Bool, Some, ap, length, sym}
 use Rattle.fe2o3_scram.specs.BoundChannels.{BindOne}
 use Rattle.fe2o3_scram.specs.Hmac.{digest_len, hmac_of}
 use Rattle.fe2o3_scram.specs.Keys.{stored_key}

@@ -29,7 +29,6 @@ use Rattle.fe2o3_sasl_negotiation.specs.declared.progress.FrameKind.TheVariants 
 use Rattle.fe2o3_sasl_negotiation.proofs.lemmas.FrameSizeLemmas.{outcomes_fit}
 use Rattle.connection_laws.specs.ConnectionLogins.{AreMessages, AreResponses, CompletesLogin, MessagesLogIn, ScramMessages, confirmation, new_server}
 use Rattle.connection_laws.specs.ServerPairs.{AcceptsScram, SignedLoginsAreAccepted, scram_of, signed_login}
-use Rattle.connection_laws.specs.Servers.{ServerBy}
 use Rattle.connection_laws.proofs.lemmas.ConnectionLoginLemmas.{found_way, of_login, run}
 use Rattle.connection_laws.proofs.lemmas.RestLoginLemmas.{IsChallenged, RestLogsIn, init_rest, response_rest}
 use Rattle.connection_laws.proofs.lemmas.ServedLemmas.{Served, Stepped, init_of, init_step, response_step, sent_outcome}
@@ -41,11 +40,11 @@ use Rattle.connection_laws.proofs.lemmas.WayLemmas.{asked_offers}
 -- ---- what the messages are of
 
 -- the values of an accepted exchange, by its two messages
-record OfMessages (settings : ServerSettings) (version : ScramVersion) (plus : Bool) (nonce first final : List ℕ)
+record OfMessages (settings : ServerSettings) (version : ScramVersion) (plus : Bool) (asked first final : List ℕ)
     (login : ServerLogin) (accepted : Accepted) : Type 0 where
   reads : ReadsClientFirst (rules_by plus settings.rules) first (Ok accepted.challenge.client)
   known : (provider_by settings version plus).records accepted.challenge.client.user ≡ Some accepted.challenge.stored
-  nonce : accepted.challenge.nonce ≡ base64_text nonce
+  nonce : accepted.challenge.nonce ≡ base64_text asked
   meets : ReadsClientFinal (server_at (scram_of settings version plus) accepted.challenge) final (Ok accepted.final)
   user : login.user ≡ Some accepted.challenge.client.user
   acts_for : login.acts_for ≡ accepted.challenge.client.header.acts_for
@@ -105,12 +104,16 @@ says_accepted settings version plus nonce (ways.Scram own bound) response texts 
     let kind : bound ≡ plus = cc in
     let (accepted, of) = of_messages settings own bound nonce messages login scram in (
       one,
-      scram.first,
-      scram.final,
-      subst (λ (all : List (List ℕ)). AreMessages settings.extra.initial_response response texts all) scram.all are,
-      accepted,
-      subst (λ (p : Bool). OfMessages settings version p nonce scram.first scram.final login accepted) kind
-          (subst (λ (v : ScramVersion). OfMessages settings v bound nonce scram.first scram.final login accepted) hash of),
+      (
+        scram.first,
+        scram.final,
+        subst (λ (all : List (List ℕ)). AreMessages settings.extra.initial_response response texts all) scram.all are,
+        (
+          accepted,
+          subst (λ (p : Bool). OfMessages settings version p nonce scram.first scram.final login accepted) kind
+              (subst (λ (v : ScramVersion). OfMessages settings v bound nonce scram.first scram.final login accepted) hash of),
+        ),
+      ),
     )
 
 -- the exchange of a login, and what its login is
@@ -123,7 +126,7 @@ logged_accepts : (settings : ServerSettings) (version : ScramVersion) (plus : Bo
     (login : ServerLogin) → CompletesLogin settings events login → login.way ≡ ways.Scram version plus
     → AcceptedLogin settings version plus events login
 logged_accepts settings version plus events login logs is =
-    let (way, first, final, are, accepted, of) = says_accepted settings version plus logs.init.nonce logs.way logs.response
+    let (way, (first, final, are, (accepted, of))) = says_accepted settings version plus logs.init.nonce logs.way logs.response
     logs.texts login logs.completes is in (
       accepted,
       record {
@@ -370,7 +373,7 @@ shown_accepts : (settings : ServerSettings) (version : ScramVersion) (plus : Boo
     (login : ServerLogin) → ShowsLogin settings events login → login.way ≡ ways.Scram version plus
     → AcceptedLogin settings version plus events login
 shown_accepts settings version plus events login shows is =
-    let (way, first, final, are, accepted, of) = says_accepted settings version plus shows.init.nonce shows.way
+    let (way, (first, final, are, (accepted, of))) = says_accepted settings version plus shows.init.nonce shows.way
     shows.response (shows.texts ++ [] ∷ []) login shows.completes is in (
       accepted,
       record {
