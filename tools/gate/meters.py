@@ -34,7 +34,7 @@ from functools import cached_property, lru_cache
 from pathlib import Path
 from typing import NamedTuple
 
-from scopes import brackets, closing, locals_of
+from local_names import brackets, closing, locals_of
 
 TOP = Path(__file__).resolve().parents[2]
 LIBRARIES = ("fe2o3_sasl_wire", "fe2o3_scram", "fe2o3_sasl_core", "fe2o3_sasl", "fe2o3_sasl_negotiation",
@@ -130,7 +130,8 @@ class Function:
         calls, uses = [], [found.span() for found in USE.finditer(self.body)]
         for found in WORD.finditer(self.body):
             text = self.body[max(0, found.start() - 80):found.start()]
-            before = BEFORE.search(text)
+            # (the search costs much more than this question)
+            before = BEFORE.search(text) if text.rstrip().endswith((".", "::")) else None
             method, path = bool(before and before[1]), before[2] or "" if before else ""
             path = self.owner if path == "Self" else path
             of_type, value = path[:1].isupper(), not found[2]

@@ -97,9 +97,19 @@ def comment_blocks(text, token, marks, doc_marks):
         yield Block(before[0], "\n".join(without_fences(before[3])), before[2] in doc_marks and before[4])
 
 
+def statements(tree):
+    """A module and its statements, at any depth. (`ast.walk` also visits each expression.)"""
+    left = [tree]
+    while left:
+        node = left.pop()
+        yield node
+        for field in ("body", "orelse", "finalbody", "handlers", "cases"):
+            inner = getattr(node, field, None)
+            left += inner if isinstance(inner, list) else []
+
+
 def python_blocks(text):
-    tree = ast.parse(text)
-    for node in ast.walk(tree):
+    for node in statements(ast.parse(text)):
         if isinstance(node, (ast.Module, ast.ClassDef, ast.FunctionDef, ast.AsyncFunctionDef)) and ast.get_docstring(node):
             first = node.body[0]
             yield Block(first.lineno, ast.get_docstring(node, clean=False), doc=True)
@@ -157,19 +167,22 @@ def pattern_of(words):
 
 
 def vocabulary():
-    """The expressions that are faults, each with what to write instead, and those that are counted."""
-    faults, counted = [], []
+    """The expressions that are faults, each with what to write instead; those that are counted; and one of all faults."""
+    faults, counted, words_of_faults = [], [], []
     for line in WORDS.read_text().splitlines():
         if line.startswith("count: "):
             counted.append((line[7:], pattern_of(line[7:])))
         elif line and not line.startswith("#"):
             words, advice = line.split(" -> ")
             faults.append((pattern_of(words), advice))
-    return faults, counted
+            words_of_faults.append(words)
+    return faults, counted, pattern_of("|".join(words_of_faults))
 
 
-def faults_of(path, blocks, faults):
-    """The faults of a file's blocks: line, the words, and what is wrong with them."""
+def faults_of(path, blocks, faults, any_of):
+    """The faults of a file's blocks: line, the words, and what is wrong with them. (`any_of` is one of all, and quick.)"""
+    if not any_of.search("\n\n".join(block.text for block in blocks)):
+        faults = []
     for block in blocks:
         start = block.text.lstrip(" \n\"")
         first = BLIND_START.match(start[:1].upper() + start[1:] if path.suffix == ".antt" else start)
@@ -184,7 +197,7 @@ def faults_of(path, blocks, faults):
 
 def main():
     arguments = sys.argv[1:]
-    faults, counted = vocabulary()
+    faults, counted, any_of = vocabulary()
     only_count = arguments[:1] == ["--count"]
     where = arguments[1] if arguments[:1] == ["--where"] and len(arguments) > 1 else None
     paths = arguments[2:] if where else arguments[1:] if only_count else arguments
@@ -192,7 +205,8 @@ def main():
         sys.exit(__doc__)
     if where:
         known = [pattern for words, pattern in counted if pattern.fullmatch(where)]
-        faults = [(known[0] if known else pattern_of(where), "")]
+        any_of = known[0] if known else pattern_of(where)
+        faults = [(any_of, "")]
     top, counts, count, files = top_of(Path.cwd().resolve()), Counter(), 0, set()
     for path in files_of(top, paths):
         blocks = list(blocks_of(path, path.read_text()))
@@ -201,7 +215,7 @@ def main():
             continue
         if where:
             blocks = [block for block in blocks if setattr(block, "doc", False) is None]
-        for line, words, advice in sorted(faults_of(path, blocks, faults)):
+        for line, words, advice in sorted(faults_of(path, blocks, faults, any_of)):
             count += 1
             files.add(path)
             print(f"{path.relative_to(top)}:{line}: {words}" + f"  (write: {advice})" * bool(advice))

@@ -9,7 +9,7 @@ A call is a public function, a public method of a public type, a function of a p
 of the C library. Its row has the first sentence of its comment, the names of its clauses, the definitions of specs/
 that each clause cites, and the wrong bodies that are planted in it. A table for each crate lists all its wrong bodies:
 the first sentence of the edit, the function that it turns, and the clause that refuses it. Last come the definitions
-that the headline theorem rests on, as tools/believed.py counts them. README.md quotes three of these counts.
+that the headline theorem rests on, as tools/trusted_definitions.py counts them. README.md quotes three of these counts.
 """
 import re
 import sys
@@ -17,10 +17,10 @@ from dataclasses import dataclass
 from pathlib import Path
 
 HERE = Path(__file__).resolve().parent
-# (signatures.py is beside this file, believed.py one folder up)
+# (signatures.py is beside this file, trusted_definitions.py one folder up)
 sys.path[:0] = [str(HERE), str(HERE.parent)]
 
-import believed
+import trusted_definitions as trusted
 import signatures
 
 # (the exported functions of the C library are items too)
@@ -191,11 +191,17 @@ def shown(call, most, places):
     return ", ".join(parts) or "none"
 
 
+def unlinked(sentence):
+    """A sentence without the links of rustdoc, whose targets are paths of items."""
+    return re.sub(r"\[(`[^`]*`)\](?:\([\w:]+\))?", r"\1", sentence)
+
+
 def row_of(call, planted):
-    """A row, with as many definitions as its width permits, and else with a shorter sentence."""
+    """A row, with as many definitions as its width permits, and otherwise with a shorter sentence."""
     bodies = ", ".join(f"`{name}`" for name in planted)
     tries = [(3, 99), (2, 99), (1, 99), *((1, places) for places in range(len(call.clauses), -1, -1))]
-    for sentence in (call.sentence, call.sentence.split(": ")[0] + ".", call.sentence[:160].rpartition(" ")[0] + " .."):
+    whole = unlinked(call.sentence)
+    for sentence in (whole, whole.split(": ")[0] + ".", whole[:160].rpartition(" ")[0] + " .."):
         for most, places in tries:
             row = f"| `{call}` | {sentence} | {shown(call, most, places)} | {bodies} |"
             if len(row) <= WIDTH:
@@ -230,9 +236,9 @@ LAWS = ("fe2o3_sasl_negotiation::server_connections", "fe2o3_sasl_negotiation::c
 
 def counted(name, words):
     """How much the statements of these words rest on, as a row."""
-    starts, arguments = believed.statements(words)
-    reached, more = believed.rest_on(starts), believed.rest_on(starts + arguments)
-    lines, more_lines = believed.lines_of(reached), believed.lines_of(more)
+    starts, arguments = trusted.statements(words)
+    reached, more = trusted.rest_on(starts), trusted.rest_on(starts + arguments)
+    lines, more_lines = trusted.lines_of(reached), trusted.lines_of(more)
     return f"| {name} | {len(reached)} | {lines} | {len(more)} | {more_lines} |"
 
 
@@ -240,14 +246,14 @@ def definitions():
     """The definitions that the headline rests on: of each statement how many, and those over frames by file."""
     out = ["", "## Definitions of the headline", "",
            "What the statements rest on: definitions, and their lines with comments. The last two columns add the arguments",
-           "of the clauses. Not counted: definitions of the kit, and types that code declares (`tools/believed.py`).", "",
+           "of the clauses. Not counted: definitions of the kit, and types that code declares (`tools/trusted_definitions.py`).", "",
            "| Statement | Definitions | Lines | With arguments | Lines |", "|---|---|---|---|---|",
-           counted("the headline over frame bodies (`Headline`)", [believed.HEADLINE])]
+           counted("the headline over frame bodies (`Headline`)", [trusted.HEADLINE])]
     out += [counted(f"`{law.split('::')[1]}`", [law]) for law in LAWS]
     out += [counted("`server_connections` and `client_connections`", LAWS[:2]), "",
             "The headline over frame bodies, by file:", "", "| Crate | File | Definitions | Lines |", "|---|---|---|---|"]
-    reached = believed.rest_on(believed.whole(believed.HEADLINE))
-    for module, (_, _, _, all_of) in sorted(believed.FILES.items()):
+    reached = trusted.rest_on(trusted.whole(trusted.HEADLINE))
+    for module, (_, _, _, all_of) in sorted(trusted.FILES.items()):
         mine = [all_of[place][2] for at, place in reached if at == module]
         if mine:
             crate, name = re.match(r"Rattle\.(\w+)\.specs\.(.*)", module).groups()
@@ -262,9 +268,9 @@ QUOTED = re.compile(r"[\d,]+ lines for the theorem over frames, [\d,]+ over byte
 
 def quoted_counts():
     """The words of README.md on the lines of the definitions: over frames, over bytes, and these with the arguments."""
-    starts, arguments = believed.statements(LAWS[:2])
-    counts = (believed.reached_from(believed.HEADLINE), believed.rest_on(starts), believed.rest_on(starts + arguments))
-    frames, stream, more = (f"{believed.lines_of(reached):,}" for reached in counts)
+    starts, arguments = trusted.statements(LAWS[:2])
+    counts = (trusted.reached_from(trusted.HEADLINE), trusted.rest_on(starts), trusted.rest_on(starts + arguments))
+    frames, stream, more = (f"{trusted.lines_of(reached):,}" for reached in counts)
     return f"{frames} lines for the theorem over frames, {stream} over bytes, and {more} with the arguments of the laws"
 
 

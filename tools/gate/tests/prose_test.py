@@ -9,13 +9,14 @@ sys.path.insert(0, str(Path(__file__).resolve().parents[1]))
 
 import prose
 
-FAULTS, COUNTED = prose.vocabulary()
+FAULTS, COUNTED, ANY_OF = prose.vocabulary()
 
 
 class Prose(unittest.TestCase):
     def found(self, name, text):
         path = Path(name)
-        return [(line, words) for line, words, _ in sorted(prose.faults_of(path, prose.blocks_of(path, text), FAULTS))]
+        blocks = [*prose.blocks_of(path, text)]
+        return [(line, words) for line, words, _ in sorted(prose.faults_of(path, blocks, FAULTS, ANY_OF))]
 
     def test_words(self):
         for text in ("It stands there.", "Whoever reads it.", "It is handed in.", "so many bytes", "past ASCII",

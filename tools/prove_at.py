@@ -1,7 +1,7 @@
 #!/usr/bin/env python3
 """Proves the function at a line of a source, and the lemma files that its proof cites.
 
-    tools/prove FILE:LINE [FLAG..]      FILE is crates/NAME/src/.., from the current folder or the repository's top
+    tools/prove_at.py FILE:LINE [FLAG..]    FILE is crates/NAME/src/.., from the current folder or the repository's top
 
 Finds the path of the function, as `rt check` prints it, and runs `rt check --only PATH` with these flags in the crate's
 folder. The line may be one of its comment, its head or its body. If the text does not determine the path, as for an

@@ -1,7 +1,7 @@
 #!/usr/bin/env python3
 """What a reader has to trust of some statements: every definition that they rest on, file by file.
 
-    tools/believed.py [STATEMENT..]
+    tools/trusted_definitions.py [STATEMENT..]
 
 A statement is one of:
     MODULE          each definition of a module of specs/; with no statement, the headline's, Rattle.fe2o3_sasl_core.specs.Headline

@@ -1,7 +1,7 @@
 #!/usr/bin/env python3
 """Compiles every round of wrong bodies, without proofs: for an edit that no longer fits its crate.
 
-    tools/gate/rounds.py [CRATE..]
+    tools/gate/compile_wrong_bodies.py [CRATE..]
 
 One edit that does not compile fails all bodies of its round in the gate, after an hour. Here a round takes 10 to 25 s: it
 is planted in a copy of its crate, and checked for a function that does not exist, over the sources of the crates below.
@@ -42,7 +42,7 @@ def check_of(lines, crate, root):
 
 def compiled(lines, crate, bodies):
     """What is wrong with a round, or nothing."""
-    with tempfile.TemporaryDirectory(prefix="rounds-") as room:
+    with tempfile.TemporaryDirectory(prefix="compiled-") as room:
         shutil.copytree(f"{ROOT}/crates/{crate}", f"{room}/{crate}", ignore=shutil.ignore_patterns("out"))
         for path, text in planted(bodies).items():
             with open(f"{room}/{crate}/{path}", "w", encoding="utf-8") as it:
@@ -66,7 +66,7 @@ def main():
             if faults:
                 print("\n    ".join([f"round {which + 1} of {crate}, {len(found)} bodies:", *faults[:8]]), flush=True)
             rounds, wrong = rounds + 1, wrong + bool(faults)
-    print(f"rounds: {rounds} compiled, {wrong} faults")
+    print(f"compile_wrong_bodies: {rounds} rounds compiled, {wrong} faults")
     return 1 if wrong or not rounds else 0
 
 
