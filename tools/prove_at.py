@@ -20,7 +20,9 @@ sys.path.insert(0, str(TOP / "tools/gate"))
 import wrong_bodies
 
 HEAD = re.compile(r"^( *)(?:pub(?:\([a-z]+\))? )?(?:const )?(?:unsafe )?(?:extern \"C\" )?fn (\w+)", re.M)
-IMPL = re.compile(r"impl(?:<[^{]*?>)? (?:(?P<trait>[\w:]+(?:<[^{]*?>)?) for )?(?P<type>\S[^{]*?)\s*(?:where[^{]*)?\{$", re.M)
+IMPL = re.compile(
+    r"impl(?:<[^{]*?>)? (?:(?P<trait>[\w:]+(?:<[^{]*?>)?) for )?(?P<type>\S[^{]*?)\s*(?:where[^{]*)?\{$", re.M
+)
 TRAIT = re.compile(r"([\w:]+)(?:<(.*)>)?")
 GENERIC = re.compile(r"([\w:]+)<((?:'\w+|[A-Z])(?:, (?:'\w+|[A-Z]))*)>")
 

@@ -8,7 +8,6 @@ is planted in a copy of its crate, and checked for a function that does not exis
 Prints each round that does not compile, and last how many rounds do. The exit status is 1 if one does not, or if an edit
 cannot be planted.
 """
-import os
 import re
 import shutil
 import subprocess
@@ -16,7 +15,6 @@ import sys
 import tempfile
 
 sys.dont_write_bytecode = True
-import wrong_bodies
 from wrong_bodies import KIT, ROOT, below, bodies_of, is_static, libraries, planted, rounds_of, used_by
 
 # What a check says that has found no error before the functions.
@@ -47,7 +45,9 @@ def compiled(lines, crate, bodies):
         for path, text in planted(bodies).items():
             with open(f"{room}/{crate}/{path}", "w", encoding="utf-8") as it:
                 it.write(text)
-        ran = subprocess.run(check_of(lines, crate, "src/lib.rt"), cwd=f"{room}/{crate}", capture_output=True, text=True)
+        ran = subprocess.run(
+            check_of(lines, crate, "src/lib.rt"), cwd=f"{room}/{crate}", capture_output=True, text=True
+        )
     said = (ran.stdout + ran.stderr).splitlines()
     if COMPILED in (said or [""])[-1]:
         return []

@@ -30,8 +30,14 @@ LINES = re.compile(r"L(\d+)(?:-L(\d+))?")
 def pages_of(top):
     """All Markdown pages, those of .github among them."""
     found = (path.relative_to(top) for path in [*top.glob("**/*.md"), *top.glob(".github/**/*.md")])
-    return sorted({path for path in found if not SKIPPED_FOLDERS.intersection(path.parts)
-                   and not any(part[0] == "." and part != ".github" for part in path.parts)})
+    return sorted(
+        {
+            path
+            for path in found
+            if not SKIPPED_FOLDERS.intersection(path.parts)
+            and not any(part[0] == "." and part != ".github" for part in path.parts)
+        }
+    )
 
 
 def slug(heading):

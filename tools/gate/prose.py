@@ -22,8 +22,15 @@ from pathlib import Path
 WORDS = Path(__file__).resolve().parent / "words.txt"
 SKIPPED_FOLDERS = {"out", "build", "target"}
 SKIPPED_PAGES = {"CHANGELOG.md", "SIGNATURES.md", "PROMISES.md"}
-SOURCES = ("crates/*/src/**/*.rt", "crates/*/specs/**/*.antt", "bindings/c/fe2o3_sasl.h",
-           "bindings/rust/src/**/*.rs", "bindings/rust/tests/**/*.rs", "bindings/python/*.py", "tools/**/*.py")
+SOURCES = (
+    "crates/*/src/**/*.rt",
+    "crates/*/specs/**/*.antt",
+    "bindings/c/fe2o3_sasl.h",
+    "bindings/rust/src/**/*.rs",
+    "bindings/rust/tests/**/*.rs",
+    "bindings/python/*.py",
+    "tools/**/*.py",
+)
 
 INLINE_CODE = re.compile(r"(?<!`)(`+)(?!`)(?:(?!\n\s*\n).)+?(?<!`)\1(?!`)", re.S)
 LINK_TARGET = re.compile(r"\]\([^)\s]*\)|<https?:[^>]*>|https?:\S+")
@@ -74,7 +81,7 @@ def page_blocks(text):
 
 def comment_blocks(text, token, marks, doc_marks):
     """The blocks of line comments, whose marks and white space are left out, and the block comments."""
-    before = None       # the block that the next line may continue: line, column, mark, texts
+    before = None  # the block that the next line may continue: line, column, mark, texts
     for found in token.finditer(text):
         groups = found.groupdict()
         if not groups.get("line") and not groups.get("block"):
@@ -86,13 +93,13 @@ def comment_blocks(text, token, marks, doc_marks):
             yield Block(line, inner, doc=True)
             continue
         mark = next(mark for mark in marks if found[0].startswith(mark))
-        own = not text[found.start() - column:found.start()].strip()
+        own = not text[found.start() - column : found.start()].strip()
         if before and own and before[:3] == (line - len(before[3]), column, mark):
-            before[3].append(found[0][len(mark):])
+            before[3].append(found[0][len(mark) :])
             continue
         if before:
             yield Block(before[0], "\n".join(without_fences(before[3])), before[2] in doc_marks and before[4])
-        before = (line, column, mark, [found[0][len(mark):]], own)
+        before = (line, column, mark, [found[0][len(mark) :]], own)
     if before:
         yield Block(before[0], "\n".join(without_fences(before[3])), before[2] in doc_marks and before[4])
 
@@ -110,10 +117,12 @@ def statements(tree):
 
 def python_blocks(text):
     for node in statements(ast.parse(text)):
-        if isinstance(node, (ast.Module, ast.ClassDef, ast.FunctionDef, ast.AsyncFunctionDef)) and ast.get_docstring(node):
+        if isinstance(node, (ast.Module, ast.ClassDef, ast.FunctionDef, ast.AsyncFunctionDef)) and ast.get_docstring(
+            node
+        ):
             first = node.body[0]
             yield Block(first.lineno, ast.get_docstring(node, clean=False), doc=True)
-    last = None         # the block that the next line may continue: line, column, texts
+    last = None  # the block that the next line may continue: line, column, texts
     for found in tokenize.generate_tokens(io.StringIO(text).readline):
         if found.type != tokenize.COMMENT:
             continue
@@ -148,6 +157,7 @@ def top_of(folder):
 
 def files_of(top, paths):
     """The files with prose, of the paths alone if there are any."""
+
     def skipped(path):
         inner = path.relative_to(top).parts
         return any(part in SKIPPED_FOLDERS or part.startswith(".") for part in inner[:-1]) or path.name in SKIPPED_PAGES
@@ -184,12 +194,12 @@ def faults_of(path, blocks, faults, any_of):
     if not any_of.search("\n\n".join(block.text for block in blocks)):
         faults = []
     for block in blocks:
-        start = block.text.lstrip(" \n\"")
+        start = block.text.lstrip(' \n"')
         first = BLIND_START.match(start[:1].upper() + start[1:] if path.suffix == ".antt" else start)
         if block.doc and first:
             skipped = len(block.text) - len(start)
             line = block.line + block.text.count("\n", 0, skipped)
-            yield line, start[:first.end()], "a doc comment begins with its own item"
+            yield line, start[: first.end()], "a doc comment begins with its own item"
         for pattern, advice in faults:
             for found in pattern.finditer(block.text):
                 yield block.line + block.text.count("\n", 0, found.start()), " ".join(found[0].split()), advice
@@ -211,7 +221,9 @@ def main():
     for path in files_of(top, paths):
         blocks = list(blocks_of(path, path.read_text()))
         if only_count:
-            counts.update({words: sum(len(pattern.findall(block.text)) for block in blocks) for words, pattern in counted})
+            counts.update(
+                {words: sum(len(pattern.findall(block.text)) for block in blocks) for words, pattern in counted}
+            )
             continue
         if where:
             blocks = [block for block in blocks if setattr(block, "doc", False) is None]

@@ -53,8 +53,10 @@ def faults_of(found, listed):
         lines, most = found.get(file, []), listed.get(file, 0)
         if len(lines) > most:
             places = ", ".join(str(number) for number, _ in lines)
-            yield (f"{file} has {len(lines)} lines wider than {WIDEST} characters, at {places}"
-                   + f"; the list allows {most}" * bool(most))
+            yield (
+                f"{file} has {len(lines)} lines wider than {WIDEST} characters, at {places}"
+                + f"; the list allows {most}" * bool(most)
+            )
         elif len(lines) < most:
             yield f"{file} has {len(lines)} wide lines and the list {most}: tools/gate/widths.py --lower"
 

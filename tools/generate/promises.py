@@ -30,8 +30,16 @@ CRATES = signatures.CRATES
 PAGE = CRATES.parent / "docs" / "PROMISES.md"
 README = CRATES.parent / "README.md"
 # The crates whose calls are listed, with those that a program or a proof calls first.
-WITH_CALLS = ("fe2o3_sasl_negotiation", "fe2o3_sasl_core", "fe2o3_scram", "fe2o3_sasl", "connection_laws",
-              "fe2o3_sasl_wire", "saslprep", "sasl_c")
+WITH_CALLS = (
+    "fe2o3_sasl_negotiation",
+    "fe2o3_sasl_core",
+    "fe2o3_scram",
+    "fe2o3_sasl",
+    "connection_laws",
+    "fe2o3_sasl_wire",
+    "saslprep",
+    "sasl_c",
+)
 WIDTH = 400
 # The pages written by hand whose names are looked for in the sources.
 BY_HAND = ("docs/THEOREMS.md", "docs/SPECIFICATION.md")
@@ -53,6 +61,7 @@ the check rejects in it. `tools/generate/promises.py write` writes this page fro
 @dataclass
 class Call:
     """A call: its type or trait, its name, the first sentence of its comment, and its clauses."""
+
     owner: str
     name: str
     sentence: str
@@ -65,6 +74,7 @@ class Call:
 @dataclass
 class WrongBody:
     """An edit: its name, its first sentence, what refuses it, and the file and the function that it turns."""
+
     name: str
     sentence: str
     refused: str
@@ -92,13 +102,17 @@ def head_of(block):
     for at, line in enumerate(block):
         if line in (indent + "{", indent + "{}"):
             return block[:at]
-        if at and line.startswith(indent) and line[len(indent):len(indent) + 1] not in (" ", ")", "") and (
-                line.strip() != "where"):
+        if (
+            at
+            and line.startswith(indent)
+            and line[len(indent) : len(indent) + 1] not in (" ", ")", "")
+            and (line.strip() != "where")
+        ):
             return block[:at]
         if at == 0 and line.endswith("{") or line.startswith(indent + ")") and line.endswith("{"):
-            return block[:at + 1]
+            return block[: at + 1]
         if line.endswith(";"):
-            return block[:at + 1]
+            return block[: at + 1]
     return block
 
 
@@ -111,7 +125,7 @@ def clauses(block, names):
         while depth and end < len(text):
             depth += {"{": 1, "}": -1}.get(text[end], 0)
             end += 1
-        words = dict.fromkeys(re.findall(r"[\w-]+", text[clause.end():end]))
+        words = dict.fromkeys(re.findall(r"[\w-]+", text[clause.end() : end]))
         mine = [word for word in words if word in names and word not in ("record",)]
         found.append(((clause[1] or "").strip(), sorted(mine, key=lambda word: not word[0].isupper())))
     return found
@@ -158,12 +172,18 @@ def calls_of(crate):
 
 def function_at(text, at):
     """The function whose body has this place: a method by its type."""
-    heads = [it for it in re.finditer(r"^( *)(?:pub(?:\(\w+\))? )?(?:const )?(?:extern \"C\" )?fn (\w+)", text, re.M)
-             if it.start() <= at]
+    heads = [
+        it
+        for it in re.finditer(r"^( *)(?:pub(?:\(\w+\))? )?(?:const )?(?:extern \"C\" )?fn (\w+)", text, re.M)
+        if it.start() <= at
+    ]
     if not heads:
         return ""
-    owners = [it for it in re.finditer(r"^(?:impl(?:<.*?>)? (?:[^{\n]* for )?|pub trait )(\w+)", text, re.M)
-              if it.start() < heads[-1].start()]
+    owners = [
+        it
+        for it in re.finditer(r"^(?:impl(?:<.*?>)? (?:[^{\n]* for )?|pub trait )(\w+)", text, re.M)
+        if it.start() < heads[-1].start()
+    ]
     return f"{owners[-1][1]}::{heads[-1][2]}" if heads[-1][1] and owners else heads[-1][2]
 
 
@@ -177,8 +197,15 @@ def wrong_bodies(crate):
         old = next(line for line in lines if line.startswith("old: ")).removeprefix("old: ")
         file = next(line for line in lines[start:]).removeprefix("file:").strip()
         source = (CRATES / crate / file).read_text(encoding="utf-8")
-        found.append(WrongBody(edit.stem, signatures.first_sentence([text]), refused[1] if refused else "",
-                               file, function_at(source, source.find(old))))
+        found.append(
+            WrongBody(
+                edit.stem,
+                signatures.first_sentence([text]),
+                refused[1] if refused else "",
+                file,
+                function_at(source, source.find(old)),
+            )
+        )
     return found
 
 
@@ -186,7 +213,7 @@ def shown(call, most, places):
     """The clauses of a call, of the first of them with at most that many definitions for each."""
     parts = []
     for at, (name, cites) in enumerate(call.clauses):
-        words = ", ".join(f"`{word}`" for word in cites[:most if at < places else 0])
+        words = ", ".join(f"`{word}`" for word in cites[: most if at < places else 0])
         parts.append(f"{f'`{name}`' if name else ''}{f' ({words})' if words else ''}".strip() or "unnamed")
     return ", ".join(parts) or "none"
 
@@ -221,7 +248,13 @@ def section(crate, with_calls):
         for call in mine:
             out.append(row_of(call, [body.name for body in bodies if body.file == path and body.function == str(call)]))
     if bodies:
-        out += ["", f"Wrong bodies of `{crate}`:", "", "| Edit | What is wrong | Function | Rejected by |", "|---|---|---|---|"]
+        out += [
+            "",
+            f"Wrong bodies of `{crate}`:",
+            "",
+            "| Edit | What is wrong | Function | Rejected by |",
+            "|---|---|---|---|",
+        ]
         for body in bodies:
             link = f"[{body.name}](../crates/{crate}/wrong-bodies/{body.name}.edit)"
             out.append(f"| {link} | {body.sentence} | `{body.function}` | {body.refused or 'its clause'} |")
@@ -229,9 +262,15 @@ def section(crate, with_calls):
 
 
 # The laws of connections whose definitions are counted.
-LAWS = ("fe2o3_sasl_negotiation::server_connections", "fe2o3_sasl_negotiation::client_connections",
-        "fe2o3_sasl_negotiation::users_of_any_mechanism", "connection_laws::any_mechanism",
-        "connection_laws::restrict_mechanisms", "connection_laws::external", "connection_laws::plain")
+LAWS = (
+    "fe2o3_sasl_negotiation::server_connections",
+    "fe2o3_sasl_negotiation::client_connections",
+    "fe2o3_sasl_negotiation::users_of_any_mechanism",
+    "connection_laws::any_mechanism",
+    "connection_laws::restrict_mechanisms",
+    "connection_laws::external",
+    "connection_laws::plain",
+)
 
 
 def counted(name, words):
@@ -244,14 +283,27 @@ def counted(name, words):
 
 def definitions():
     """The definitions that the headline rests on: of each statement how many, and those over frames by file."""
-    out = ["", "## Definitions of the headline", "",
-           "What the statements rest on: definitions, and their lines with comments. The last two columns add the arguments",
-           "of the clauses. Not counted: definitions of the kit, and types that code declares (`tools/trusted_definitions.py`).", "",
-           "| Statement | Definitions | Lines | With arguments | Lines |", "|---|---|---|---|---|",
-           counted("the headline over frame bodies (`Headline`)", [trusted.HEADLINE])]
+    out = [
+        "",
+        "## Definitions of the headline",
+        "",
+        "What the statements rest on: definitions, and their lines with comments. The last two columns add the arguments",
+        "of the clauses. Not counted: definitions of the kit, and types that code declares"
+        " (`tools/trusted_definitions.py`).",
+        "",
+        "| Statement | Definitions | Lines | With arguments | Lines |",
+        "|---|---|---|---|---|",
+        counted("the headline over frame bodies (`Headline`)", [trusted.HEADLINE]),
+    ]
     out += [counted(f"`{law.split('::')[1]}`", [law]) for law in LAWS]
-    out += [counted("`server_connections` and `client_connections`", LAWS[:2]), "",
-            "The headline over frame bodies, by file:", "", "| Crate | File | Definitions | Lines |", "|---|---|---|---|"]
+    out += [
+        counted("`server_connections` and `client_connections`", LAWS[:2]),
+        "",
+        "The headline over frame bodies, by file:",
+        "",
+        "| Crate | File | Definitions | Lines |",
+        "|---|---|---|---|",
+    ]
     reached = trusted.rest_on(trusted.whole(trusted.HEADLINE))
     for module, (_, _, _, all_of) in sorted(trusted.FILES.items()):
         mine = [all_of[place][2] for at, place in reached if at == module]
@@ -263,7 +315,9 @@ def definitions():
 
 
 # What README.md says of the lines of these definitions.
-QUOTED = re.compile(r"[\d,]+ lines for the theorem over frames, [\d,]+ over bytes, and [\d,]+ with the arguments of the laws")
+QUOTED = re.compile(
+    r"[\d,]+ lines for the theorem over frames, [\d,]+ over bytes, and [\d,]+ with the arguments of the laws"
+)
 
 
 def quoted_counts():
@@ -296,7 +350,9 @@ def unknown_names():
     """The names in backticks of the pages written by hand that no source has, each with its place."""
     top = CRATES.parent
     files = [path for path in CRATES.glob("*/*/**/*") if path.suffix in (".rt", ".antt") and "out" not in path.parts]
-    known = {path.name for path in files} | {path.name for path in top.iterdir()} | {path.name for path in CRATES.iterdir()}
+    known = (
+        {path.name for path in files} | {path.name for path in top.iterdir()} | {path.name for path in CRATES.iterdir()}
+    )
     for path in files:
         known |= set(re.findall(r"\w+", path.read_text(encoding="utf-8")))
     for page in BY_HAND:
@@ -326,8 +382,10 @@ def main():
     for line in wrong:
         print(f"promises: {line}", file=sys.stderr)
     if not wrong and sys.argv[1] == "check":
-        print("promises: docs/PROMISES.md and the counts of README.md are as the sources say, and every name of the pages"
-              " for auditors exists")
+        print(
+            "promises: docs/PROMISES.md and the counts of README.md are as the sources say, and every name of the pages"
+            " for auditors exists"
+        )
     sys.exit(1 if wrong else 0)
 
 

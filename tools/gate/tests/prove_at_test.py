@@ -108,10 +108,20 @@ pub fn at_the_top() -> u32 {
 }
 """,
 }
-PATHS = ["frames::items::Items::symbol", "frames::items::ItemsIterator::next", "frames::items::symbol_at",
-         "error::ErrorFromAllocError::from", "error::ErrorFromAllocFailed::from", "error::ErrorFromOther_crateFault::from",
-         "header::ArrayU88FromHeader::from", "header::HeaderTryFromRefSliceU8::try_from", "hmac::Version::h_i",
-         "hmac::hasher::Sha1Sha1Hasher20::copy", "hmac::hasher::RcProvider::version", "at_the_top"]
+PATHS = [
+    "frames::items::Items::symbol",
+    "frames::items::ItemsIterator::next",
+    "frames::items::symbol_at",
+    "error::ErrorFromAllocError::from",
+    "error::ErrorFromAllocFailed::from",
+    "error::ErrorFromOther_crateFault::from",
+    "header::ArrayU88FromHeader::from",
+    "header::HeaderTryFromRefSliceU8::try_from",
+    "hmac::Version::h_i",
+    "hmac::hasher::Sha1Sha1Hasher20::copy",
+    "hmac::hasher::RcProvider::version",
+    "at_the_top",
+]
 
 SOURCE = """\
 //! A module.
@@ -166,7 +176,7 @@ class Prove(unittest.TestCase):
         self.assertEqual(found, {at: f"library::{path}" for at, path in enumerate(PATHS, 1)})
 
     def at(self, text):
-        line = SOURCE[:SOURCE.index(text)].count("\n") + 1
+        line = SOURCE[: SOURCE.index(text)].count("\n") + 1
         return prove_at.function_at("library", "src/some/module.rt", SOURCE, line)
 
     def test_lines_of_a_function(self):
