@@ -26,7 +26,7 @@ RUN_black = black --quiet --check $(PYTHON_FILES)
 RUN_clang-format = clang-format --dry-run --Werror $(C_FILES)
 RUN_flake8 = flake8 $(PYTHON_FILES)
 RUN_mypy = mypy $(TYPED_FILES)
-RUN_mypy-strict = mypy --strict --cache-dir build/mypy-strict $(STRICT_FILES)
+RUN_mypy-strict = mypy --strict --python-version 3.9 --cache-dir build/mypy-strict $(STRICT_FILES)
 RUN_pytest = $(PYTEST) -q tools/gate/tests
 RUN_shellcheck = shellcheck $(SHELL_FILES)
 
