@@ -19,8 +19,9 @@ SHELL_FILES = $(shell git grep -lE -e '^$(hash)!/(usr/)?bin/(env )?(ba|da)?sh' -
 STRICT_FILES = bindings/python/fe2o3_sasl.py bindings/python/fe2o3_sasl_asyncio.py $(wildcard bindings/python/examples/*.py)
 TYPED_FILES = $(shell git ls-files 'tools/*.py' 'bench/*.py' 'bindings/packages/*.py')
 hash := \#
-# (Debian's package has this name only)
+# (Debian's package has the second name only)
 PYTEST = $(firstword $(foreach name,pytest pytest-3,$(if $(shell command -v $(name)),$(name))) pytest)
+PYTHON_TEST = $(if $(shell command -v $(PYTEST)),$(PYTEST) -q -p no:cacheprovider,python3 -B)
 
 RUN_black = black --quiet --check $(PYTHON_FILES)
 RUN_clang-format = clang-format --dry-run --Werror $(C_FILES)
