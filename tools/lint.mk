@@ -19,16 +19,15 @@ SHELL_FILES = $(shell git grep -lE -e '^$(hash)!/(usr/)?bin/(env )?(ba|da)?sh' -
 STRICT_FILES = bindings/python/fe2o3_sasl.py bindings/python/fe2o3_sasl_asyncio.py $(wildcard bindings/python/examples/*.py)
 TYPED_FILES = $(shell git ls-files 'tools/*.py' 'bench/*.py' 'bindings/packages/*.py')
 hash := \#
-# (Debian's package has the second name only)
-PYTEST = $(firstword $(foreach name,pytest pytest-3,$(if $(shell command -v $(name)),$(name))) pytest)
-PYTHON_TEST = $(if $(shell command -v $(PYTEST)),$(PYTEST) -q -p no:cacheprovider,python3 -B)
+# (of one file; bindings/callers.mk runs those of the module, which need the library)
+PYTHON_TEST = $(if $(shell command -v pytest),pytest -q -p no:cacheprovider,python3 -B)
 
 RUN_black = black --quiet --check $(PYTHON_FILES)
 RUN_clang-format = clang-format --dry-run --Werror $(C_FILES)
 RUN_flake8 = flake8 $(PYTHON_FILES)
 RUN_mypy = mypy $(TYPED_FILES)
 RUN_mypy-strict = mypy --strict --python-version 3.9 --cache-dir build/mypy-strict $(STRICT_FILES)
-RUN_pytest = $(PYTEST) -q tools/gate/tests
+RUN_pytest = pytest -q -p no:cacheprovider tools/gate/tests
 RUN_shellcheck = shellcheck $(SHELL_FILES)
 
 MISSING ?= pass
@@ -46,7 +45,7 @@ $(LINTERS:%=linted/%): linted/%:
 
 # (nothing here needs the kit where `rt` is not on the PATH)
 NEEDING_KIT = gate/refused gate/layout generate/notices
-ALL_LINT = $(filter-out $(if $(shell command -v rt),,$(NEEDING_KIT)) $(if $(shell command -v $(PYTEST)),gate/tests/%),$(LINT))
+ALL_LINT = $(filter-out $(if $(shell command -v rt),,$(NEEDING_KIT)) $(if $(shell command -v pytest),gate/tests/%),$(LINT))
 lint-all:
 	@$(if $(shell command -v rt),,echo 'not run, since rt is not on the PATH: $(NEEDING_KIT:%=tools/%.py)';) \
 	begun=$$(date +%s); $(SIDE_BY_SIDE) $(ALL_LINT:%=tried/%) $(LINTERS:%=linted/%) && \
