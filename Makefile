@@ -81,9 +81,9 @@ define HELP
 make demo            a published exchange and a whole login, without proofs         1 to 3 min
 make check           proves what changed in the five libraries, and formats         12 min from nothing
 make prove           proves, builds and runs the programs of the demo               8 min after make check
-make lint            the quick checks of the pages, the sources and the tools       about 6 s
-make lint-all        also black, flake8, mypy, pytest, clang-format and shellcheck  about 25 s
-make format          formats the Python and the C                                   10 s
+make lint            the quick checks of the pages, the sources and the tools       about 10 s
+make lint-all        also black, flake8, mypy, pytest, clang-format and shellcheck  about 1 min
+make format          formats the Python and the C                                   30 s
 make check-models    compares the rows of the tests with the models that wrote them about 2 min
 tools/prove_at.py FILE:LINE  proves the function at that line, with --only          10 s or more
 make test            the gate: lint, quick models, every proof, test and program    57 to 65 min from nothing

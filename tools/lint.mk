@@ -49,9 +49,9 @@ ALL_LINT = $(filter-out $(if $(shell command -v rt),,$(NEEDING_KIT)) $(if $(shel
 lint-all:
 	@$(if $(shell command -v rt),,echo 'not run, since rt is not on the PATH: $(NEEDING_KIT:%=tools/%.py)';) \
 	begun=$$(date +%s); $(SIDE_BY_SIDE) $(ALL_LINT:%=tried/%) $(LINTERS:%=linted/%) && \
-	echo "lint-all: $(words $(ALL_LINT)) checks passed, and the linters that are installed, in $$(($$(date +%s) - begun)) s"
+	echo "lint-all: $(words $(ALL_LINT)) checks and the installed linters passed in $$(($$(date +%s) - begun)) s"
 
 FORMAT ?= $(PYTHON_FILES) $(C_FILES)
 format:
-	black --quiet $(filter %.py,$(FORMAT))
-	clang-format -i $(filter %.c %.h,$(FORMAT))
+	$(if $(filter %.py,$(FORMAT)),black --quiet $(filter %.py,$(FORMAT)))
+	$(if $(filter %.c %.h,$(FORMAT)),clang-format -i $(filter %.c %.h,$(FORMAT)))
