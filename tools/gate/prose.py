@@ -160,7 +160,8 @@ def files_of(top, paths):
 
     def skipped(path):
         inner = path.relative_to(top).parts
-        return any(part in SKIPPED_FOLDERS or part.startswith(".") for part in inner[:-1]) or path.name in SKIPPED_PAGES
+        hidden = any(part in SKIPPED_FOLDERS or part[0] == "." and part != ".github" for part in inner[:-1])
+        return hidden or path.name in SKIPPED_PAGES
 
     found = {path for pattern in ("**/*.md", *SOURCES) for path in top.glob(pattern) if not skipped(path)}
     wanted = [Path(path).resolve() for path in paths]
