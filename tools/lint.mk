@@ -53,5 +53,5 @@ lint-all:
 
 FORMAT ?= $(PYTHON_FILES) $(C_FILES)
 format:
-	$(if $(filter %.py,$(FORMAT)),black --quiet $(filter %.py,$(FORMAT)))
-	$(if $(filter %.c %.h,$(FORMAT)),clang-format -i $(filter %.c %.h,$(FORMAT)))
+	@$(if $(filter %.py,$(FORMAT)),black --quiet $(filter %.py,$(FORMAT)))
+	@$(if $(filter %.c %.h,$(FORMAT)),clang-format -i $(filter %.c %.h,$(FORMAT)))
