@@ -1,7 +1,6 @@
 -- Two divisions of a stream into calls of a client that selects its mechanism: `policy_calls_end_equally`.
 use Rattle.std.proofs.Common.{◌≡◌, ◌≢◌, ◌⊎◌, ℕ, ◌+◌, ◌<◌, ◌^◌, Option, Some, None, List, [], ◌++◌, length, take, refl, sym, ◌∙◌, ap, subst, inl, inr, arith, append_assoc, Ok}
 use Rattle.std.proofs.lemmas.List.{append-nil}
-use Rattle.std.proofs.lemmas.Option.{same_Some}
 use Rattle.fe2o3_sasl_wire.specs.SaslFrames as frames
 use Rattle.fe2o3_sasl_wire.specs.SaslFrames.{IsBytes, SaslFrame}
 use Rattle.fe2o3_sasl_core.specs.Bodies.{SpellsBody}
@@ -22,7 +21,7 @@ use Rattle.fe2o3_sasl_negotiation.proofs.lemmas.ClientConnectionLemmas.{client_c
 use Rattle.fe2o3_sasl_negotiation.proofs.lemmas.ConnectionLemmas.{failed_is_not_in_progress}
 use Rattle.fe2o3_sasl_negotiation.proofs.lemmas.PolicyLawLemmas.{goes_on_by_profile, waiting}
 use Rattle.connection_laws.specs.Cuts.{EndEqually, HaveOneNonceEach}
-use Rattle.connection_laws.specs.PolicyClients.{HasNoOffer, IsUnselected, PolicyCallsEndEqually, SelectsNone}
+use Rattle.connection_laws.specs.PolicyClients.{HasNoOffer, IsUnselected, PolicyCallsEndEqually}
 use Rattle.connection_laws.proofs.lemmas.CutCallLemmas.{calls_end_equally}
 use Rattle.connection_laws.proofs.lemmas.CutConnectionLemmas.{clients_end_equally, other_is_not, part_is_short}
 use Rattle.connection_laws.proofs.lemmas.CutLemmas.{fits_small, no_frame_left, one_left_over}
