@@ -13,3 +13,4 @@ pub mod ServerBytes
 pub mod CallPieces
 pub mod ServerReplays
 pub mod ServerPairs
+pub mod PolicyClients
