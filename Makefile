@@ -60,7 +60,7 @@ $(TRIED:%=tried/%): tried/%:
 # bodies; and the two built programs that keep a secret, started again, which say nothing if all is well. `rt ci` takes
 # what earlier runs on this machine passed, and proves what changed and the crates above it; with ANEW=1 it proves all.
 test: kit
-	@tools/gate/progress.py $$PPID 60 'a run from nothing takes 57 to 65 min on 4 processors, and 8,600 to 11,200 s of processor' &
+	@tools/gate/progress.py $$PPID 60 'a run from nothing takes about 100 min on 4 processors, and 18,000 to 20,000 s of processor' &
 	tools/gate/gate.py$(if $(ANEW), --anew)
 
 # The first part of the gate.
@@ -86,13 +86,13 @@ make lint-all        also black, flake8, mypy, pytest, clang-format and shellche
 make format          formats the Python and the C                                   30 s
 make check-models    compares the rows of the tests with the models that wrote them about 2 min
 tools/prove_at.py FILE:LINE  proves the function at that line, with --only          10 s or more
-make test            the gate: lint, quick models, every proof, test and program    57 to 65 min from nothing
-make test ANEW=1     the gate, which takes nothing from earlier runs                57 to 65 min
+make test            the gate: lint, quick models, every proof, test and program    about 100 min from nothing
+make test ANEW=1     the gate, which takes nothing from earlier runs                about 100 min
 make quiet           like make test, but into a log, and prints its last line
 make install-program the program scram, under PREFIX and DESTDIR
 
 The library for C, Rust and Python (bindings/callers.mk):
-make lib             proves and builds build/libfe2o3_sasl.a and .so                20 to 30 min from nothing
+make lib             proves and builds build/libfe2o3_sasl.a and .so                30 to 45 min from nothing
 make header          writes the C header, and the declarations for Rust and Python  1 s
 make header-check    compares them with the sources                                 1 s
 make callers         builds and runs the programs of bindings/c
