@@ -48,6 +48,9 @@ pub mod ServerReplayLemmas
 pub mod ServerByteLemmas
 pub mod ServerRetryLemmas
 pub mod LoginByteLemmas
+pub mod SignedLoginLemmas
+pub mod ServerPairLemmas
+pub mod ServerProofLemmas
 pub mod PolicyCallLemmas
 pub mod PolicyByteLemmas
 pub mod PolicySelectedLemmas

@@ -1,5 +1,5 @@
--- Two divisions of a stream into calls of a client that selects its mechanism: `policy_calls_end_equally`. And what it has selected
--- where an offer was read: `offered_clients_select`.
+-- Two divisions of a stream into calls of a client that selects its mechanism: `policy_calls_end_equally`. What the client
+-- has selected where an offer was read: `offered_clients_select`.
 use Rattle.std.proofs.Common.{◌≡◌, ◌≢◌, ◌⊎◌, ℕ, ◌+◌, ◌<◌, ◌^◌, Option, Some, None, List, [], ◌++◌, length, take, refl, sym, ◌∙◌, ap, subst, inl, inr, arith, append_assoc, Ok}
 use Rattle.std.proofs.lemmas.List.{append-nil}
 use Rattle.fe2o3_sasl_wire.specs.SaslFrames as frames
@@ -187,7 +187,8 @@ module _ (selection : Selection) (limit : ℕ) (small : limit < 2 ^ 32) where
           sends = refl;
           progress = same;
           state = one.state ∙ sym two.state;
-          waits = λ going. one.waits going ∙ (ap (λ (l : List ℕ). waiting limit l None) tails ∙ sym (two.waits (sym same ∙ going)));
+          waits = λ going. one.waits going
+              ∙ (ap (λ (l : List ℕ). waiting limit l None) tails ∙ sym (two.waits (sym same ∙ going)));
         }
 
     part_is_not_other : length taken < 8 → length taken ≡ 8 → ⊥

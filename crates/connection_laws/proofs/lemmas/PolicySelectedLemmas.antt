@@ -261,7 +261,8 @@ module _ (selection : Selection) (limit : ℕ) where
         where
           rest_of : NoneAfter (taken ++ take k stream) (drop k stream) later rest last
               ⊎ SomeAfter (taken ++ take k stream) next calls (drop k stream) later rest last
-              → ((profile : Profile) → ClientReceives selection.hostname (side_in_state side profile) (take call.handed stream) call.nonce k
+              → ((profile : Profile)
+              → ClientReceives selection.hostname (side_in_state side profile) (take call.handed stream) call.nonce k
               first (side_in_state next profile)) ⊎ (next.progress ≢ InProgress)
               → NoneAfter taken stream sent rest last ⊎ SomeAfter taken side (call ∷ calls) stream sent rest last
           rest_of (inl none) acts = inl (record {
