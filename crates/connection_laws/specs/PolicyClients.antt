@@ -149,8 +149,8 @@ pub record IsLoginOf (selection : Selection) (login : Login) : Type 0 where
   pub hostname : login.hostname ≡ selection.hostname
 
 -- the calls make a connection of a SCRAM client of a login, whose profile is selected from the offer that was read: its pieces
--- are the bytes that each call took, with its nonce. So the laws of `pairs` hold of it, and the headline theorem does
--- (`ScramReports`)
+-- are the bytes that each call took, with its nonce. So the laws of `pairs` and of `server_pairs` hold of it, and the headline
+-- theorem does (`ScramReports`)
 pub record IsScramClient (selection : Selection) (limit : ℕ) (calls : List Call) (stream sent rest : List ℕ)
     (last : Side Profile) : Type 0 where
   pub names : List (List ℕ)
@@ -189,8 +189,8 @@ pub record HoldsSelection (selection : Selection) : Type 0 where
   pub identity : IsUtf8 (authzid_text (identity_named selection.acts_for))
   pub hostname : (text : List ℕ) → selection.hostname ≡ Some text → IsUtf8 text
 
--- each login of a selection meets the premises of the laws of `pairs`: the code holds of it what they ask, and a client with a
--- channel has one, bound or not
+-- each login of a selection meets the premises of the laws of `pairs` and of `server_pairs`: the code holds of it what they ask,
+-- and a client with a channel has one, bound or not
 abbrev pub LoginsMeetPremises : Type 0
 LoginsMeetPremises = (selection : Selection) (login : Login) → IsLoginOf selection login
     → (HoldsSelection selection → IsLogin login × IsSecret login.secret)

@@ -43,8 +43,9 @@ pub fn unselected()
 ///   call took, with its nonce. It reports Ok exactly on the signature of its open answered challenge. On each verifier that
 ///   it took and a server issued, both sides agree, or their own AuthMessages share one HMAC value. The login is that of the
 ///   selection (`IsLoginOf`).
-/// - `premises`: each login of a selection meets what the laws of [`pairs`](crate::pairs) ask of a login, of its secret and
-///   of its channel. So these laws hold of the client too.
+/// - `premises`: each login of a selection meets what the laws of [`pairs`](crate::pairs) and of
+///   [`server_pairs`](crate::server_pairs) ask of a login, of its secret and of its channel. So these laws hold of the client
+///   too.
 pub fn scram()
     ensures reports { ScramClientsReportSelected }
     ensures premises { LoginsMeetPremises }
