@@ -283,7 +283,8 @@ def page():
         out += section(crate, True)
     for crate in others:
         out += section(crate, False)
-    return "\n".join(out + definitions()) + "\n"
+    # (a comment links to an item by its path, which is no page)
+    return re.sub(r"\[(`\w+`)\]\([\w:]+\)", r"\1", "\n".join(out + definitions()) + "\n")
 
 
 def unknown_names():
