@@ -153,18 +153,21 @@ static struct channel channel_of(const sasl_channel_binding_t *binding)
     static const struct channel known[] = {{"tls-unique", FE2O3_TLS_UNIQUE, NULL, 0},
         {"tls-server-end-point", FE2O3_TLS_SERVER_END_POINT, NULL, 0}, {"tls-exporter", FE2O3_TLS_EXPORTER, NULL, 0}};
     struct channel found = {binding->name, 0, (const char *)binding->data, binding->len};
-    const char *colon = strcmp(binding->name, "ldap") == 0 ? memchr(binding->data, ':', binding->len) : NULL;
-    const char *name = colon ? found.data : found.name;
-    size_t len = colon ? (size_t)(colon - name) : strlen(name);
+    const char *name = found.name, *colon = NULL;
+    size_t len = strlen(name);
+    if (strcmp(name, "ldap") == 0 && found.len > 0)
+        colon = memchr(found.data, ':', found.len);
+    if (colon) {
+        name = found.data;
+        len = (size_t)(colon - name);
+        found.data = colon + 1;
+        found.len -= len + 1;
+    }
     for (size_t i = 0; i < sizeof known / sizeof known[0]; i++)
         if (strlen(known[i].name) == len && memcmp(known[i].name, name, len) == 0) {
             found.name = known[i].name;
             found.kind = known[i].kind;
         }
-    if (colon) {
-        found.len -= len + 1;
-        found.data = colon + 1;
-    }
     return found;
 }
 
