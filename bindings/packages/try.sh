@@ -183,10 +183,14 @@ c_static() {
     ./login_c
 }
 
+# Also each example in C of the tar.gz.
 c_unpacked() {
+    local example
     export PKG_CONFIG_PATH=$UNPACKED/lib/pkgconfig
-    # shellcheck disable=SC2046
-    cc -o login_unpacked first_login/login.c $(pkg-config --cflags --libs fe2o3_sasl)
+    for example in first_login/login.c "$UNPACKED"/examples/*.c; do
+        # shellcheck disable=SC2046
+        cc -pthread -o "$(basename "$example" .c)_unpacked" "$example" $(pkg-config --cflags --libs fe2o3_sasl)
+    done
     ./login_unpacked
 }
 
