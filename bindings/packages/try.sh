@@ -156,7 +156,7 @@ notices() {
 symbols() {
     local id
     id=$(readelf -n prefix/usr/lib/x86_64-linux-gnu/libfe2o3_sasl.so | sed -n 's/^ *Build ID: //p')
-    nm "prefix/usr/lib/debug/.build-id/${id:0:2}/${id:2}.debug" | grep -q ' t proved_fe2o3_version$' ||
+    nm "prefix/usr/lib/debug/.build-id/${id:0:2}/${id:2}.debug" | grep ' t proved_fe2o3_version$' > /dev/null ||
         fail "$SYMBOLS has no names of the library's functions"
     echo "the debug symbols are those of the library"
 }
