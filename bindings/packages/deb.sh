@@ -4,6 +4,8 @@
 # libfe2o3-sasl-dev, and SYMBOLS a file of the debug symbols. The packages are the shared library, these symbols, and the
 # files for development.
 #
+# lintian notes that the static library has a section .comment: it names the compilers, and the logic of the proofs.
+#
 # By tar and ar in place of dpkg-deb, whose bytes depend on its version, so the bytes depend only on the files and the time.
 set -euo pipefail
 export LC_ALL=C

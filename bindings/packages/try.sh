@@ -32,7 +32,7 @@ path_without_kit() {
 tools() {
     local tool missing=()
     PATH=$(path_without_kit)
-    for tool in cc ar ld nm objcopy objdump readelf strip pkg-config python3 cargo dpkg tar gzip md5sum sha256sum cmp; do
+    for tool in cc ar ld nm objcopy objdump readelf addr2line strip pkg-config python3 cargo dpkg tar gzip md5sum sha256sum cmp; do
         command -v "$tool" > /dev/null || missing+=("$tool")
     done
     ! command -v python3 > /dev/null || python3 -c 'import ensurepip, venv' 2> /dev/null ||
@@ -152,12 +152,16 @@ notices() {
     echo "the packages have the notices of the kit's code"
 }
 
-# The package of debug symbols has those of the library, by its build ID: the names of its functions.
+# The package of debug symbols has those of the library, by its build ID: the names of its functions, and the lines of the
+# wrappers.
 symbols() {
-    local id
+    local id file at
     id=$(readelf -n prefix/usr/lib/x86_64-linux-gnu/libfe2o3_sasl.so | sed -n 's/^ *Build ID: //p')
-    nm "prefix/usr/lib/debug/.build-id/${id:0:2}/${id:2}.debug" | grep ' t proved_fe2o3_version$' > /dev/null ||
-        fail "$SYMBOLS has no names of the library's functions"
+    file=prefix/usr/lib/debug/.build-id/${id:0:2}/${id:2}.debug
+    nm "$file" > names
+    grep -q ' t proved_fe2o3_version$' names || fail "$SYMBOLS has no names of the library's functions"
+    at=$(sed -n 's/ T fe2o3_version$//p' names)
+    [[ $(addr2line -e "$file" "$at") = *exports.c:* ]] || fail "$SYMBOLS has no lines of the wrappers"
     echo "the debug symbols are those of the library"
 }
 
