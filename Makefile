@@ -23,12 +23,12 @@ check: kit
 	cd crates/fe2o3_sasl_negotiation && rt check
 	for crate in crates/*/; do (cd $$crate && rt fmt) || exit 1; done
 
-# The quick checks: what the pages quote and list, the C header, the versions and the notices; that no modules use each
-# other in a circle, and no name of specs/ has two meanings; which functions make a meter or hash; the programs that the
-# borrow checker has to reject; and the tests of these tools.
+# The quick checks: what the pages quote, list and link to, the C header, the versions and the notices; that no modules use
+# each other in a circle, no name of specs/ has two meanings, and no line is too wide; which functions make a meter or hash;
+# the programs that the borrow checker has to reject; and the tests of these tools.
 LINT = gate/refused $(patsubst tools/%.py,%,$(wildcard tools/gate/tests/*.py tools/generate/promises.py)) \
     gate/layout gate/meters gate/circles gate/names gate/quoted generate/header generate/notices generate/signatures
-LINT += gate/prose gate/pages gate/versions
+LINT += gate/prose gate/pages gate/versions gate/links gate/widths
 
 # The models that made the rows of tests: those that need a few seconds, and those that need a minute, GNU libidn
 # (Debian's package idn) or GNU SASL (gsasl).
@@ -60,7 +60,7 @@ $(TRIED:%=tried/%): tried/%:
 # bodies; and the two built programs that keep a secret, started again, which say nothing if all is well. `rt ci` takes
 # what earlier runs on this machine passed, and proves what changed and the crates above it; with ANEW=1 it proves all.
 test: kit
-	@tools/gate/progress.py $$PPID 60 'a run from nothing takes 57 to 65 min on 4 processors, and 8,600 to 11,200 s of processor' &
+	@tools/gate/progress.py $$PPID 60 'a run from nothing takes about 100 min on 4 processors, and 18,000 to 20,000 s of processor' &
 	tools/gate/gate.py$(if $(ANEW), --anew)
 
 # The first part of the gate.
@@ -73,21 +73,26 @@ quiet:
 	$(MAKE) --no-print-directory test > $$log 2>&1; status=$$?; \
 	grep -v '^make' $$log | tail -n 1; exit $$status
 
+# Linters that others keep: lint-all, format.
+include tools/lint.mk
+
 # What there is, with the times of four processors.
 define HELP
 make demo            a published exchange and a whole login, without proofs         1 to 3 min
 make check           proves what changed in the five libraries, and formats         12 min from nothing
 make prove           proves, builds and runs the programs of the demo               8 min after make check
-make lint            the quick checks of the pages, the sources and the tools       about 6 s
+make lint            the quick checks of the pages, the sources and the tools       about 10 s
+make lint-all        also black, flake8, mypy, pytest, clang-format and shellcheck  about 1 min
+make format          formats the Python and the C                                   30 s
 make check-models    compares the rows of the tests with the models that wrote them about 2 min
-tools/prove FILE:LINE  proves the function at that line, with --only               10 s or more
-make test            the gate: lint, quick models, every proof, test and program    57 to 65 min from nothing
-make test ANEW=1     the gate, which takes nothing from earlier runs                57 to 65 min
+tools/prove_at.py FILE:LINE  proves the function at that line, with --only          10 s or more
+make test            the gate: lint, quick models, every proof, test and program    about 100 min from nothing
+make test ANEW=1     the gate, which takes nothing from earlier runs                about 100 min
 make quiet           like make test, but into a log, and prints its last line
 make install-program the program scram, under PREFIX and DESTDIR
 
 The library for C, Rust and Python (bindings/callers.mk):
-make lib             proves and builds build/libfe2o3_sasl.a and .so                20 to 30 min from nothing
+make lib             proves and builds build/libfe2o3_sasl.a and .so                30 to 45 min from nothing
 make header          writes the C header, and the declarations for Rust and Python  1 s
 make header-check    compares them with the sources                                 1 s
 make callers         builds and runs the programs of bindings/c

@@ -34,7 +34,10 @@ def table(head, jobs, values, who_is_row):
     jobs = [job for job in jobs if any((job, who) in values for who in whos)]
     if not jobs:
         return
-    cell = lambda job, who: values.get((job, who), "")
+
+    def cell(job, who):
+        return values.get((job, who), "")
+
     if who_is_row:
         print("| " + " | ".join([head] + jobs) + " |")
         print("|---" * (len(jobs) + 1) + "|")
@@ -72,7 +75,11 @@ CALLS = (
     + ["validate"]
 )
 REST = [
-    "salted-password", "auth-message", "escape", "unescape", "headers",
+    "salted-password",
+    "auth-message",
+    "escape",
+    "unescape",
+    "headers",
 ]
 SIDES = ["by password", "by keys"]
 LOGIN = (

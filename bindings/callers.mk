@@ -217,7 +217,7 @@ rust: build/libfe2o3_sasl.a
 
 python: build/libfe2o3_sasl.so
 	for tests in bindings/python/test_*.py; do \
-	    FE2O3_SASL_LIB=$(abspath build/libfe2o3_sasl.so) python3 -B $$tests || exit 1; \
+	    FE2O3_SASL_LIB=$(abspath build/libfe2o3_sasl.so) $(PYTHON_TEST) $$tests || exit 1; \
 	done
 
 install: $(LIBRARY) build/notices/sasl_c $(CMAKE_FILES)

@@ -20,8 +20,14 @@ COMMANDS = {"try": ["rt", "try", "--steps", "1", "--"], "run": ["rt", "run", "--
 
 def answer(how, crate, *words):
     """What the program of a crate prints for these words. What the toolchain says is shown only if that fails."""
-    run = subprocess.run([*COMMANDS[how], *words], cwd=CRATES / crate, stdin=subprocess.DEVNULL, capture_output=True,
-                         encoding="utf-8", errors="replace")
+    run = subprocess.run(
+        [*COMMANDS[how], *words],
+        cwd=CRATES / crate,
+        stdin=subprocess.DEVNULL,
+        capture_output=True,
+        encoding="utf-8",
+        errors="replace",
+    )
     if run.returncode:
         sys.exit("\n".join(run.stderr.splitlines()[-40:]) or f"{crate}: status {run.returncode}")
     return run.stdout

@@ -25,9 +25,11 @@ WORDS = [word for word in sys.argv[1:] if not word.startswith("--")]
 PROGRAM = str(Path(WORDS[0] if WORDS else TOP / "crates/scram/out/scram").resolve())
 SECONDS = 60
 
-TABLE = ("CREATE TABLE users (name TEXT NOT NULL, mechanism TEXT NOT NULL, salt BLOB NOT NULL, "
-         "iterations INTEGER NOT NULL, stored_key BLOB NOT NULL, server_key BLOB NOT NULL, "
-         "PRIMARY KEY (name, mechanism)) WITHOUT ROWID")
+TABLE = (
+    "CREATE TABLE users (name TEXT NOT NULL, mechanism TEXT NOT NULL, salt BLOB NOT NULL, "
+    "iterations INTEGER NOT NULL, stored_key BLOB NOT NULL, server_key BLOB NOT NULL, "
+    "PRIMARY KEY (name, mechanism)) WITHOUT ROWID"
+)
 
 HASHES = {"SCRAM-SHA-1": "sha1", "SCRAM-SHA-256": "sha256", "SCRAM-SHA-512": "sha512"}
 
@@ -54,8 +56,10 @@ def make(path, count, salt=bytes(range(16))):
         base.execute("PRAGMA synchronous=OFF")
         base.execute(TABLE)
         shared = record("pencil", salt, 4096)
-        base.executemany("INSERT INTO users VALUES (?, 'SCRAM-SHA-256', ?, 4096, ?, ?)",
-                         ((f"user{i:07}", salt, *shared) for i in range(count)))
+        base.executemany(
+            "INSERT INTO users VALUES (?, 'SCRAM-SHA-256', ?, 4096, ?, ?)",
+            ((f"user{i:07}", salt, *shared) for i in range(count)),
+        )
     base.close()
     os.chmod(path, 0o600)
 
@@ -72,10 +76,18 @@ class Login:
     """A login by both sides of the program: the client's output is the server's input, and the other way round."""
 
     def __init__(self, path, name, password="pencil", options=()):
-        self.server = subprocess.Popen([PROGRAM, "server", "SCRAM-SHA-256", path, "--db", *options], stdin=subprocess.PIPE,
-                                       stdout=subprocess.PIPE, stderr=subprocess.PIPE)
-        self.client = subprocess.Popen([PROGRAM, "client", "SCRAM-SHA-256", name], stdin=subprocess.PIPE,
-                                       stdout=subprocess.PIPE, stderr=subprocess.PIPE)
+        self.server = subprocess.Popen(
+            [PROGRAM, "server", "SCRAM-SHA-256", path, "--db", *options],
+            stdin=subprocess.PIPE,
+            stdout=subprocess.PIPE,
+            stderr=subprocess.PIPE,
+        )
+        self.client = subprocess.Popen(
+            [PROGRAM, "client", "SCRAM-SHA-256", name],
+            stdin=subprocess.PIPE,
+            stdout=subprocess.PIPE,
+            stderr=subprocess.PIPE,
+        )
         self.pass_on(self.client, (password + "\n").encode())
 
     @staticmethod
@@ -109,10 +121,18 @@ def log_in_over_frames(path, name, password="pencil", options=()):
     """A login over the bytes of AMQP, by two pipes: both statuses, and the server's errors."""
     (from_client, to_server), (from_server, to_client) = os.pipe(), os.pipe()
     os.write(to_client, (password + "\n").encode())
-    server = subprocess.Popen([PROGRAM, "server", "SCRAM-SHA-256", path, "--db", "--frames", *options], stdin=from_client,
-                              stdout=to_client, stderr=subprocess.PIPE)
-    client = subprocess.Popen([PROGRAM, "client", "SCRAM-SHA-256", name, "--frames"], stdin=from_server,
-                              stdout=to_server, stderr=subprocess.DEVNULL)
+    server = subprocess.Popen(
+        [PROGRAM, "server", "SCRAM-SHA-256", path, "--db", "--frames", *options],
+        stdin=from_client,
+        stdout=to_client,
+        stderr=subprocess.PIPE,
+    )
+    client = subprocess.Popen(
+        [PROGRAM, "client", "SCRAM-SHA-256", name, "--frames"],
+        stdin=from_server,
+        stdout=to_server,
+        stderr=subprocess.DEVNULL,
+    )
     for end_of_pipe in (from_client, to_server, from_server, to_client):
         os.close(end_of_pipe)
     errors = server.communicate(timeout=SECONDS)[1].decode()
@@ -128,12 +148,18 @@ def commands(folder):
     assert scram("users", "add", "--db", path, "alice", "--mechanism", "SCRAM-SHA-1", password="second")[0] == 0
     assert scram("users", "add", "--db", path, "b=o,b é", "--mechanism", "SCRAM-SHA-256", "--iterations", "1")[0] == 0
     assert scram("users", "check", "--db", path, "alice", password="second")[:2] == (
-        0, "SCRAM-SHA-1 yes\nSCRAM-SHA-256 yes\nSCRAM-SHA-512 yes\n")
+        0,
+        "SCRAM-SHA-1 yes\nSCRAM-SHA-256 yes\nSCRAM-SHA-512 yes\n",
+    )
     assert scram("users", "check", "--db", path, "alice")[0] == 3
     assert scram("users", "passwd", "--db", path, "alice", password="third")[:2] == (0, "changed\n")
     assert scram("users", "check", "--db", path, "alice", password="third")[0] == 0
     assert [row[:2] for row in rows(path)] == [
-        ("alice", "SCRAM-SHA-1"), ("alice", "SCRAM-SHA-256"), ("alice", "SCRAM-SHA-512"), ("b=o,b é", "SCRAM-SHA-256")]
+        ("alice", "SCRAM-SHA-1"),
+        ("alice", "SCRAM-SHA-256"),
+        ("alice", "SCRAM-SHA-512"),
+        ("b=o,b é", "SCRAM-SHA-256"),
+    ]
     for name, mechanism, salt, count, stored, server in rows(path):
         assert (stored, server) == record("third" if name == "alice" else "pencil", salt, count, HASHES[mechanism])
     status, listed, _ = scram("users", "list", "--db", path)
@@ -146,7 +172,9 @@ def commands(folder):
 def challenged(path, mechanism, name):
     """The form that a server's challenge shows of a user: the length of the salt, and the iteration count."""
     given = base64.b64encode(f"n,,n={name},r=nonce".encode()) + b"\n"
-    run = subprocess.run([PROGRAM, "server", mechanism, path, "--db"], input=given, capture_output=True, timeout=SECONDS)
+    run = subprocess.run(
+        [PROGRAM, "server", mechanism, path, "--db"], input=given, capture_output=True, timeout=SECONDS
+    )
     fields = dict(field.split("=", 1) for field in base64.b64decode(run.stdout.splitlines()[0]).decode().split(","))
     return len(base64.b64decode(fields["s"])), int(fields["i"])
 
@@ -156,11 +184,16 @@ def forms(folder):
     path = str(folder / "users.db")
     make(path, 2000, bytes(24))
     assert scram("users", "add", "--db", path, "alice")[:2] == (0, "added\n")
-    assert scram("users", "add", "--db", path, "zoe", "--mechanism", "SCRAM-SHA-1", "--salt-length", "9", "--iterations", "7")[0] == 0
+    zoe = ("zoe", "--mechanism", "SCRAM-SHA-1", "--salt-length", "9", "--iterations", "7")
+    assert scram("users", "add", "--db", path, *zoe)[0] == 0
     assert scram("users", "add", "--db", path, "aaron", "--mechanism", "SCRAM-SHA-1")[:2] == (0, "added\n")
     added = {row[:2]: (len(row[2]), row[3]) for row in rows(path) if not row[0].startswith("user")}
-    assert added == {("aaron", "SCRAM-SHA-1"): (9, 7), ("zoe", "SCRAM-SHA-1"): (9, 7),
-                     ("alice", "SCRAM-SHA-256"): (24, 4096), ("alice", "SCRAM-SHA-512"): (16, 4096)}, added
+    assert added == {
+        ("aaron", "SCRAM-SHA-1"): (9, 7),
+        ("zoe", "SCRAM-SHA-1"): (9, 7),
+        ("alice", "SCRAM-SHA-256"): (24, 4096),
+        ("alice", "SCRAM-SHA-512"): (16, 4096),
+    }, added
     assert challenged(path, "SCRAM-SHA-1", "nobody") == challenged(path, "SCRAM-SHA-1", "zoe") == (9, 7)
     assert challenged(path, "SCRAM-SHA-256", "nobody") == challenged(path, "SCRAM-SHA-256", "user0000007") == (24, 4096)
     assert challenged(path, "SCRAM-SHA-512", "nobody") == challenged(path, "SCRAM-SHA-512", "alice") == (16, 4096)
@@ -268,8 +301,13 @@ def faults(folder):
     status, _, errors = scram("users", "check", "--db", str(path), "alice")
     assert status == 4 and "not a SQLite database" in errors, errors
     assert path.read_bytes() == b"no database" * 1000
-    for number, text in enumerate(("CREATE TABLE users (name TEXT)", TABLE + "; CREATE INDEX other ON users (salt)",
-                                   "CREATE TABLE first (x); " + TABLE)):
+    for number, text in enumerate(
+        (
+            "CREATE TABLE users (name TEXT)",
+            TABLE + "; CREATE INDEX other ON users (salt)",
+            "CREATE TABLE first (x); " + TABLE,
+        )
+    ):
         other = str(folder / f"other{number}.db")
         with sqlite3.connect(other) as base:
             base.executescript(text)
@@ -293,8 +331,11 @@ def torn(folder):
     make(path, 1000)
     for pause in (0.0, 0.005, 0.01, 0.02, 0.04, 0.08):
         before = len(rows(path))
-        run = subprocess.Popen([PROGRAM, "users", "add", "--db", path, f"new{pause}", "--iterations", "1"],
-                               stdin=subprocess.PIPE, stdout=subprocess.DEVNULL)
+        run = subprocess.Popen(
+            [PROGRAM, "users", "add", "--db", path, f"new{pause}", "--iterations", "1"],
+            stdin=subprocess.PIPE,
+            stdout=subprocess.DEVNULL,
+        )
         run.stdin.write(b"pencil\n")
         run.stdin.close()
         time.sleep(pause)
@@ -316,8 +357,11 @@ def sizes(folder):
             "over frames": lambda: log_in_over_frames(path, name)[:2],
         }
         figures = ", ".join(f"{label} {least(way) * 1000:.0f} ms" for label, way in ways.items())
-        run = subprocess.run(["/usr/bin/time", "-f", "%M", PROGRAM, "users", "check", "--db", path, name], input=b"pencil\n",
-                             capture_output=True)
+        run = subprocess.run(
+            ["/usr/bin/time", "-f", "%M", PROGRAM, "users", "check", "--db", path, name],
+            input=b"pencil\n",
+            capture_output=True,
+        )
         memory = run.stderr.decode().split()[-1]
         print(f"{count} users, {os.path.getsize(path)} bytes: {figures}, {memory} kB of memory")
 

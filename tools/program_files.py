@@ -28,8 +28,9 @@ NOBODY = 65534
 def scram(*words, password="pencil", **streams):
     """Runs the program, and answers its status, its output and its errors."""
     streams.setdefault("stdout", subprocess.PIPE)
-    run = subprocess.run([PROGRAM, *words], input=(password + "\n").encode(), stderr=subprocess.PIPE, timeout=SECONDS,
-                         **streams)
+    run = subprocess.run(
+        [PROGRAM, *words], input=(password + "\n").encode(), stderr=subprocess.PIPE, timeout=SECONDS, **streams
+    )
     return run.returncode, (run.stdout or b"").decode(), run.stderr.decode()
 
 
@@ -82,8 +83,14 @@ def owner_lost(folder):
 def changes_at_once(folder):
     """Of changes that start at once each is made, if it may wait."""
     users = str(folder / "users.txt")
-    runs = [subprocess.Popen([PROGRAM, "users", "add", users, f"user{number}", "--wait", "50"], stdin=subprocess.PIPE,
-                             stdout=subprocess.DEVNULL) for number in range(12)]
+    runs = [
+        subprocess.Popen(
+            [PROGRAM, "users", "add", users, f"user{number}", "--wait", "50"],
+            stdin=subprocess.PIPE,
+            stdout=subprocess.DEVNULL,
+        )
+        for number in range(12)
+    ]
     for run in runs:
         run.communicate(b"pencil\n", timeout=SECONDS)
     assert [run.returncode for run in runs] == [0] * 12
@@ -106,8 +113,13 @@ def outputs(folder):
     assert status == 4 and "The file is changed, but" in errors, errors
     assert Path(users).read_text().startswith("alice ")
     for closed, words in ((">&-", "Standard output is closed."), ("<&-", "Standard input is closed.")):
-        run = subprocess.run(["sh", "-c", f'exec "$0" record {closed}', PROGRAM], input=b"pencil\n",
-                             stdout=subprocess.DEVNULL, stderr=subprocess.PIPE, timeout=SECONDS)
+        run = subprocess.run(
+            ["sh", "-c", f'exec "$0" record {closed}', PROGRAM],
+            input=b"pencil\n",
+            stdout=subprocess.DEVNULL,
+            stderr=subprocess.PIPE,
+            timeout=SECONDS,
+        )
         assert run.returncode == 4 and words in run.stderr.decode(), run.stderr
 
 
@@ -131,8 +143,9 @@ def terminals(_folder):
     for words, status, text in ((["record"], 2, b"--echo"), (["record", "--echo"], 0, b"Password: ")):
         above, below = pty.openpty()
         os.write(above, b"pencil\n")
-        run = subprocess.run([PROGRAM, *words], stdin=below, stdout=subprocess.DEVNULL, stderr=subprocess.PIPE,
-                             timeout=SECONDS)
+        run = subprocess.run(
+            [PROGRAM, *words], stdin=below, stdout=subprocess.DEVNULL, stderr=subprocess.PIPE, timeout=SECONDS
+        )
         os.close(above)
         os.close(below)
         assert run.returncode == status and text in run.stderr, run.stderr
@@ -146,8 +159,9 @@ def relays(folder):
         free.bind(("127.0.0.1", 0))
         port = free.getsockname()[1]
     command = f"SYSTEM:'{PROGRAM} server SCRAM-SHA-256 {users}; true'"
-    relay = subprocess.Popen(["socat", f"TCP-LISTEN:{port},bind=127.0.0.1,reuseaddr,fork", command],
-                             stderr=subprocess.DEVNULL)
+    relay = subprocess.Popen(
+        ["socat", f"TCP-LISTEN:{port},bind=127.0.0.1,reuseaddr,fork", command], stderr=subprocess.DEVNULL
+    )
     try:
         time.sleep(1)
         for _ in range(10):
@@ -170,8 +184,9 @@ def init(name):
 
 def measured(given, *words):
     """The output of the program for an input, its processor time in seconds, and its memory in kB."""
-    run = subprocess.run(["/usr/bin/time", "-f", "%U %S %M", PROGRAM, *words], input=given, capture_output=True,
-                         timeout=SECONDS)
+    run = subprocess.run(
+        ["/usr/bin/time", "-f", "%U %S %M", PROGRAM, *words], input=given, capture_output=True, timeout=SECONDS
+    )
     user, system, memory = run.stderr.split()[-3:]
     return run.stdout, float(user) + float(system), int(memory)
 
@@ -188,7 +203,8 @@ def record(name, mechanism, salt, count, password="pencil"):
 def parts(line):
     """The name, the mechanism, the salt and the iteration count of a line."""
     name, _, rest = line.rpartition(" ")
-    mechanism, count, keys = rest.split("$", 1)[0], *rest.split("$", 1)[1].split(":", 1)
+    mechanism, _, rest = rest.partition("$")
+    count, _, keys = rest.partition(":")
     return name, mechanism, base64.b64decode(keys.split("$")[0]), int(count)
 
 
@@ -235,7 +251,9 @@ def older_file(folder):
     assert scram("users", "list", "--hashes", str(users))[1] == "SCRAM-SHA-256\nSCRAM-SHA-512\n"
     assert scram("users", "check", str(users), "alice", password="new")[0] == 0
     assert users.read_text().splitlines(keepends=True) == [
-        record(*it, password="third" if it[0] == "carol" else "new") for it in map(parts, users.read_text().splitlines())]
+        record(*it, password="third" if it[0] == "carol" else "new")
+        for it in map(parts, users.read_text().splitlines())
+    ]
 
 
 def other_forms(folder):
@@ -268,7 +286,18 @@ def many_lines(folder):
 
 
 def main():
-    trials = [devices, links, changes_at_once, left_over, outputs, quoted_names, terminals, two_hashes, older_file, other_forms]
+    trials = [
+        devices,
+        links,
+        changes_at_once,
+        left_over,
+        outputs,
+        quoted_names,
+        terminals,
+        two_hashes,
+        older_file,
+        other_forms,
+    ]
     if os.geteuid() == 0:
         trials += [owners, owner_lost]
     if shutil.which("socat"):

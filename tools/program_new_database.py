@@ -42,14 +42,16 @@ def first_adds_at_once(folder):
     """Commands that make a file at once: the user of each is there afterwards."""
     for turn in range(20):
         path, ended = str(folder / f"users{turn}.db"), []
-        threads = [threading.Thread(target=lambda name=name: ended.append(add_user(path, name)))
-                   for name in ("alice", "bob", "carol")[:2 + turn % 2]]
+        threads = [
+            threading.Thread(target=lambda name=name: ended.append(add_user(path, name)))
+            for name in ("alice", "bob", "carol")[: 2 + turn % 2]
+        ]
         for thread in threads:
             thread.start()
         for thread in threads:
             thread.join()
         assert ended == [0] * len(threads), ended
-        assert users(path) == ["alice", "bob", "carol"][:len(threads)]
+        assert users(path) == ["alice", "bob", "carol"][: len(threads)]
         assert not os.path.exists(path + ".new") and not os.path.exists(path + ".new-wal")
 
 
@@ -59,14 +61,21 @@ def first_adds_killed(folder):
     left = set()
     for turn in range(300):
         path = str(folder / f"users{turn}.db")
-        process = subprocess.Popen([PROGRAM, "users", "add", "--db", path, "alice", "--iterations", "1"], stdin=subprocess.PIPE,
-                               stdout=subprocess.DEVNULL)
+        process = subprocess.Popen(
+            [PROGRAM, "users", "add", "--db", path, "alice", "--iterations", "1"],
+            stdin=subprocess.PIPE,
+            stdout=subprocess.DEVNULL,
+        )
         process.stdin.write(b"pencil\n")
         process.stdin.close()
         time.sleep(random.uniform(0, longest))
         process.kill()
         process.wait()
-        left.add(frozenset((file.name[len(f"users{turn}.db"):], file.stat().st_size) for file in folder.glob(f"users{turn}.db*")))
+        left.add(
+            frozenset(
+                (file.name[len(f"users{turn}.db") :], file.stat().st_size) for file in folder.glob(f"users{turn}.db*")
+            )
+        )
         assert add_user(path, "bob") == 0, left
         assert users(path) in (["bob"], ["alice", "bob"])
         assert not os.path.exists(path + ".new") and not os.path.exists(path + ".new-wal")
@@ -87,8 +96,13 @@ def on_a_full_disk(folder):
     filler, failed = Path(folder) / "filler", 0
     for pages in range(100):
         path = f"{folder}/users{pages}.db"
-        filler.write_bytes(bytes((1 << 20) - sum(4096 * -(-file.stat().st_size // 4096) for file in Path(folder).iterdir())
-                                 - 4096 * pages))
+        filler.write_bytes(
+            bytes(
+                (1 << 20)
+                - sum(4096 * -(-file.stat().st_size // 4096) for file in Path(folder).iterdir())
+                - 4096 * pages
+            )
+        )
         status, _, errors = scram("users", "add", "--db", path, "alice", "--iterations", "1")
         assert status in (0, 4) and (status == 0 or "cannot be used" in errors), errors
         assert scram("users", "list", "--db", path)[0] in (0, 4)
@@ -108,8 +122,13 @@ def modes(folder):
     """A new file has mode 0600, whatever the umask. An empty file keeps its mode."""
     for mask in (0, 0o22, 0o77):
         path = folder / f"users{mask}.db"
-        subprocess.run([PROGRAM, "users", "add", "--db", path, "alice"], input=b"pencil\n", stdout=subprocess.DEVNULL,
-                       check=True, umask=mask)
+        subprocess.run(
+            [PROGRAM, "users", "add", "--db", path, "alice"],
+            input=b"pencil\n",
+            stdout=subprocess.DEVNULL,
+            check=True,
+            umask=mask,
+        )
         assert path.stat().st_mode & 0o7777 == 0o600
     path = folder / "empty.db"
     path.touch()
@@ -136,7 +155,9 @@ def leftovers(folder):
                 place.write_bytes(begun)
                 if log is not None:
                     Path(f"{place}-wal").write_bytes(log)
-                assert scram("users", "list", "--db", str(path))[0] == (0 if begun == table_only and place == path else 4)
+                assert scram("users", "list", "--db", str(path))[0] == (
+                    0 if begun == table_only and place == path else 4
+                )
                 assert add_user(str(path), "alice") == 0, (begun[:20], log, place)
                 cleared(folder, path)
     for log in (b"", old_log):

@@ -29,13 +29,19 @@ SECONDS = 20
 
 def scram(*words, password=""):
     """Runs the program, and answers its status."""
-    return subprocess.run([PROGRAM, *words], input=(password + "\n").encode(), stdout=subprocess.DEVNULL,
-                          stderr=subprocess.DEVNULL, timeout=SECONDS).returncode
+    return subprocess.run(
+        [PROGRAM, *words],
+        input=(password + "\n").encode(),
+        stdout=subprocess.DEVNULL,
+        stderr=subprocess.DEVNULL,
+        timeout=SECONDS,
+    ).returncode
 
 
 def start(*command):
-    return subprocess.Popen(command, stdin=subprocess.PIPE, stdout=subprocess.PIPE, stderr=subprocess.DEVNULL,
-                            bufsize=0)
+    return subprocess.Popen(
+        command, stdin=subprocess.PIPE, stdout=subprocess.PIPE, stderr=subprocess.DEVNULL, bufsize=0
+    )
 
 
 def tell(process, data):
@@ -94,10 +100,18 @@ def over_bytes(mechanism, users, password, asks=(), rights=()):
     """Plays a login over the bytes of AMQP, by two pipes."""
     (from_client, to_server), (from_server, to_client) = os.pipe(), os.pipe()
     os.write(to_client, password.encode() + b"\n")
-    client = subprocess.Popen([PROGRAM, "client", mechanism, USER, "--frames", *asks], stdin=from_server, stdout=to_server,
-                              stderr=subprocess.DEVNULL)
-    server = subprocess.Popen([PROGRAM, "server", mechanism, users, "--frames", *rights], stdin=from_client, stdout=to_client,
-                              stderr=subprocess.DEVNULL)
+    client = subprocess.Popen(
+        [PROGRAM, "client", mechanism, USER, "--frames", *asks],
+        stdin=from_server,
+        stdout=to_server,
+        stderr=subprocess.DEVNULL,
+    )
+    server = subprocess.Popen(
+        [PROGRAM, "server", mechanism, users, "--frames", *rights],
+        stdin=from_client,
+        stdout=to_client,
+        stderr=subprocess.DEVNULL,
+    )
     for end_of_pipe in (from_client, to_server, from_server, to_client):
         os.close(end_of_pipe)
     return client.wait(timeout=SECONDS), server.wait(timeout=SECONDS)
@@ -113,8 +127,10 @@ def relay(source, sink, last=b""):
 
 def joined(program, gsasl):
     """Statuses of the program and of `gsasl`, each of which reads all that the other one writes."""
-    ways = [threading.Thread(target=relay, args=(gsasl, program)),
-            threading.Thread(target=relay, args=(program, gsasl, b"\n"))]  # `gsasl` ends its exchange by an empty line
+    ways = [
+        threading.Thread(target=relay, args=(gsasl, program)),
+        threading.Thread(target=relay, args=(program, gsasl, b"\n")),
+    ]  # `gsasl` ends its exchange by an empty line
     for way in ways:
         way.start()
     for way in ways:
@@ -133,8 +149,9 @@ def against_gsasl_client(mechanism, users, password, asks=(), rights=()):
     """Statuses of the program's server and of `gsasl` as client."""
     server = start(PROGRAM, "server", mechanism, users, *rights)
     identity = [f"--authorization-id={name}" for name in asks[1:]]
-    return joined(server, start("gsasl", "--client", "--quiet", "--no-cb", "-m", mechanism, "-a", USER, "-p", password,
-                                *identity))
+    return joined(
+        server, start("gsasl", "--client", "--quiet", "--no-cb", "-m", mechanism, "-a", USER, "-p", password, *identity)
+    )
 
 
 def as_others(way, mechanism, users):

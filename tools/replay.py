@@ -22,7 +22,7 @@ def text(digits):
 
 def marked(lines, mark):
     """What follows this mark, a line each."""
-    return "".join(line[len(mark):] + "\n" for line in lines if line.startswith(mark))
+    return "".join(line[len(mark) :] + "\n" for line in lines if line.startswith(mark))
 
 
 def differs(program, paragraph):

@@ -68,8 +68,13 @@ def calls_of(libraries):
     while more:
         errors |= more
         word = re.compile(rf"\b({'|'.join(errors)})\b")
-        more = {it.name for it in items if it.kind in ("struct", "enum") and it.name.endswith(("Error", "Kind"))
-                and word.search(heads(signatures.fields(it.lines)))} - errors
+        more = {
+            it.name
+            for it in items
+            if it.kind in ("struct", "enum")
+            and it.name.endswith(("Error", "Kind"))
+            and word.search(heads(signatures.fields(it.lines)))
+        } - errors
     fails = re.compile(rf"\bfn (\w+).*-> Result<.*\b(?:{'|'.join(errors)})>")
     found = {}
     for library in libraries:
@@ -87,8 +92,16 @@ def run(program, file, heap, call, nth):
     """What a driver prints over a file in which the n-th request of each such call is refused, its status, and counts."""
     with tempfile.NamedTemporaryFile("r+") as counts:
         words = {"LD_PRELOAD": heap, "REFUSE_COUNTS": counts.name, "REFUSE_CALL": str(call), "REFUSE_NTH": str(nth)}
-        ran = subprocess.run([program, file.name], cwd=file.parent, env=words, stdin=subprocess.DEVNULL,
-                             capture_output=True, text=True, errors="replace", timeout=120)
+        ran = subprocess.run(
+            [program, file.name],
+            cwd=file.parent,
+            env=words,
+            stdin=subprocess.DEVNULL,
+            capture_output=True,
+            text=True,
+            errors="replace",
+            timeout=120,
+        )
         # (none after a signal)
         return ran.stdout, ran.returncode, [int(it) for it in counts.read().split()] or [0] * 4
 
@@ -106,8 +119,10 @@ def tried(program, file, heap):
             ran_out = RAN_OUT.findall(said)
             is_told = len(ran_out) == refused or file.name == HINTS and len(ran_out) < refused
             if status or not is_told or blocks != left:
-                wrong.append(f"call {call} of an answer, request {nth}: {refused} refused, {len(ran_out)} ran out, "
-                             f"{blocks - left} blocks left, status {status}: {RAN_OUT.sub('', said).strip()[-600:]}")
+                wrong.append(
+                    f"call {call} of an answer, request {nth}: {refused} refused, {len(ran_out)} ran out, "
+                    f"{blocks - left} blocks left, status {status}: {RAN_OUT.sub('', said).strip()[-600:]}"
+                )
             names, total, nth = names | {*ran_out}, total + refused, nth + 1
     return names, total, rows, [f"{program.name}: {file.name}: {it}" for it in wrong]
 

@@ -75,21 +75,31 @@ def altered(text):
 def faults(program, data):
     """What is wrong with a driver's answers to its altered files."""
     files = sorted(data.glob("*.txt"))
-    wrong = [f"{program.name}: {it.name} is not replayed" for it in files
-             if f"{it.name}: " not in (data.parent / "stdout").read_text(encoding="utf-8")]
+    wrong = [
+        f"{program.name}: {it.name} is not replayed"
+        for it in files
+        if f"{it.name}: " not in (data.parent / "stdout").read_text(encoding="utf-8")
+    ]
     heads = {it.name: parts(it.read_text(encoding="utf-8"))[0] for it in files}
-    wrong += [f"{program.name}: {name}: its first paragraph is part of the head, and is not replayed"
-              for name, head in heads.items() if head and not head.splitlines()[-1].startswith("paragraphs ")]
+    wrong += [
+        f"{program.name}: {name}: its first paragraph is part of the head, and is not replayed"
+        for name, head in heads.items()
+        if head and not head.splitlines()[-1].startswith("paragraphs ")
+    ]
     with tempfile.TemporaryDirectory() as room:
         wanted = {}
         for file in files:
             other, wanted[file.name] = altered(file.read_text(encoding="utf-8"))
             (Path(room) / file.name).write_text(other, encoding="utf-8")
-        ran = subprocess.run([program, *wanted], cwd=room, stdin=subprocess.DEVNULL, capture_output=True, text=True,
-                             errors="replace")
+        ran = subprocess.run(
+            [program, *wanted], cwd=room, stdin=subprocess.DEVNULL, capture_output=True, text=True, errors="replace"
+        )
     found = {name: int(differ) for name, _, differ in COUNTS.findall(ran.stdout)}
-    wrong += [f"{program.name}: {name}: {count} altered, and {found.get(name, 'no')} differ"
-              for name, count in wanted.items() if found.get(name) != count]
+    wrong += [
+        f"{program.name}: {name}: {count} altered, and {found.get(name, 'no')} differ"
+        for name, count in wanted.items()
+        if found.get(name) != count
+    ]
     return wrong + [f"{program.name}: it ended with status {ran.returncode}"] * (ran.returncode != 1)
 
 

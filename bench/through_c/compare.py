@@ -46,7 +46,8 @@ def row(job, through, own):
 
 
 stored = read_counts(sys.argv[2])
-counts, wrong = {}, 0
+counts: dict = {}
+wrong = 0
 for name, instructions in callgrind.dumps(sys.argv[1]):
     job = name.split()[0]
     if counts.setdefault(job, instructions) != instructions:

@@ -3,10 +3,9 @@
 
     pages.py write FOLDER                   copies them into FOLDER
     pages.py pages FOLDER [PAGE=PLACE ..]   copies the pages only, and other pages of the repository to their places
-    pages.py check FOLDER..                 tests the links of all Markdown pages below these folders
+    pages.py check FOLDER..                 tests the links of all Markdown pages below each of these folders
 
 A link to a file that the package has leads to its place there. Of any other link into the repository the text is left.
-The check tests files and anchors. It asks no server, so links to other hosts are only counted.
 """
 import os
 import re
@@ -26,7 +25,6 @@ EXAMPLES = {
        for name in ("login", "client", "broker", "channel", "shared_users")},
 }
 LINK = re.compile(r"(?<!!)\[((?:[^\[\]`]|`[^`]*`)*)\]\(([^()\s]+)\)")
-SKIPPED = {"build", "out", "target"}
 
 
 def code_left_out(text):
@@ -68,38 +66,15 @@ def write(folder, places):
         out.chmod(0o644)
 
 
-def anchors_of(page):
-    """The anchors of a page's headings, as GitHub makes them."""
-    text, seen = page.read_text(encoding="utf-8"), {}
-    text = re.sub(r"^```.*?^```$", "", text, flags=re.M | re.S)
-    for head in re.findall(r"^#+ (.*)$", text, re.M):
-        name = re.sub(r"[^\w\- ]", "", LINK.sub(r"\1", head).lower()).replace(" ", "-")
-        seen[name] = seen.get(name, -1) + 1
-        yield f"{name}-{seen[name]}" if seen[name] else name
+def check(folder):
+    """Prints the links of a folder's pages that have no target, as `tools/gate/links.py` finds them."""
+    sys.path.insert(0, str(TOP / "tools" / "gate"))
+    sys.dont_write_bytecode = True
+    import links
 
-
-def faults_of(page):
-    """The dead links of a page, and how many lead to other hosts."""
-    faults, others, text = [], 0, page.read_text(encoding="utf-8")
-    for start, _, _, target in links_of(text):
-        path, _, anchor = target.partition("#")
-        if re.match(r"[a-z]+:", path):
-            others += 1
-            continue
-        file = (page.parent / path) if path else page
-        if not file.exists() or (anchor and file.suffix == ".md" and anchor not in anchors_of(file)):
-            faults.append(f"{page}:{text.count(chr(10), 0, start) + 1}: {target}")
-    return faults, others
-
-
-def check(folders):
-    pages = [page for folder in folders for page in sorted(folder.glob("**/*.md"))
-             if not any(part in SKIPPED or part[0] == "." for part in page.relative_to(folder).parts)]
-    found = [faults_of(page) for page in pages]
-    dead = [fault for faults, _ in found for fault in faults]
-    print("".join(f"{fault}\n" for fault in dead), end="")
-    print(f"links: {len(pages)} pages, {len(dead)} dead links; {sum(count for _, count in found)} to other hosts not tried")
-    return 1 if dead or not pages else 0
+    faults, count = links.check(folder.resolve())
+    print("".join(f"{folder}: {fault}\n" for fault in faults) + f"{folder}: {count} links, {len(faults)} without a target")
+    return bool(faults) or not count
 
 
 def main():
@@ -107,7 +82,7 @@ def main():
         sys.exit(__doc__)
     how, folder, *more = sys.argv[1:]
     if how == "check":
-        sys.exit(check([Path(folder), *map(Path, more)]))
+        sys.exit(any([check(Path(folder)) for folder in (folder, *more)]))
     more = dict(words.split("=", 1) for words in more)
     write(Path(folder), {**PAGES, **more, **(EXAMPLES if how == "write" else {})})
 

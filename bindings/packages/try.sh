@@ -285,7 +285,7 @@ judged() {
     judge 'the crate' cargo package --quiet --offline --allow-dirty --target-dir "$outside/target" \
         --manifest-path "$outside/crate/$(basename "$2" .tar.gz)/Cargo.toml"
     judge 'the pages of the repository, the tar.gz and the crate' \
-        bindings/packages/pages.py check . "$outside/tar" "$outside/crate"
+        bindings/packages/pages.py check . "$outside"/tar/* "$outside"/crate/*
 }
 
 [ $# -gt 0 ] || { sed -n 's/^# \{0,1\}//p' "$0" >&2; exit 2; }

@@ -4,7 +4,6 @@ which unknown users look like known ones, why a login was rejected, and the nonc
 from __future__ import annotations
 
 import contextlib
-import os
 import re
 import secrets
 import socket

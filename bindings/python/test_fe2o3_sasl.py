@@ -2968,9 +2968,9 @@ class RandomStructs(Case):
         rules.accept_authzid, rules.identities, rules.identities_len = 0, None, 0
         channels = rules.channels
         flags = (rules, "accept_cbind_flag_y"), (rules, "strict"), (rules, "reject_misplaced"), (channels, "binds_channel")
-        for struct, field in flags:
+        for owner, field in flags:
             if self.chance():
-                setattr(struct, field, self.random.randrange(2))
+                setattr(owner, field, self.random.randrange(2))
         headers, fits = {b"n,,": (1, b""), b"y,,": (3, b"")}, True
         for kind, text in KIND_NAMES.items():
             name = kind.name.lower()

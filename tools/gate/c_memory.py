@@ -26,7 +26,9 @@ def sum_of(lines):
     total = hashlib.sha256(Path(KIT, "KIT-ID").read_bytes())
     for name in sorted([CRATE, *wrong_bodies.below(lines, CRATE)]):
         total.update(lines[name].encode())
-        for file in sorted(it for part in ("src", "specs", "proofs") for it in (TOP / "crates" / name / part).rglob("*")):
+        for file in sorted(
+            it for part in ("src", "specs", "proofs") for it in (TOP / "crates" / name / part).rglob("*")
+        ):
             if file.is_file():
                 total.update(repr((str(file.relative_to(TOP)), hashlib.sha256(file.read_bytes()).digest())).encode())
     return total.hexdigest()
@@ -74,9 +76,13 @@ def main():
     (TOP / "build/proved.o").unlink(missing_ok=True)
     program = "build/callers/memory_plain"
     for words in (["make", "--no-print-directory", f"PROVED_ARCHIVE={archive}", program], [program]):
-        told = subprocess.run(words, cwd=TOP, stdin=subprocess.DEVNULL, capture_output=True, text=True, errors="replace")
+        told = subprocess.run(
+            words, cwd=TOP, stdin=subprocess.DEVNULL, capture_output=True, text=True, errors="replace"
+        )
         if told.returncode:
-            sys.exit(f"c_memory: {words[0]} ended with status {told.returncode}: {told.stdout[-600:]}{told.stderr[-600:]}")
+            sys.exit(
+                f"c_memory: {words[0]} ended with status {told.returncode}: {told.stdout[-600:]}{told.stderr[-600:]}"
+            )
 
 
 if __name__ == "__main__":

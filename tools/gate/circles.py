@@ -98,8 +98,11 @@ class Crate:
         self.files = sorted(path for path in self.src.rglob("*.rt") if path != self.src / "lib.rt")
         texts = {path: without_comments(path.read_text(encoding="utf-8")) for path in self.files}
         self.uses = {self.module(path): {} for path in self.files}
-        self.pages = {module for module in self.uses
-                      if is_page([texts[path] for path in self.files if self.module(path) == module])}
+        self.pages = {
+            module
+            for module in self.uses
+            if is_page([texts[path] for path in self.files if self.module(path) == module])
+        }
         top = without_comments((self.src / "lib.rt").read_text(encoding="utf-8"))
         self.declared = set(MODULE.findall(top))
         root = names_of_root(top)
@@ -178,8 +181,10 @@ def main():
         return 1
     for name, crate in crates.items():
         chain = max((crate.chain(module) for module in crate.uses), key=len)
-        print(f"circles: {name}: {len(crate.uses)} modules, no circle, at most {len(chain)} above one another:"
-              f" {', '.join(reversed(chain))}")
+        print(
+            f"circles: {name}: {len(crate.uses)} modules, no circle, at most {len(chain)} above one another:"
+            f" {', '.join(reversed(chain))}"
+        )
         if ORDER:
             print(*(f"    {module}" for module in crate.order()), sep="\n")
     return 0

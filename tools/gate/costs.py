@@ -170,7 +170,9 @@ def write(record):
 
 def closing(record):
     """The lines that a run of the gate prints above its last one."""
-    cost = f"{record['seconds']:,} processor seconds, {record['wall'] / 60:.0f} min on {record['processors']} processors"
+    cost = (
+        f"{record['seconds']:,} processor seconds, {record['wall'] / 60:.0f} min on {record['processors']} processors"
+    )
     lines = [f"gate: {cost}; other processes took {record['others']:,} s"]
     if chain := record["chain"]["crates"]:
         lines.append(f"gate: longest chain {record['chain']['seconds'] / 60:.0f} min: {', '.join(chain)}")

@@ -165,8 +165,10 @@ def main():
     sys.stdout.flush()
     # (these need the programs that `rt ci` builds)
     if not failed:
-        failed = sum(fails(*it) for it in (
-            ["gate/restarts.py"], ["test_rows.py", "--altered"], ["test_memory.py"], ["gate/c_memory.py"]))
+        failed = sum(
+            fails(*it)
+            for it in (["gate/restarts.py"], ["test_rows.py", "--altered"], ["test_memory.py"], ["gate/c_memory.py"])
+        )
     record = run.record(sample, wrong_bodies.crates(), passed, failed)
     costs.write(record)
     print(*costs.closing(record), f"{passed} passed, {failed} failed", sep="\n")

@@ -24,11 +24,18 @@ def files_of(crate):
 def main():
     crates = sorted(it.path for it in os.scandir(os.path.join(ROOT, "crates")) if it.is_dir())
     found = {crate: files_of(crate) for crate in crates}
-    checks = [subprocess.Popen([RATTLE, "fmt", "--check", *files], stdout=subprocess.PIPE, stderr=subprocess.STDOUT,
-                               text=True) for files in found.values() if files]
+    checks = [
+        subprocess.Popen(
+            [RATTLE, "fmt", "--check", *files], stdout=subprocess.PIPE, stderr=subprocess.STDOUT, text=True
+        )
+        for files in found.values()
+        if files
+    ]
     failed = [said for check in checks if (said := check.communicate()[0]) or check.returncode]
-    print("".join(failed) + f"layout: {sum(map(len, found.values()))} files of {len(crates)} crates, "
-          f"{len(failed)} crates with a file that is not in it")
+    print(
+        "".join(failed) + f"layout: {sum(map(len, found.values()))} files of {len(crates)} crates, "
+        f"{len(failed)} crates with a file that is not in it"
+    )
     return 1 if failed else 0
 
 

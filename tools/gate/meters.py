@@ -20,11 +20,11 @@ for a meter or a hash (`as`, `type`); on what is exported by another name; on a 
 on a Meter that is a constant or can be copied.
 
 Functions are found by name: `.name(` is every method of that name, `Type::name`, called or not, those of the
-type and, of a `pub type`, of the type that it names, or every one where it is a trait or one letter, and `name` the free function of its file, of the file's
-imports or of the path before it. So it refuses more than it has to. It does not see the arguments of a call, nor
-in what order or on which branch it is made (an allowed call that is made where it was spared before is not
-seen), code that a macro makes, a hash that is written out by hand, nor, outside UNCOUNTED, a loop around a
-metered call on the caller's meter, which its contract counts.
+type and, of a `pub type`, of the type that it names, or every one where it is a trait or one letter, and
+`name` the free function of its file, of the file's imports or of the path before it. So it refuses more than
+it has to. It does not see the arguments of a call, nor in what order or on which branch it is made (an allowed
+call that is made where it was spared before is not seen), code that a macro makes, a hash that is written out
+by hand, nor, outside UNCOUNTED, a loop around a metered call on the caller's meter, which its contract counts.
 """
 import re
 import sys
@@ -34,18 +34,21 @@ from functools import cached_property, lru_cache
 from pathlib import Path
 from typing import NamedTuple
 
-from scopes import brackets, closing, locals_of
+from local_names import brackets, closing, locals_of
 
 TOP = Path(__file__).resolve().parents[2]
-LIBRARIES = ("fe2o3_sasl_wire", "fe2o3_scram", "fe2o3_sasl_core", "fe2o3_sasl", "fe2o3_sasl_negotiation",
-             "sasl_c")
+LIBRARIES = ("fe2o3_sasl_wire", "fe2o3_scram", "fe2o3_sasl_core", "fe2o3_sasl", "fe2o3_sasl_negotiation", "sasl_c")
 UNCOUNTED = ("sasl_c",)
 LIST = "tools/gate/meters.txt"
 UNSORTED = "# Put each of these under its reason."
 NO_CODE = re.compile(
-    r"""//[^\n]*|/\*.*?\*/|b?'(?:\\.[^']*|[^'\\])'|b?"(?:\\.|[^"\\])*"|#!?\[[^\n]*?\]\n|\bghost use\b[^;]*;""", re.S)
-GHOST = re.compile(r"\bghost\s+\w+\s*[=:]\s*(?=\{)|\bghost\s*(?=\{)"
-                   r"|^[ \t]*(?:ensures|requires|invariant|decreases|terminates|proof)(?:[ \t]+\w+)?\s*(?=\{)", re.M)
+    r"""//[^\n]*|/\*.*?\*/|b?'(?:\\.[^']*|[^'\\])'|b?"(?:\\.|[^"\\])*"|#!?\[[^\n]*?\]\n|\bghost use\b[^;]*;""", re.S
+)
+GHOST = re.compile(
+    r"\bghost\s+\w+\s*[=:]\s*(?=\{)|\bghost\s*(?=\{)"
+    r"|^[ \t]*(?:ensures|requires|invariant|decreases|terminates|proof)(?:[ \t]+\w+)?\s*(?=\{)",
+    re.M,
+)
 HEAD = re.compile(r"\bfn\s+(\w+)")
 IMPL = re.compile(r"^(?:impl|(?:pub(?:\(\w+\))? )?trait)\b([^{;]*)\{", re.M)
 LOOP = re.compile(r"\b(?:for|while|loop)\b|(?<=[(,])\s*(?:move\s*)?\|[^|]*\|")
@@ -59,12 +62,18 @@ HEADED = re.compile(r"\bfn\s*$")
 NO_VALUE = re.compile(r"\s*(?:!(?!=)|::?)")
 BEFORE = re.compile(r"(\.)\s*$|(\w+)(?:\s*::\s*<[^()]*?>)?\s*>?\s*::\s*$")
 LOOKED_FOR = r"\b(?:Meter|[Ss]ha\d+|Digest|Hasher|HmacKey|PaddedKey)\b"
-RENAMED = re.compile(rf"^[ \t]*use\b[^;]*?{LOOKED_FOR}\s+as\s+\w|\btype\s+\w+[^;=]*=[^;]*{LOOKED_FOR}"
-                     r"|^[ \t]*pub(?:\([\w ]+\))? use\b[^;]*?\b(?!AllocError\b)\w+\s+as\s+\w", re.M)
+RENAMED = re.compile(
+    rf"^[ \t]*use\b[^;]*?{LOOKED_FOR}\s+as\s+\w|\btype\s+\w+[^;=]*=[^;]*{LOOKED_FOR}"
+    r"|^[ \t]*pub(?:\([\w ]+\))? use\b[^;]*?\b(?!AllocError\b)\w+\s+as\s+\w",
+    re.M,
+)
 CONSTANT = re.compile(r"^[ \t]*(?:pub(?:\([\w ]+\))? )?(?:const|static)\s+\w+\s*:[^=;]*\bfn\b", re.M)
-COPIED = re.compile(r"derive\([^)]*(?:Clone|Copy|Default)[^)]*\)\]\s*(?:pub\s+)?struct Meter\b"
-                    r"|\bimpl\s+(?:Clone|Copy|Default)\s+for\s+Meter\b"
-                    r"|^[ \t]*(?:pub(?:\(\w+\))? )?(?:const|static)\s+\w+\s*:[^=;]*\bMeter\b", re.M)
+COPIED = re.compile(
+    r"derive\([^)]*(?:Clone|Copy|Default)[^)]*\)\]\s*(?:pub\s+)?struct Meter\b"
+    r"|\bimpl\s+(?:Clone|Copy|Default)\s+for\s+Meter\b"
+    r"|^[ \t]*(?:pub(?:\(\w+\))? )?(?:const|static)\s+\w+\s*:[^=;]*\bMeter\b",
+    re.M,
+)
 
 
 def code_of(text):
@@ -72,7 +81,7 @@ def code_of(text):
     text, pieces, at = NO_CODE.sub(lambda found: "\n" * found[0].count("\n"), text), [], 0
     while found := GHOST.search(text, at):
         end = closing(text, found.end())
-        pieces += [text[at:found.start()], "\n" * text.count("\n", found.start(), end)]
+        pieces += [text[at : found.start()], "\n" * text.count("\n", found.start(), end)]
         at = end
     return "".join(pieces) + text[at:]
 
@@ -99,6 +108,7 @@ def body_of(text, at):
 
 class Call(NamedTuple):
     """A call of a function, or its name as a value, with the type or the module before it."""
+
     at: int
     name: str
     type: str
@@ -129,13 +139,22 @@ class Function:
         """What may be a call, or the name of a function as a value."""
         calls, uses = [], [found.span() for found in USE.finditer(self.body)]
         for found in WORD.finditer(self.body):
-            text = self.body[max(0, found.start() - 80):found.start()]
-            before = BEFORE.search(text)
+            text = self.body[max(0, found.start() - 80) : found.start()]
+            # (the search costs much more than this question)
+            before = BEFORE.search(text) if text.rstrip().endswith((".", "::")) else None
             method, path = bool(before and before[1]), before[2] or "" if before else ""
             path = self.owner if path == "Self" else path
             of_type, value = path[:1].isupper(), not found[2]
-            if value and not of_type and (method or NO_VALUE.match(self.body, found.end(1)) or HEADED.search(text)
-                                          or within(found.start(), [*uses, *self.locals[found[1]] * (not path)])):
+            if (
+                value
+                and not of_type
+                and (
+                    method
+                    or NO_VALUE.match(self.body, found.end(1))
+                    or HEADED.search(text)
+                    or within(found.start(), [*uses, *self.locals[found[1]] * (not path)])
+                )
+            ):
                 continue
             calls.append(Call(found.start(), found[1], path * of_type, path * (not of_type), method, value))
         return calls
@@ -161,8 +180,17 @@ def functions_of(file, crate, path, text):
             continue
         owner = next((name for start, stop, name in impls if start < found.start() < stop), "")
         place = "::".join(part for part in (path, owner, found[1]) if part)
-        yield Function(file, imports, crate, place, owner, found[1], text[found.end():begin],
-                       text[begin:closing(text, begin)], text.count("\n", 0, begin) + 1)
+        yield Function(
+            file,
+            imports,
+            crate,
+            place,
+            owner,
+            found[1],
+            text[found.end() : begin],
+            text[begin : closing(text, begin)],
+            text.count("\n", 0, begin) + 1,
+        )
 
 
 @lru_cache(maxsize=None)
@@ -203,8 +231,11 @@ class Sources:
 
     def reached(self):
         """The functions that take no meter, and make one, hash, or call one of them."""
-        order = [function for function in self.functions if not function.takes
-                 and (function.kit or function.makes and function.owner != "Meter")]
+        order = [
+            function
+            for function in self.functions
+            if not function.takes and (function.kit or function.makes and function.owner != "Meter")
+        ]
         found = set(order)
         for callee in order:
             for caller, call in self.callers[callee.name]:
@@ -286,8 +317,11 @@ def renewed(texts, text):
 
 def texts_of(top):
     """The sources of the libraries, by their paths from the folder of the repository."""
-    return {file.relative_to(top).as_posix(): file.read_text(encoding="utf-8") for crate in LIBRARIES
-            for file in sorted((top / "crates" / crate / "src").rglob("*.rt"))}
+    return {
+        file.relative_to(top).as_posix(): file.read_text(encoding="utf-8")
+        for crate in LIBRARIES
+        for file in sorted((top / "crates" / crate / "src").rglob("*.rt"))
+    }
 
 
 def main():

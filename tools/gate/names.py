@@ -6,7 +6,7 @@
 There must be none: a reader who knows a name from one file may trust it in every other file, also in that of another
 crate. A name is that of a definition, a record or a constructor, of any crates/*/specs, private ones too. It is listed if
 its definitions differ in more than layout; the same text in two files counts as one meaning. Each name is printed with its
-files. A file has a `*` if the headline rests on that definition, as `tools/believed.py` finds it. What is local to a
+files. A file has a `*` if the headline rests on that definition, as `tools/trusted_definitions.py` finds it. What is local to a
 definition is not counted: parameters, and fields of records, which are read as `value.field`.
 
 The last line counts the names. The exit status is 0 if no name is listed, and 1 otherwise.
@@ -19,21 +19,21 @@ from pathlib import Path
 sys.dont_write_bytecode = True
 sys.path.insert(0, str(Path(__file__).resolve().parents[1]))
 
-import believed
+import trusted_definitions as trusted
 
 
 def definitions():
     """Each definition of each crate: its name, file and module, its place there, and its text in one line."""
-    for path in sorted(believed.CRATES.glob("*/specs/**/*.antt")):
-        file = path.relative_to(believed.CRATES)
-        module = believed.module_of(path, file.parts[0])
-        for place, (names, text, _) in enumerate(believed.read(path)[3]):
+    for path in sorted(trusted.CRATES.glob("*/specs/**/*.antt")):
+        file = path.relative_to(trusted.CRATES)
+        module = trusted.module_of(path, file.parts[0])
+        for place, (names, text, _) in enumerate(trusted.read(path)[3]):
             for name in names:
                 yield name, str(file), (module, place), " ".join(text.split())
 
 
 def main():
-    reached, by_name = believed.reached_from(believed.HEADLINE), defaultdict(list)
+    reached, by_name = trusted.reached_from(trusted.HEADLINE), defaultdict(list)
     for name, file, place, text in definitions():
         if re.match(r"\w", name):
             by_name[name].append((file, place in reached, text))

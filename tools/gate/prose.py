@@ -22,8 +22,15 @@ from pathlib import Path
 WORDS = Path(__file__).resolve().parent / "words.txt"
 SKIPPED_FOLDERS = {"out", "build", "target"}
 SKIPPED_PAGES = {"CHANGELOG.md", "SIGNATURES.md", "PROMISES.md"}
-SOURCES = ("crates/*/src/**/*.rt", "crates/*/specs/**/*.antt", "bindings/c/fe2o3_sasl.h",
-           "bindings/rust/src/**/*.rs", "bindings/rust/tests/**/*.rs", "bindings/python/*.py", "tools/**/*.py")
+SOURCES = (
+    "crates/*/src/**/*.rt",
+    "crates/*/specs/**/*.antt",
+    "bindings/c/fe2o3_sasl.h",
+    "bindings/rust/src/**/*.rs",
+    "bindings/rust/tests/**/*.rs",
+    "bindings/python/*.py",
+    "tools/**/*.py",
+)
 
 INLINE_CODE = re.compile(r"(?<!`)(`+)(?!`)(?:(?!\n\s*\n).)+?(?<!`)\1(?!`)", re.S)
 LINK_TARGET = re.compile(r"\]\([^)\s]*\)|<https?:[^>]*>|https?:\S+")
@@ -74,7 +81,7 @@ def page_blocks(text):
 
 def comment_blocks(text, token, marks, doc_marks):
     """The blocks of line comments, whose marks and white space are left out, and the block comments."""
-    before = None       # the block that the next line may continue: line, column, mark, texts
+    before = None  # the block that the next line may continue: line, column, mark, texts
     for found in token.finditer(text):
         groups = found.groupdict()
         if not groups.get("line") and not groups.get("block"):
@@ -86,24 +93,36 @@ def comment_blocks(text, token, marks, doc_marks):
             yield Block(line, inner, doc=True)
             continue
         mark = next(mark for mark in marks if found[0].startswith(mark))
-        own = not text[found.start() - column:found.start()].strip()
+        own = not text[found.start() - column : found.start()].strip()
         if before and own and before[:3] == (line - len(before[3]), column, mark):
-            before[3].append(found[0][len(mark):])
+            before[3].append(found[0][len(mark) :])
             continue
         if before:
             yield Block(before[0], "\n".join(without_fences(before[3])), before[2] in doc_marks and before[4])
-        before = (line, column, mark, [found[0][len(mark):]], own)
+        before = (line, column, mark, [found[0][len(mark) :]], own)
     if before:
         yield Block(before[0], "\n".join(without_fences(before[3])), before[2] in doc_marks and before[4])
 
 
+def statements(tree):
+    """A module and its statements, at any depth. (`ast.walk` also visits each expression.)"""
+    left = [tree]
+    while left:
+        node = left.pop()
+        yield node
+        for field in ("body", "orelse", "finalbody", "handlers", "cases"):
+            inner = getattr(node, field, None)
+            left += inner if isinstance(inner, list) else []
+
+
 def python_blocks(text):
-    tree = ast.parse(text)
-    for node in ast.walk(tree):
-        if isinstance(node, (ast.Module, ast.ClassDef, ast.FunctionDef, ast.AsyncFunctionDef)) and ast.get_docstring(node):
+    for node in statements(ast.parse(text)):
+        if isinstance(node, (ast.Module, ast.ClassDef, ast.FunctionDef, ast.AsyncFunctionDef)) and ast.get_docstring(
+            node
+        ):
             first = node.body[0]
             yield Block(first.lineno, ast.get_docstring(node, clean=False), doc=True)
-    last = None         # the block that the next line may continue: line, column, texts
+    last = None  # the block that the next line may continue: line, column, texts
     for found in tokenize.generate_tokens(io.StringIO(text).readline):
         if found.type != tokenize.COMMENT:
             continue
@@ -138,9 +157,11 @@ def top_of(folder):
 
 def files_of(top, paths):
     """The files with prose, of the paths alone if there are any."""
+
     def skipped(path):
         inner = path.relative_to(top).parts
-        return any(part in SKIPPED_FOLDERS or part.startswith(".") for part in inner[:-1]) or path.name in SKIPPED_PAGES
+        hidden = any(part in SKIPPED_FOLDERS or part[0] == "." and part != ".github" for part in inner[:-1])
+        return hidden or path.name in SKIPPED_PAGES
 
     found = {path for pattern in ("**/*.md", *SOURCES) for path in top.glob(pattern) if not skipped(path)}
     wanted = [Path(path).resolve() for path in paths]
@@ -157,26 +178,29 @@ def pattern_of(words):
 
 
 def vocabulary():
-    """The expressions that are faults, each with what to write instead, and those that are counted."""
-    faults, counted = [], []
+    """The expressions that are faults, each with what to write instead; those that are counted; and one of all faults."""
+    faults, counted, words_of_faults = [], [], []
     for line in WORDS.read_text().splitlines():
         if line.startswith("count: "):
             counted.append((line[7:], pattern_of(line[7:])))
         elif line and not line.startswith("#"):
             words, advice = line.split(" -> ")
             faults.append((pattern_of(words), advice))
-    return faults, counted
+            words_of_faults.append(words)
+    return faults, counted, pattern_of("|".join(words_of_faults))
 
 
-def faults_of(path, blocks, faults):
-    """The faults of a file's blocks: line, the words, and what is wrong with them."""
+def faults_of(path, blocks, faults, any_of):
+    """The faults of a file's blocks: line, the words, and what is wrong with them. (`any_of` is one of all, and quick.)"""
+    if not any_of.search("\n\n".join(block.text for block in blocks)):
+        faults = []
     for block in blocks:
-        start = block.text.lstrip(" \n\"")
+        start = block.text.lstrip(' \n"')
         first = BLIND_START.match(start[:1].upper() + start[1:] if path.suffix == ".antt" else start)
         if block.doc and first:
             skipped = len(block.text) - len(start)
             line = block.line + block.text.count("\n", 0, skipped)
-            yield line, start[:first.end()], "a doc comment begins with its own item"
+            yield line, start[: first.end()], "a doc comment begins with its own item"
         for pattern, advice in faults:
             for found in pattern.finditer(block.text):
                 yield block.line + block.text.count("\n", 0, found.start()), " ".join(found[0].split()), advice
@@ -184,7 +208,7 @@ def faults_of(path, blocks, faults):
 
 def main():
     arguments = sys.argv[1:]
-    faults, counted = vocabulary()
+    faults, counted, any_of = vocabulary()
     only_count = arguments[:1] == ["--count"]
     where = arguments[1] if arguments[:1] == ["--where"] and len(arguments) > 1 else None
     paths = arguments[2:] if where else arguments[1:] if only_count else arguments
@@ -192,16 +216,19 @@ def main():
         sys.exit(__doc__)
     if where:
         known = [pattern for words, pattern in counted if pattern.fullmatch(where)]
-        faults = [(known[0] if known else pattern_of(where), "")]
+        any_of = known[0] if known else pattern_of(where)
+        faults = [(any_of, "")]
     top, counts, count, files = top_of(Path.cwd().resolve()), Counter(), 0, set()
     for path in files_of(top, paths):
         blocks = list(blocks_of(path, path.read_text()))
         if only_count:
-            counts.update({words: sum(len(pattern.findall(block.text)) for block in blocks) for words, pattern in counted})
+            counts.update(
+                {words: sum(len(pattern.findall(block.text)) for block in blocks) for words, pattern in counted}
+            )
             continue
         if where:
             blocks = [block for block in blocks if setattr(block, "doc", False) is None]
-        for line, words, advice in sorted(faults_of(path, blocks, faults)):
+        for line, words, advice in sorted(faults_of(path, blocks, faults, any_of)):
             count += 1
             files.add(path)
             print(f"{path.relative_to(top)}:{line}: {words}" + f"  (write: {advice})" * bool(advice))

@@ -55,8 +55,7 @@ def find(quote, source, start):
     best = 0
     for at in range(start, len(source)):
         agreeing = 0
-        while (agreeing < len(quote) and at + agreeing < len(source)
-               and quote[agreeing][1] == source[at + agreeing]):
+        while agreeing < len(quote) and at + agreeing < len(source) and quote[agreeing][1] == source[at + agreeing]:
             agreeing += 1
         if agreeing == len(quote):
             return at + agreeing, None
@@ -105,8 +104,14 @@ def check(pages, top):
 
 
 def main():
-    pages = [TOP / "README.md", *sorted(TOP.glob("crates/*/README.md")), *sorted(TOP.glob("docs/*.md")),
-             TOP / "bindings/README.md", TOP / "bindings/rust/README.md", TOP / "plugins/cyrus/README.md"]
+    pages = [
+        TOP / "README.md",
+        *sorted(TOP.glob("crates/*/README.md")),
+        *sorted(TOP.glob("docs/*.md")),
+        TOP / "bindings/README.md",
+        TOP / "bindings/rust/README.md",
+        TOP / "plugins/cyrus/README.md",
+    ]
     faults, count = check(pages, TOP)
     for fault in faults:
         print(f"quoted: {fault}", file=sys.stderr)

@@ -87,8 +87,15 @@ def main():
         with tempfile.TemporaryDirectory() as room:
             copy = copy_of_library(Path(room))
             wanted = plant(copy, sorted((TESTS / "refused").glob("*.edit")))
-            check = subprocess.run(["rt", "check", "--only", "", "--jobs", "1"], cwd=copy, stdin=subprocess.DEVNULL,
-                                   stdout=subprocess.PIPE, stderr=subprocess.STDOUT, encoding="utf-8", errors="replace")
+            check = subprocess.run(
+                ["rt", "check", "--only", "", "--jobs", "1"],
+                cwd=copy,
+                stdin=subprocess.DEVNULL,
+                stdout=subprocess.PIPE,
+                stderr=subprocess.STDOUT,
+                encoding="utf-8",
+                errors="replace",
+            )
             log = check.stdout
             compare(wanted, check.returncode, log)
     except Wrong as why:

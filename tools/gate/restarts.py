@@ -47,22 +47,29 @@ spelled = rows.model.spelled
 
 
 def start(command, folder, **options):
-    return subprocess.Popen(command, cwd=folder, stdin=subprocess.PIPE, stdout=subprocess.PIPE, stderr=subprocess.PIPE,
-                            **options)
+    return subprocess.Popen(
+        command, cwd=folder, stdin=subprocess.PIPE, stdout=subprocess.PIPE, stderr=subprocess.PIPE, **options
+    )
 
 
 def stopped_at(call):
     """What a child has to run before its program, so that the system kills it at this system call (seccomp(2))."""
+
     def limit():
         # Load the call's number; if it is `call`, kill the process; otherwise allow it.
-        steps = b"".join(struct.pack("HBBI", *step) for step in (
-            (0x20, 0, 0, 0), (0x15, 0, 1, call), (0x06, 0, 0, 0x80000000), (0x06, 0, 0, 0x7FFF0000)))
+        steps = b"".join(
+            struct.pack("HBBI", *step)
+            for step in ((0x20, 0, 0, 0), (0x15, 0, 1, call), (0x06, 0, 0, 0x80000000), (0x06, 0, 0, 0x7FFF0000))
+        )
         kept = ctypes.create_string_buffer(steps)
         program = struct.pack("HxxxxxxP", len(steps) // 8, ctypes.addressof(kept))
         libc = ctypes.CDLL(None, use_errno=True)
         no_new_privileges, seccomp, filter_mode = 38, 22, 2
-        if libc.prctl(no_new_privileges, 1, 0, 0, 0) or libc.prctl(seccomp, filter_mode, ctypes.c_char_p(program), 0, 0):
+        if libc.prctl(no_new_privileges, 1, 0, 0, 0) or libc.prctl(
+            seccomp, filter_mode, ctypes.c_char_p(program), 0, 0
+        ):
             raise OSError(ctypes.get_errno(), "seccomp")
+
     return limit
 
 
@@ -86,8 +93,8 @@ def wrong_login(folder, mechanism, name):
     """The challenge of the broker to a name, and what it answers to a proof of zeros."""
     process = start([BROKER, "records.txt"], folder)
     printed = ask(process, rows.HEADER + spelled("Init", mechanism.encode(), b"n,,n=%b,r=%b" % (name, NONCE), None))
-    challenge = printed[printed.index(b"r=" + NONCE):]
-    nonce = challenge[2:challenge.index(b",")]
+    challenge = printed[printed.index(b"r=" + NONCE) :]
+    nonce = challenge[2 : challenge.index(b",")]
     proof = base64.b64encode(bytes(PROOF[mechanism]))
     return challenge, end(process, spelled("Response", b"c=biws,r=%b,p=%b" % (nonce, proof)))
 
@@ -135,7 +142,7 @@ class Restarts(unittest.TestCase):
         challenges = [ask(process, init) for process in processes]
         for process in processes:
             end(process, b"")
-        salts = {parts(challenge[challenge.index(b"r=" + NONCE):])[0] for challenge in challenges}
+        salts = {parts(challenge[challenge.index(b"r=" + NONCE) :])[0] for challenge in challenges}
         self.assertEqual(salts, {mock_salt(self.folder, "SCRAM-SHA-256", UNKNOWN, 16)})
         self.assertEqual(len(list(self.folder.iterdir())), 2)
 
@@ -150,9 +157,12 @@ class Restarts(unittest.TestCase):
 
     def test_rejected_secrets(self):
         secret = self.folder / "records.txt.secret"
-        for content, mode, why in ((b"7" * 31, 0o600, b"exactly 32 bytes"), (b"7" * 33, 0o600, b"exactly 32 bytes"),
-                                   (b"7" * 32, 0o640, b"access to its group or to others"),
-                                   (b"7" * 32, 0o604, b"access to its group or to others")):
+        for content, mode, why in (
+            (b"7" * 31, 0o600, b"exactly 32 bytes"),
+            (b"7" * 33, 0o600, b"exactly 32 bytes"),
+            (b"7" * 32, 0o640, b"access to its group or to others"),
+            (b"7" * 32, 0o604, b"access to its group or to others"),
+        ):
             secret.write_bytes(content)
             secret.chmod(mode)
             for command, status in READERS:
@@ -188,7 +198,7 @@ class Restarts(unittest.TestCase):
             process = start(command, self.folder, umask=0, preexec_fn=stopped_at(FCHMOD))
             process.communicate(b"", timeout=SECONDS)
             self.assertEqual(process.returncode, -signal.SIGSYS)
-            new, = self.folder.glob("records.txt.secret.*")
+            (new,) = self.folder.glob("records.txt.secret.*")
             self.assertEqual((new.stat().st_mode & 0o7777, new.stat().st_size), (0o600, 0))
             new.unlink()
 

@@ -43,9 +43,14 @@ def number(seconds):
 
 def runs(text, record):
     """The table of the runs, with this run as its last row."""
-    own = [record["day"], record["processors"], f"{record['seconds']:,}", f"{record['wall'] / 60:.0f}",
-           f"{record['others']:,} s of other processes"]
-    rows = [it for it in rows_of(text) if it != list(map(str, own))][1 - RUNS:] + [own]
+    own = [
+        record["day"],
+        record["processors"],
+        f"{record['seconds']:,}",
+        f"{record['wall'] / 60:.0f}",
+        f"{record['others']:,} s of other processes",
+    ]
+    rows = [it for it in rows_of(text) if it != list(map(str, own))][1 - RUNS :] + [own]
     head = row("Run from nothing", "Processors", "Seconds", "Minutes", "Other work")
     return "\n".join([head, "|---|---|---|---|---|", *(row(*it) for it in rows)])
 

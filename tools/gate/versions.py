@@ -103,7 +103,7 @@ def write(top, version):
     for file, pattern, form in PLACES:
         found = found_in(top, file, pattern) or sys.exit(f"versions: {file} has no place, or several, of {pattern}")
         text = (top / file).read_text(encoding="utf-8")
-        text = text[:found.start(1)] + in_form(version, form) + text[found.end(1):]
+        text = text[: found.start(1)] + in_form(version, form) + text[found.end(1) :]
         (top / file).write_text(text, encoding="utf-8")
 
 

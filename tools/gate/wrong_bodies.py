@@ -592,7 +592,9 @@ class Trial:
         left = [f"    {path}:{line}: {it}"[:200] for path, line, it in [*said.goals, *said.errors]]
         left += [f"    {it} is not proved" for it in sorted(said.unproved)]
         if left or not is_refused(said.ended, len(asked)):
-            return self.fail("\n".join([f"functions of {crate} are not proved without wrong bodies: {said.ended}", *left[:8]]))
+            return self.fail(
+                "\n".join([f"functions of {crate} are not proved without wrong bodies: {said.ended}", *left[:8]])
+            )
         self.say([], f"functions of {crate}: {len(asked)} are proved without wrong bodies, but for holes")
 
 

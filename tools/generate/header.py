@@ -29,28 +29,55 @@ C_NUMBERS = {"u8": "uint8_t", "u16": "uint16_t", "u32": "uint32_t", "u64": "uint
 SECTIONS = [  # in the order of use: a title, the structs, and the functions after "fe2o3_"
     ("The library", "Text", "version size status_text"),
     ("Passwords", "", "saslprep"),
-    ("Records, which a server stores in place of passwords", "ScramRecord",
-     "scram_record_make scram_record_from_fields scram_record_mock scram_record_parse scram_record_text"
-     " scram_record_verify scram_record_of_salted scram_record_verify_salted scram_lines_find scram_lines_all_have scram_line"),
+    (
+        "Records, which a server stores in place of passwords",
+        "ScramRecord",
+        "scram_record_make scram_record_from_fields scram_record_mock scram_record_parse scram_record_text"
+        " scram_record_verify scram_record_of_salted scram_record_verify_salted scram_lines_find scram_lines_all_have scram_line",
+    ),
     ("Keys, which a client can cache in place of a password", "ScramKeys", "scram_keys_make scram_keys_of_salted"),
-    ("A SCRAM client, over messages", "Login ScramClient",
-     "scram_client_first scram_client_final scram_client_verify scram_client_get_keys"),
-    ("A SCRAM server, over messages", "ScramServer ServerChannels ScramRules",
-     "scram_server_claimed_user scram_server_first scram_server_first_with_cbind_flag_y scram_server_final"
-     " scram_server_claimed_user_with_rules scram_server_first_with_rules scram_server_final_with_rules"
-     " scram_server_authenticated_user scram_server_claimed_identity scram_server_acts_for"),
-    ("Errors that a server sends in the place of a message", "",
-     "scram_server_error scram_server_error_text scram_server_error_message"),
-    ("PLAIN and EXTERNAL, over messages", "",
-     "plain_message plain_claimed_user plain_claimed_identity plain_verify external_verify"),
-    ("The client's side of a connection, over bytes", "Connection SaslLogin SaslClient",
-     "sasl_client_open sasl_client_receive"),
-    ("The server's side of a connection, over bytes", "SaslServerConfig SaslServer",
-     "sasl_server_claimed_user sasl_server_receive"),
-    ("Both sides of a connection, before a call, and at the end of the stream", "",
-     "sasl_wants_nonce sasl_peek_frame sasl_end_of_input"),
-    ("Both sides over frame bodies, for programs that read frames themselves", "SaslFrameView",
-     "sasl_client_step sasl_server_offer sasl_server_step_claimed_user sasl_server_step sasl_view_frame sasl_offers"),
+    (
+        "A SCRAM client, over messages",
+        "Login ScramClient",
+        "scram_client_first scram_client_final scram_client_verify scram_client_get_keys",
+    ),
+    (
+        "A SCRAM server, over messages",
+        "ScramServer ServerChannels ScramRules",
+        "scram_server_claimed_user scram_server_first scram_server_first_with_cbind_flag_y scram_server_final"
+        " scram_server_claimed_user_with_rules scram_server_first_with_rules scram_server_final_with_rules"
+        " scram_server_authenticated_user scram_server_claimed_identity scram_server_acts_for",
+    ),
+    (
+        "Errors that a server sends in the place of a message",
+        "",
+        "scram_server_error scram_server_error_text scram_server_error_message",
+    ),
+    (
+        "PLAIN and EXTERNAL, over messages",
+        "",
+        "plain_message plain_claimed_user plain_claimed_identity plain_verify external_verify",
+    ),
+    (
+        "The client's side of a connection, over bytes",
+        "Connection SaslLogin SaslClient",
+        "sasl_client_open sasl_client_receive",
+    ),
+    (
+        "The server's side of a connection, over bytes",
+        "SaslServerConfig SaslServer",
+        "sasl_server_claimed_user sasl_server_receive",
+    ),
+    (
+        "Both sides of a connection, before a call, and at the end of the stream",
+        "",
+        "sasl_wants_nonce sasl_peek_frame sasl_end_of_input",
+    ),
+    (
+        "Both sides over frame bodies, for programs that read frames themselves",
+        "SaslFrameView",
+        "sasl_client_step sasl_server_offer sasl_server_step_claimed_user sasl_server_step sasl_view_frame sasl_offers",
+    ),
 ]
 WIPED = "Secrets"  # the section of WIPE
 LENT = {"ScramRules": "Its value without options."}  # structs with pointers that no call writes, but that have an INIT
@@ -58,15 +85,23 @@ KIND_NAMES = {"ScramErrorKind": "CLIENT_", "ServerScramErrorKind": "SERVER_", "R
 
 STRUCT = re.compile(r"#\[repr\(C\)\]\n#\[derive\(Drop\)\]\npub struct (\w+)(?:<'a>)? \{\n(.*?)^\}$", re.M | re.S)
 FIELD = re.compile(r"\s*(?:///[^\n]*\n\s*)*pub (\w+): ([^\n]+),\n")
-EXPORT = re.compile(r"#\[unsafe\(no_mangle\)\]\n(?:#\[tactic\([^\n]*\n)?pub extern \"C\" fn (fe2o3_\w+)(?:<'a>)?"
-                    r"\(([^()]*)\)(?: -> (u32|usize))?(?: \{|((?:\n    [^\n]*)+)\n\{)\n")
+EXPORT = re.compile(
+    r"#\[unsafe\(no_mangle\)\]\n(?:#\[tactic\([^\n]*\n)?pub extern \"C\" fn (fe2o3_\w+)(?:<'a>)?"
+    r"\(([^()]*)\)(?: -> (u32|usize))?(?: \{|((?:\n    [^\n]*)+)\n\{)\n"
+)
 VARIANT = re.compile(r"\s*(?:(?:///|#\[)[^\n]*\n\s*)*(\w+)(?:\((\w+)\))?,\n")
 ARM = re.compile(r"\s*(\w+)::(\w+)(?:\((why)\))? => (?:(\d+)|(\w+)\(why\)),\n")
-TEXTS = re.compile(r"\bfn text_of\(status: u32\) [^\n]*\n(?:    ensures [^\n]*\n\{\n)?    match status \{\n"
-                   r"(.*?)^        _ => (b\"[^\n]*),\n    \}$", re.M | re.S)
+TEXTS = re.compile(
+    r"\bfn text_of\(status: u32\) [^\n]*\n(?:    ensures [^\n]*\n\{\n)?    match status \{\n"
+    r"(.*?)^        _ => (b\"[^\n]*),\n    \}$",
+    re.M | re.S,
+)
 TEXT = re.compile(r"\s*(\d+) => (b\"[^\"\\]+\\0\"),\n")
-SIZES = re.compile(r"\bfn size\(which: u32\) [^\n]*\n(?:    ensures [^\n]*\n\{\n)?    match which \{\n"
-                   r"(.*?)^        _ => 0,\n    \}$", re.M | re.S)
+SIZES = re.compile(
+    r"\bfn size\(which: u32\) [^\n]*\n(?:    ensures [^\n]*\n\{\n)?    match which \{\n"
+    r"(.*?)^        _ => 0,\n    \}$",
+    re.M | re.S,
+)
 SIZE = re.compile(r"\s*(\d+) => size_of::<(\w+)(?:<'static>)?>\(\),\n")
 ENUM = re.compile(r"^((?:/\*|  ?\*)[^\n]*\n(?: \*[^\n]*\n)*)enum fe2o3_(\w+) \{\n(.*?)^\};$", re.M | re.S)
 VALUE = re.compile(r"\s*/\* ((?:(?!\*/).)*) \*/\n\s*FE2O3_(\w+) = (\d+),?\n", re.S)
@@ -78,10 +113,17 @@ Status = namedtuple("Status", "doc name number")
 Enum = namedtuple("Enum", "doc name values")  # values: of Status
 
 # The export that is C, of bindings/wiping.
-WIPE = Export(["Overwrites memory by zeros. Unlike a `memset` before the end of a block, it is never dropped by a compiler.",
-               "Call it for each struct, password and message with a secret, once you no longer need it.",
-               "", "This function is written in C, and not proved."], "fe2o3_wipe",
-              [Part("memory", "mut", "void", None), Part("len", "value", "usize", None)], None)
+WIPE = Export(
+    [
+        "Overwrites memory by zeros. Unlike a `memset` before the end of a block, it is never dropped by a compiler.",
+        "Call it for each struct, password and message with a secret, once you no longer need it.",
+        "",
+        "This function is written in C, and not proved.",
+    ],
+    "fe2o3_wipe",
+    [Part("memory", "mut", "void", None), Part("len", "value", "usize", None)],
+    None,
+)
 
 
 def snake(name):
@@ -112,7 +154,7 @@ class Source:
     def doc(self, at, needed=False):
         """The lines of the doc in front of the line of a place, attributes between them left out."""
         doc = []
-        for line in reversed(self.text[:self.text.rfind("\n", 0, at + 1) + 1].splitlines()):
+        for line in reversed(self.text[: self.text.rfind("\n", 0, at + 1) + 1].splitlines()):
             if line.lstrip().startswith("///"):
                 doc.insert(0, line.lstrip()[4:])
             elif not line.lstrip().startswith("#["):
@@ -124,8 +166,10 @@ class Source:
     def variants(self, enum):
         """Place, doc, name and what it holds of each variant of an enum of this file."""
         opens = re.search(rf"^pub enum {enum} \{{\n(.*?)^\}}$", self.text, re.M | re.S)
-        return [(found.start(1), self.doc(found.start(1)), found[1], found[2])
-                for found in self.rows(*opens.span(1), VARIANT, "variant")]
+        return [
+            (found.start(1), self.doc(found.start(1)), found[1], found[2])
+            for found in self.rows(*opens.span(1), VARIANT, "variant")
+        ]
 
     def arms(self, at, head):
         """The arms of the `match` of the function with this head."""
@@ -147,8 +191,11 @@ class Reader:
             free = [one for one in waiting if not any(part.kind in names for _, part in one.fields)]
             self.structs += free or sys.exit("structs that hold each other")
             waiting = [one for one in waiting if one not in free]
-        self.exports = [self.export(source, one) for source in self.sources
-                        for one in source.each(r"^#\[unsafe\(no_mangle", EXPORT, "export")]
+        self.exports = [
+            self.export(source, one)
+            for source in self.sources
+            for one in source.each(r"^#\[unsafe\(no_mangle", EXPORT, "export")
+        ]
         marks = sum(len(re.findall(r"no_mangle|export_name", source.text)) for source in self.sources)
         if not 0 < marks == len({one.name for one in self.exports}):
             sys.exit(f"{folder}: {marks} times `no_mangle`, and not as many names of exports that are read")
@@ -175,7 +222,9 @@ class Reader:
         sections = []
         for title, kinds, calls in SECTIONS:
             names = ["fe2o3_" + call for call in calls.split()]
-            if missing := [one for one in kinds.split() if one not in structs] + [one for one in names if one not in exports]:
+            if missing := [one for one in kinds.split() if one not in structs] + [
+                one for one in names if one not in exports
+            ]:
                 sys.exit(f"{folder}: no {missing[0]}, which SECTIONS lists")
             sections.append((title, [structs.pop(one) for one in kinds.split()], [exports.pop(one) for one in names]))
         if structs or exports:
@@ -224,8 +273,11 @@ class Reader:
     def export(self, source, found):
         if re.search(r"\brequires\b", found[4] or ""):
             source.refuse(found.start(4), "a condition, of which C would learn nothing")
-        parts = [part for one in re.finditer(r"(\w+): ([^,]+)", found[2])
-                 for part in self.parts(source, found.start(2) + one.start(), one[1], one[2].strip(), False)]
+        parts = [
+            part
+            for one in re.finditer(r"(\w+): ([^,]+)", found[2])
+            for part in self.parts(source, found.start(2) + one.start(), one[1], one[2].strip(), False)
+        ]
         return Export(source.doc(found.start(), needed=True), found[1], parts, found[3])
 
     def read_statuses(self, source):
@@ -275,8 +327,12 @@ def comment(doc, indent=""):
 
 def rust_doc(doc, indent=""):
     def fill(part):
-        return textwrap.fill(part.replace("\n  ", "\n"), WIDTH - len(indent) - 4, break_on_hyphens=False,
-                             subsequent_indent="  " * part.startswith("- "))
+        return textwrap.fill(
+            part.replace("\n  ", "\n"),
+            WIDTH - len(indent) - 4,
+            break_on_hyphens=False,
+            subsequent_indent="  " * part.startswith("- "),
+        )
 
     # (each item of a list is filled by itself)
     text = "\n\n".join("\n".join(map(fill, re.split(r"\n(?=- )", part))) for part in "\n".join(doc).split("\n\n"))
@@ -311,10 +367,20 @@ def called(head, parts, tail, indent=""):
 #: The constants of new records and of mock records: a name in C and Rust, one in Python, the constant of the sources, its
 #: type in Rust, and what it is.
 DEFAULTS = [
-    ("DEFAULT_SALT_LEN", "DEFAULT_SALT_LENGTH", "DEFAULT_SALT_LEN", "usize",
-     "The length in bytes of the salt of a new record and of a mock record, unless you choose another one."),
-    ("DEFAULT_ITERATIONS", "DEFAULT_ITERATIONS", "DEFAULT_SCRAM_ITERATIONS", "u32",
-     "The iteration count of a new record and of a mock record, unless you choose another one."),
+    (
+        "DEFAULT_SALT_LEN",
+        "DEFAULT_SALT_LENGTH",
+        "DEFAULT_SALT_LEN",
+        "usize",
+        "The length in bytes of the salt of a new record and of a mock record, unless you choose another one.",
+    ),
+    (
+        "DEFAULT_ITERATIONS",
+        "DEFAULT_ITERATIONS",
+        "DEFAULT_SCRAM_ITERATIONS",
+        "u32",
+        "The iteration count of a new record and of a mock record, unless you choose another one.",
+    ),
 ]
 
 
@@ -340,8 +406,10 @@ def c_header(reader):
             out += [f"{comment(doc, '    ')}    {c_part(part)};\n" for doc, part in one.fields] + ["};\n"]
             if (one.name in written or one.name in LENT) and "const" in [part.form for _, part in one.fields]:
                 empty = ", ".join(map(c_empty, (part for _, part in one.fields)))
-                out.append(f"/* {LENT.get(one.name, 'Its value before its first use.')} */\n"
-                           f"#define FE2O3_{snake(one.name).upper()}_INIT {{ {empty} }}\n")
+                out.append(
+                    f"/* {LENT.get(one.name, 'Its value before its first use.')} */\n"
+                    f"#define FE2O3_{snake(one.name).upper()}_INIT {{ {empty} }}\n"
+                )
         for doc, name, parts, answer in exports:
             given = [c_part(part) for part in parts] or ["void"]
             out.append(f"\n{comment(doc)}" + called(f"{C_NUMBERS.get(answer, 'void')} {name}", given, ";"))
@@ -367,11 +435,22 @@ def c_wrappers(reader):
     for _, name, parts, answer in reader.exports:
         if name == WIPE.name:
             continue
-        kind, given = C_NUMBERS.get(answer, "void"), ", ".join(c_part(part).replace(" ", "~") for part in parts) or "void"
+        kind, given = (
+            C_NUMBERS.get(answer, "void"),
+            ", ".join(c_part(part).replace(" ", "~") for part in parts) or "void",
+        )
         passed = f"BELOW_PAD({'answer = ' if answer else ''}proved_{name}({', '.join(part.name for part in parts)}));"
-        out += ["\n", fill(f"{kind} proved_{name}({given});"), fill(f"{kind} {name}({given})"), "{\n",
-                f"    {kind} answer;\n" if answer else "", fill(passed, "    "),
-                f"    clear_stack(depth_{name.removeprefix('fe2o3_')});\n", "    return answer;\n" if answer else "", "}\n"]
+        out += [
+            "\n",
+            fill(f"{kind} proved_{name}({given});"),
+            fill(f"{kind} {name}({given})"),
+            "{\n",
+            f"    {kind} answer;\n" if answer else "",
+            fill(passed, "    "),
+            f"    clear_stack(depth_{name.removeprefix('fe2o3_')});\n",
+            "    return answer;\n" if answer else "",
+            "}\n",
+        ]
     return "".join(out)
 
 
@@ -386,14 +465,18 @@ def rust_block(reader):
     for name, _, source, kind, doc in DEFAULTS:
         out.append(f"\n{rust_doc([doc])}pub const {name}: {kind} = {default(source)};\n")
     for one in reader.enums:
-        out += [f"\n{rust_doc([f'`{one.name}`: ' + in_rust(doc)[0]])}pub const {name}: u32 = {number};\n"
-                for doc, name, number in one.values]
+        out += [
+            f"\n{rust_doc([f'`{one.name}`: ' + in_rust(doc)[0]])}pub const {name}: u32 = {number};\n"
+            for doc, name, number in one.values
+        ]
     for one in reader.structs:
         out.append(f"\n{rust_doc(in_rust(one.doc))}#[repr(C)]\n#[derive(Clone, Copy)]\npub struct {one.name} {{\n")
         out += [f"{rust_doc(in_rust(doc), '    ')}    pub {rust_part(part)},\n" for doc, part in one.fields] + ["}\n"]
     rows = "".join(f"    size_of::<{name}>(),\n" for name in reader.sized)
-    out.append(f"\n/// The sizes of the structs here, in the order of the numbers of `fe2o3_size`.\n"
-               f"pub const SIZES: [usize; {len(reader.sized)}] = [\n{rows}];\n")
+    out.append(
+        f"\n/// The sizes of the structs here, in the order of the numbers of `fe2o3_size`.\n"
+        f"pub const SIZES: [usize; {len(reader.sized)}] = [\n{rows}];\n"
+    )
     out.append('\nextern "C" {')
     for doc, name, parts, answer in reader.exports:
         given, tail = [rust_part(part) for part in parts], f" -> {answer};" if answer else ";"
@@ -428,46 +511,88 @@ def python_block(reader):
     enums = {one.name: one for one in reader.enums}
     out += [f"\n{one.name} = {one.number}" for one in enums["scram_version"].values] + ["\n"]
     out += [f"\n#: {doc}\n{name} = {default(source)}\n" for _, name, source, _, doc in DEFAULTS]
-    out.append(python_class("IntEnum", "Status", "What a call of the library returns. The header says what each means.",
-                            [(one.name, one.number) for one in reader.statuses]))
-    out.append(python_class("IntEnum", "Progress", "How far a login on a connection is.",
-                            [(one.name, one.number) for one in enums["progress"].values]))
-    out.append(python_class("IntFlag", "Offer", "What a server offers. PLAIN sends the password in clear, so offer it over TLS"
-                            " only. ACCEPT_CBIND_FLAG_Y\n    is no mechanism: SCRAM also accepts the GS2 header `y,,`, like `Server.first`"
-                            " with `accept_cbind_flag_y`.\n    PLAIN_PREPARED and PLAIN_SASLPREP, of which one is allowed, say which"
-                            " passwords PLAIN tests: the password as received,\n    or as the server prepares it by SASLprep."
-                            " Without them it rejects non-ASCII passwords.\n    SIGNATURE_BY_CHALLENGE: SCRAM sends the server's"
-                            " signature in a challenge, and the outcome follows the client's empty\n    response."
-                            " INITIAL_RESPONSE_BY_CHALLENGE: SCRAM and PLAIN answer an init without an initial response by"
-                            " an\n    empty challenge, and the client's response is then the initial response. STRICT: SCRAM"
-                            " reads messages by\n    the grammar of RFC 5802, section 7, like a `Server` with `strict`."
-                            " REJECT_MISPLACED: SCRAM rejects what is no\n    extension in the place of one, and nothing more,"
-                            " like a `Server` with `reject_misplaced`. A server with channels\n    does so in any case.",
-                            [(one.name.replace("OFFER_", ""), one.number) for one in enums["offer"].values]))
-    out.append(python_class("IntEnum", "PlainPasswords", "Which password `plain_verify` tests for the one of a message."
-                            " TYPED: the password as typed, which has to be\n    printable ASCII. PREPARED: the password as"
-                            " received, from a client that prepares it. SASLPREP: the text that\n    SASLprep prepares the"
-                            " received password to.",
-                            [(one.name.replace("PLAIN_PASSWORDS_", ""), one.number)
-                             for one in enums["plain_passwords"].values]))
-    out.append(python_class("IntEnum", "ChannelKind", "A kind of channel binding. Both sides have to use one kind."
-                            " TLS_UNIQUE (RFC 5929, section 3) is for TLS 1.2 and\n    older, TLS_SERVER_END_POINT (RFC 5929,"
-                            " section 4) for every version. TLS_EXPORTER (RFC 9266) is for TLS 1.3 and,\n    with the"
-                            " extended master secret, for TLS 1.2.",
-                            [(one.name, one.number) for one in enums["channel_kind"].values]))
+    out.append(
+        python_class(
+            "IntEnum",
+            "Status",
+            "What a call of the library returns. The header says what each means.",
+            [(one.name, one.number) for one in reader.statuses],
+        )
+    )
+    out.append(
+        python_class(
+            "IntEnum",
+            "Progress",
+            "How far a login on a connection is.",
+            [(one.name, one.number) for one in enums["progress"].values],
+        )
+    )
+    out.append(
+        python_class(
+            "IntFlag",
+            "Offer",
+            "What a server offers. PLAIN sends the password in clear, so offer it over TLS"
+            " only. ACCEPT_CBIND_FLAG_Y\n    is no mechanism: SCRAM also accepts the GS2 header `y,,`, like `Server.first`"
+            " with `accept_cbind_flag_y`.\n    PLAIN_PREPARED and PLAIN_SASLPREP, of which one is allowed, say which"
+            " passwords PLAIN tests: the password as received,\n    or as the server prepares it by SASLprep."
+            " Without them it rejects non-ASCII passwords.\n    SIGNATURE_BY_CHALLENGE: SCRAM sends the server's"
+            " signature in a challenge, and the outcome follows the client's empty\n    response."
+            " INITIAL_RESPONSE_BY_CHALLENGE: SCRAM and PLAIN answer an init without an initial response by"
+            " an\n    empty challenge, and the client's response is then the initial response. STRICT: SCRAM"
+            " reads messages by\n    the grammar of RFC 5802, section 7, like a `Server` with `strict`."
+            " REJECT_MISPLACED: SCRAM rejects what is no\n    extension in the place of one, and nothing more,"
+            " like a `Server` with `reject_misplaced`. A server with channels\n    does so in any case.",
+            [(one.name.replace("OFFER_", ""), one.number) for one in enums["offer"].values],
+        )
+    )
+    out.append(
+        python_class(
+            "IntEnum",
+            "PlainPasswords",
+            "Which password `plain_verify` tests for the one of a message."
+            " TYPED: the password as typed, which has to be\n    printable ASCII. PREPARED: the password as"
+            " received, from a client that prepares it. SASLPREP: the text that\n    SASLprep prepares the"
+            " received password to.",
+            [(one.name.replace("PLAIN_PASSWORDS_", ""), one.number) for one in enums["plain_passwords"].values],
+        )
+    )
+    out.append(
+        python_class(
+            "IntEnum",
+            "ChannelKind",
+            "A kind of channel binding. Both sides have to use one kind."
+            " TLS_UNIQUE (RFC 5929, section 3) is for TLS 1.2 and\n    older, TLS_SERVER_END_POINT (RFC 5929,"
+            " section 4) for every version. TLS_EXPORTER (RFC 9266) is for TLS 1.3 and,\n    with the"
+            " extended master secret, for TLS 1.2.",
+            [(one.name, one.number) for one in enums["channel_kind"].values],
+        )
+    )
     errors = [(one.name, one.number) for one in reader.statuses if one.name.startswith("SERVER_") and one.number < 60]
-    out.append(python_class("IntEnum", "Rejection", "Why a server answered a frame by the outcome Auth, for its log only:"
-                            " the peer receives that outcome for each of\n    them. Those that begin with SERVER are errors of"
-                            " a SCRAM message, with the numbers of `Status`.",
-                            [(one.name.replace("REJECTION_", ""), one.number)
-                             for one in enums["rejection"].values if one.number] + errors))
-    for name, title, prefix in [("mechanism", "_Mechanism", ""), ("secret", "_Secret", ""), ("password_form", "_Form", ""),
-                                ("channel_use", "_ChannelUse", "CHANNEL_"), ("unassigned", "_Unassigned", "UNASSIGNED_"),
-                                ("scram_server_state", "_ServerState", "SCRAM_SERVER_")]:
+    out.append(
+        python_class(
+            "IntEnum",
+            "Rejection",
+            "Why a server answered a frame by the outcome Auth, for its log only:"
+            " the peer receives that outcome for each of\n    them. Those that begin with SERVER are errors of"
+            " a SCRAM message, with the numbers of `Status`.",
+            [(one.name.replace("REJECTION_", ""), one.number) for one in enums["rejection"].values if one.number]
+            + errors,
+        )
+    )
+    for name, title, prefix in [
+        ("mechanism", "_Mechanism", ""),
+        ("secret", "_Secret", ""),
+        ("password_form", "_Form", ""),
+        ("channel_use", "_ChannelUse", "CHANNEL_"),
+        ("unassigned", "_Unassigned", "UNASSIGNED_"),
+        ("scram_server_state", "_ServerState", "SCRAM_SERVER_"),
+    ]:
         values = [(one.name.replace(prefix, ""), one.number) for one in enums[name].values]
         out.append(python_class("IntEnum", title, enums[name].doc[0].split(". ")[0].rstrip(".") + ".", values))
     for one in reader.structs:
-        rows = "".join(f'        ("{part.name}", {python_part(part, one.name in written)}),\n' for _, part in one.fields)
+        rows = "".join(
+            f'        ("{part.name}", {python_part(part, one.name in written)}),\n' for _, part in one.fields
+        )
         out.append(f"\n\nclass _{one.name}Struct(ctypes.Structure):\n    _fields_ = [\n{rows}    ]\n")
     rows = "".join(f"    _{name}Struct,\n" for name in reader.sized)
     out.append(f"\n\n# The structs in the order of the numbers of `fe2o3_size`.\n_SIZED = (\n{rows})\n")
@@ -476,8 +601,11 @@ def python_block(reader):
         given = [python_part(part, False) for part in parts]
         line = f'    "{name}": ({PYTHON_NUMBERS.get(answer)}, [{", ".join(given)}]),\n'
         rows = "".join(f"            {one},\n" for one in given)
-        out.append(line if len(line) <= WIDTH else
-                   f'    "{name}": (\n        {PYTHON_NUMBERS.get(answer)},\n        [\n{rows}        ],\n    ),\n')
+        out.append(
+            line
+            if len(line) <= WIDTH
+            else f'    "{name}": (\n        {PYTHON_NUMBERS.get(answer)},\n        [\n{rows}        ],\n    ),\n'
+        )
     return "".join(out) + "}\n\n\n"
 
 
@@ -502,9 +630,12 @@ def rust_page(reader, page):
     return rust_block(reader)
 
 
-PAGES = {"c": ("bindings/c/fe2o3_sasl.h", c_page), "wrappers": ("bindings/wiping/exports.c", wrappers_page),
-         "rust": ("bindings/rust/src/sys.rs", rust_page),
-         "python": ("bindings/python/fe2o3_sasl.py", python_page)}
+PAGES = {
+    "c": ("bindings/c/fe2o3_sasl.h", c_page),
+    "wrappers": ("bindings/wiping/exports.c", wrappers_page),
+    "rust": ("bindings/rust/src/sys.rs", rust_page),
+    "python": ("bindings/python/fe2o3_sasl.py", python_page),
+}
 
 
 def first_difference(page, wanted):

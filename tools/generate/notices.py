@@ -18,7 +18,7 @@ from collections import namedtuple
 from pathlib import Path
 
 TOP = Path(__file__).resolve().parents[2]
-PACKED = ("sasl_c", "scram")        # what packages and `make install-program` have
+PACKED = ("sasl_c", "scram")  # what packages and `make install-program` have
 FILE = re.compile(r"(?:LICEN[CS]E|NOTICE|COPYING)", re.I)
 LICENCE = re.compile(r"licen[cs]e", re.I)
 
@@ -27,12 +27,28 @@ SQLITE = "Its files name no other source and no licence. SQLite, whose file form
 WITHOUT = {
     "core": "A part of the kit's standard library. The heads of its files that name another source are quoted.",
     **dict.fromkeys(("std", "std_alloc", "std_collections", "std_heap", "std_io"), STD),
-    **dict.fromkeys(("io", "libc", "os"), "The kit's layer over the system's C library, whose code is not in the package."),
-    **dict.fromkeys(("sqlite_btree", "sqlite_disk", "sqlite_format", "sqlite_pager", "sqlite_pages", "sqlite_pool",
-                     "sqlite_record", "sqlite_std_file", "sqlite_trees", "sqlite_value", "sqlite_wal"), SQLITE),
+    **dict.fromkeys(
+        ("io", "libc", "os"), "The kit's layer over the system's C library, whose code is not in the package."
+    ),
+    **dict.fromkeys(
+        (
+            "sqlite_btree",
+            "sqlite_disk",
+            "sqlite_format",
+            "sqlite_pager",
+            "sqlite_pages",
+            "sqlite_pool",
+            "sqlite_record",
+            "sqlite_std_file",
+            "sqlite_trees",
+            "sqlite_value",
+            "sqlite_wal",
+        ),
+        SQLITE,
+    ),
 }
 
-Notice = namedtuple("Notice", "crate name text")    # a crate, the file that the notice is from, and what it says
+Notice = namedtuple("Notice", "crate name text")  # a crate, the file that the notice is from, and what it says
 
 
 class Fault(Exception):
@@ -108,8 +124,14 @@ def text_of(crate, top, kit):
         texts.setdefault(notice.text.strip("\n"), []).append(f"{notice.crate} ({notice.name})")
     if any("Unicode License" in text for text in texts) and not any("UNICODE LICENSE" in text for text in texts):
         raise Fault(f"{crate} links data under the Unicode License, and no notice has its text")
-    out = [f"{crate} of fe2o3_sasl contains code of these crates of the Rattle kit, {(kit / 'KIT-ID').read_text().strip()}:",
-           "", *(f"- {name}" for name in crates), "", "Their notices follow, each text once, as the kit has them.", ""]
+    out = [
+        f"{crate} of fe2o3_sasl contains code of these crates of the Rattle kit, {(kit / 'KIT-ID').read_text().strip()}:",
+        "",
+        *(f"- {name}" for name in crates),
+        "",
+        "Their notices follow, each text once, as the kit has them.",
+        "",
+    ]
     for text, names in texts.items():
         out += ["-" * 72, "", *names, "", text, ""]
     own = [name for name in crates if name in WITHOUT]

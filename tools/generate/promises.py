@@ -9,7 +9,7 @@ A call is a public function, a public method of a public type, a function of a p
 of the C library. Its row has the first sentence of its comment, the names of its clauses, the definitions of specs/
 that each clause cites, and the wrong bodies that are planted in it. A table for each crate lists all its wrong bodies:
 the first sentence of the edit, the function that it turns, and the clause that refuses it. Last come the definitions
-that the headline theorem rests on, as tools/believed.py counts them. README.md quotes three of these counts.
+that the headline theorem rests on, as tools/trusted_definitions.py counts them. README.md quotes three of these counts.
 """
 import re
 import sys
@@ -17,10 +17,10 @@ from dataclasses import dataclass
 from pathlib import Path
 
 HERE = Path(__file__).resolve().parent
-# (signatures.py is beside this file, believed.py one folder up)
+# (signatures.py is beside this file, trusted_definitions.py one folder up)
 sys.path[:0] = [str(HERE), str(HERE.parent)]
 
-import believed
+import trusted_definitions as trusted
 import signatures
 
 # (the exported functions of the C library are items too)
@@ -30,8 +30,16 @@ CRATES = signatures.CRATES
 PAGE = CRATES.parent / "docs" / "PROMISES.md"
 README = CRATES.parent / "README.md"
 # The crates whose calls are listed, with those that a program or a proof calls first.
-WITH_CALLS = ("fe2o3_sasl_negotiation", "fe2o3_sasl_core", "fe2o3_scram", "fe2o3_sasl", "connection_laws",
-              "fe2o3_sasl_wire", "saslprep", "sasl_c")
+WITH_CALLS = (
+    "fe2o3_sasl_negotiation",
+    "fe2o3_sasl_core",
+    "fe2o3_scram",
+    "fe2o3_sasl",
+    "connection_laws",
+    "fe2o3_sasl_wire",
+    "saslprep",
+    "sasl_c",
+)
 WIDTH = 400
 # The pages written by hand whose names are looked for in the sources.
 BY_HAND = ("docs/THEOREMS.md", "docs/SPECIFICATION.md")
@@ -53,6 +61,7 @@ the check rejects in it. `tools/generate/promises.py write` writes this page fro
 @dataclass
 class Call:
     """A call: its type or trait, its name, the first sentence of its comment, and its clauses."""
+
     owner: str
     name: str
     sentence: str
@@ -65,6 +74,7 @@ class Call:
 @dataclass
 class WrongBody:
     """An edit: its name, its first sentence, what refuses it, and the file and the function that it turns."""
+
     name: str
     sentence: str
     refused: str
@@ -92,13 +102,17 @@ def head_of(block):
     for at, line in enumerate(block):
         if line in (indent + "{", indent + "{}"):
             return block[:at]
-        if at and line.startswith(indent) and line[len(indent):len(indent) + 1] not in (" ", ")", "") and (
-                line.strip() != "where"):
+        if (
+            at
+            and line.startswith(indent)
+            and line[len(indent) : len(indent) + 1] not in (" ", ")", "")
+            and (line.strip() != "where")
+        ):
             return block[:at]
         if at == 0 and line.endswith("{") or line.startswith(indent + ")") and line.endswith("{"):
-            return block[:at + 1]
+            return block[: at + 1]
         if line.endswith(";"):
-            return block[:at + 1]
+            return block[: at + 1]
     return block
 
 
@@ -111,7 +125,7 @@ def clauses(block, names):
         while depth and end < len(text):
             depth += {"{": 1, "}": -1}.get(text[end], 0)
             end += 1
-        words = dict.fromkeys(re.findall(r"[\w-]+", text[clause.end():end]))
+        words = dict.fromkeys(re.findall(r"[\w-]+", text[clause.end() : end]))
         mine = [word for word in words if word in names and word not in ("record",)]
         found.append(((clause[1] or "").strip(), sorted(mine, key=lambda word: not word[0].isupper())))
     return found
@@ -158,12 +172,18 @@ def calls_of(crate):
 
 def function_at(text, at):
     """The function whose body has this place: a method by its type."""
-    heads = [it for it in re.finditer(r"^( *)(?:pub(?:\(\w+\))? )?(?:const )?(?:extern \"C\" )?fn (\w+)", text, re.M)
-             if it.start() <= at]
+    heads = [
+        it
+        for it in re.finditer(r"^( *)(?:pub(?:\(\w+\))? )?(?:const )?(?:extern \"C\" )?fn (\w+)", text, re.M)
+        if it.start() <= at
+    ]
     if not heads:
         return ""
-    owners = [it for it in re.finditer(r"^(?:impl(?:<.*?>)? (?:[^{\n]* for )?|pub trait )(\w+)", text, re.M)
-              if it.start() < heads[-1].start()]
+    owners = [
+        it
+        for it in re.finditer(r"^(?:impl(?:<.*?>)? (?:[^{\n]* for )?|pub trait )(\w+)", text, re.M)
+        if it.start() < heads[-1].start()
+    ]
     return f"{owners[-1][1]}::{heads[-1][2]}" if heads[-1][1] and owners else heads[-1][2]
 
 
@@ -177,8 +197,15 @@ def wrong_bodies(crate):
         old = next(line for line in lines if line.startswith("old: ")).removeprefix("old: ")
         file = next(line for line in lines[start:]).removeprefix("file:").strip()
         source = (CRATES / crate / file).read_text(encoding="utf-8")
-        found.append(WrongBody(edit.stem, signatures.first_sentence([text]), refused[1] if refused else "",
-                               file, function_at(source, source.find(old))))
+        found.append(
+            WrongBody(
+                edit.stem,
+                signatures.first_sentence([text]),
+                refused[1] if refused else "",
+                file,
+                function_at(source, source.find(old)),
+            )
+        )
     return found
 
 
@@ -186,16 +213,22 @@ def shown(call, most, places):
     """The clauses of a call, of the first of them with at most that many definitions for each."""
     parts = []
     for at, (name, cites) in enumerate(call.clauses):
-        words = ", ".join(f"`{word}`" for word in cites[:most if at < places else 0])
+        words = ", ".join(f"`{word}`" for word in cites[: most if at < places else 0])
         parts.append(f"{f'`{name}`' if name else ''}{f' ({words})' if words else ''}".strip() or "unnamed")
     return ", ".join(parts) or "none"
 
 
+def unlinked(sentence):
+    """A sentence without the links of rustdoc, whose targets are paths of items."""
+    return re.sub(r"\[(`[^`]*`)\](?:\([\w:]+\))?", r"\1", sentence)
+
+
 def row_of(call, planted):
-    """A row, with as many definitions as its width permits, and else with a shorter sentence."""
+    """A row, with as many definitions as its width permits, and otherwise with a shorter sentence."""
     bodies = ", ".join(f"`{name}`" for name in planted)
     tries = [(3, 99), (2, 99), (1, 99), *((1, places) for places in range(len(call.clauses), -1, -1))]
-    for sentence in (call.sentence, call.sentence.split(": ")[0] + ".", call.sentence[:160].rpartition(" ")[0] + " .."):
+    whole = unlinked(call.sentence)
+    for sentence in (whole, whole.split(": ")[0] + ".", whole[:160].rpartition(" ")[0] + " .."):
         for most, places in tries:
             row = f"| `{call}` | {sentence} | {shown(call, most, places)} | {bodies} |"
             if len(row) <= WIDTH:
@@ -215,7 +248,13 @@ def section(crate, with_calls):
         for call in mine:
             out.append(row_of(call, [body.name for body in bodies if body.file == path and body.function == str(call)]))
     if bodies:
-        out += ["", f"Wrong bodies of `{crate}`:", "", "| Edit | What is wrong | Function | Rejected by |", "|---|---|---|---|"]
+        out += [
+            "",
+            f"Wrong bodies of `{crate}`:",
+            "",
+            "| Edit | What is wrong | Function | Rejected by |",
+            "|---|---|---|---|",
+        ]
         for body in bodies:
             link = f"[{body.name}](../crates/{crate}/wrong-bodies/{body.name}.edit)"
             out.append(f"| {link} | {body.sentence} | `{body.function}` | {body.refused or 'its clause'} |")
@@ -223,31 +262,50 @@ def section(crate, with_calls):
 
 
 # The laws of connections whose definitions are counted.
-LAWS = ("fe2o3_sasl_negotiation::server_connections", "fe2o3_sasl_negotiation::client_connections",
-        "fe2o3_sasl_negotiation::users_of_any_mechanism", "connection_laws::any_mechanism",
-        "connection_laws::restrict_mechanisms", "connection_laws::external", "connection_laws::plain")
+LAWS = (
+    "fe2o3_sasl_negotiation::server_connections",
+    "fe2o3_sasl_negotiation::client_connections",
+    "fe2o3_sasl_negotiation::users_of_any_mechanism",
+    "connection_laws::any_mechanism",
+    "connection_laws::restrict_mechanisms",
+    "connection_laws::external",
+    "connection_laws::plain",
+)
 
 
 def counted(name, words):
     """How much the statements of these words rest on, as a row."""
-    starts, arguments = believed.statements(words)
-    reached, more = believed.rest_on(starts), believed.rest_on(starts + arguments)
-    lines, more_lines = believed.lines_of(reached), believed.lines_of(more)
+    starts, arguments = trusted.statements(words)
+    reached, more = trusted.rest_on(starts), trusted.rest_on(starts + arguments)
+    lines, more_lines = trusted.lines_of(reached), trusted.lines_of(more)
     return f"| {name} | {len(reached)} | {lines} | {len(more)} | {more_lines} |"
 
 
 def definitions():
     """The definitions that the headline rests on: of each statement how many, and those over frames by file."""
-    out = ["", "## Definitions of the headline", "",
-           "What the statements rest on: definitions, and their lines with comments. The last two columns add the arguments",
-           "of the clauses. Not counted: definitions of the kit, and types that code declares (`tools/believed.py`).", "",
-           "| Statement | Definitions | Lines | With arguments | Lines |", "|---|---|---|---|---|",
-           counted("the headline over frame bodies (`Headline`)", [believed.HEADLINE])]
+    out = [
+        "",
+        "## Definitions of the headline",
+        "",
+        "What the statements rest on: definitions, and their lines with comments. The last two columns add the arguments",
+        "of the clauses. Not counted: definitions of the kit, and types that code declares"
+        " (`tools/trusted_definitions.py`).",
+        "",
+        "| Statement | Definitions | Lines | With arguments | Lines |",
+        "|---|---|---|---|---|",
+        counted("the headline over frame bodies (`Headline`)", [trusted.HEADLINE]),
+    ]
     out += [counted(f"`{law.split('::')[1]}`", [law]) for law in LAWS]
-    out += [counted("`server_connections` and `client_connections`", LAWS[:2]), "",
-            "The headline over frame bodies, by file:", "", "| Crate | File | Definitions | Lines |", "|---|---|---|---|"]
-    reached = believed.rest_on(believed.whole(believed.HEADLINE))
-    for module, (_, _, _, all_of) in sorted(believed.FILES.items()):
+    out += [
+        counted("`server_connections` and `client_connections`", LAWS[:2]),
+        "",
+        "The headline over frame bodies, by file:",
+        "",
+        "| Crate | File | Definitions | Lines |",
+        "|---|---|---|---|",
+    ]
+    reached = trusted.rest_on(trusted.whole(trusted.HEADLINE))
+    for module, (_, _, _, all_of) in sorted(trusted.FILES.items()):
         mine = [all_of[place][2] for at, place in reached if at == module]
         if mine:
             crate, name = re.match(r"Rattle\.(\w+)\.specs\.(.*)", module).groups()
@@ -257,14 +315,16 @@ def definitions():
 
 
 # What README.md says of the lines of these definitions.
-QUOTED = re.compile(r"[\d,]+ lines for the theorem over frames, [\d,]+ over bytes, and [\d,]+ with the arguments of the laws")
+QUOTED = re.compile(
+    r"[\d,]+ lines for the theorem over frames, [\d,]+ over bytes, and [\d,]+ with the arguments of the laws"
+)
 
 
 def quoted_counts():
     """The words of README.md on the lines of the definitions: over frames, over bytes, and these with the arguments."""
-    starts, arguments = believed.statements(LAWS[:2])
-    counts = (believed.reached_from(believed.HEADLINE), believed.rest_on(starts), believed.rest_on(starts + arguments))
-    frames, stream, more = (f"{believed.lines_of(reached):,}" for reached in counts)
+    starts, arguments = trusted.statements(LAWS[:2])
+    counts = (trusted.reached_from(trusted.HEADLINE), trusted.rest_on(starts), trusted.rest_on(starts + arguments))
+    frames, stream, more = (f"{trusted.lines_of(reached):,}" for reached in counts)
     return f"{frames} lines for the theorem over frames, {stream} over bytes, and {more} with the arguments of the laws"
 
 
@@ -283,15 +343,16 @@ def page():
         out += section(crate, True)
     for crate in others:
         out += section(crate, False)
-    # (a comment links to an item by its path, which is no page)
-    return re.sub(r"\[(`\w+`)\]\([\w:]+\)", r"\1", "\n".join(out + definitions()) + "\n")
+    return "\n".join(out + definitions()) + "\n"
 
 
 def unknown_names():
     """The names in backticks of the pages written by hand that no source has, each with its place."""
     top = CRATES.parent
     files = [path for path in CRATES.glob("*/*/**/*") if path.suffix in (".rt", ".antt") and "out" not in path.parts]
-    known = {path.name for path in files} | {path.name for path in top.iterdir()} | {path.name for path in CRATES.iterdir()}
+    known = (
+        {path.name for path in files} | {path.name for path in top.iterdir()} | {path.name for path in CRATES.iterdir()}
+    )
     for path in files:
         known |= set(re.findall(r"\w+", path.read_text(encoding="utf-8")))
     for page in BY_HAND:
@@ -321,8 +382,10 @@ def main():
     for line in wrong:
         print(f"promises: {line}", file=sys.stderr)
     if not wrong and sys.argv[1] == "check":
-        print("promises: docs/PROMISES.md and the counts of README.md are as the sources say, and every name of the pages"
-              " for auditors exists")
+        print(
+            "promises: docs/PROMISES.md and the counts of README.md are as the sources say, and every name of the pages"
+            " for auditors exists"
+        )
     sys.exit(1 if wrong else 0)
 
 

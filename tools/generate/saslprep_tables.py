@@ -6,8 +6,8 @@
 
 The tables are those of Python's module `stringprep`, which were made of the text of RFC 3454. They are written
 twice: as lists of ranges, which the definitions cite (specs/Tables.antt), and as sorted runs, which the code
-searches (src/table_runs.rt); the proof shows that both say the same. `tools/models/saslprep_answers.py` compares them with the tables of
-GNU libidn.
+searches (src/table_runs.rt); the proof shows that both say the same. `tools/models/saslprep_answers.py` compares
+them with the tables of GNU libidn.
 """
 import os
 import stringprep

@@ -24,6 +24,7 @@ CONTRACT = re.compile(r"\s*(ensures|requires|ghost|decreases|terminates)\b")
 @dataclass
 class Item:
     """A type, a trait, a function or a constant: its lines, comments apart."""
+
     kind: str
     name: str
     sentence: str
@@ -34,6 +35,7 @@ class Item:
 @dataclass
 class Module:
     """A module: its path below the crate, what it defines, and what it re-exports, as paths."""
+
     path: tuple
     public: bool
     sentence: str
@@ -196,8 +198,12 @@ def read(crate, path, public):
 def closes(block):
     """Whether these lines are a whole item."""
     last = block[-1]
-    return last in ("}", "{}") or last.endswith(";") and not last.startswith(" ") or (
-        len(block) == 1 and last.endswith("}"))
+    return (
+        last in ("}", "{}")
+        or last.endswith(";")
+        and not last.startswith(" ")
+        or (len(block) == 1 and last.endswith("}"))
+    )
 
 
 def exported(text, path):
@@ -304,8 +310,11 @@ class Library:
         if item.kind == "type":
             return out + [" ".join(line.strip() for line in item.lines)] + self.methods(item)
         if item.kind in ("const", "static"):
-            return out + [re.sub(r"\s*=.*", ";", " ".join(line.strip() for line in item.lines))
-                          if item.kind == "static" else " ".join(line.strip() for line in item.lines)]
+            return out + [
+                re.sub(r"\s*=.*", ";", " ".join(line.strip() for line in item.lines))
+                if item.kind == "static"
+                else " ".join(line.strip() for line in item.lines)
+            ]
         return out + fields(item.lines) + self.traits(item) + self.methods(item)
 
     def trait(self, item):

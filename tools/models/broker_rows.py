@@ -34,7 +34,9 @@ def offered(records):
     for line in records.splitlines():
         user, text = line.rsplit(" ", 1)
         users.setdefault(user, set()).add(text.partition("$")[0])
-    return [name for name in ("SCRAM-SHA-512", "SCRAM-SHA-256", "SCRAM-SHA-1") if all(name in has for has in users.values())]
+    return [
+        name for name in ("SCRAM-SHA-512", "SCRAM-SHA-256", "SCRAM-SHA-1") if all(name in has for has in users.values())
+    ]
 
 
 def form_of(records):
@@ -67,7 +69,7 @@ def record_of(records, mechanism, name):
     for line in records.splitlines():
         user, text = line.rsplit(" ", 1)
         if user.encode() == model.escaped(name) and text.startswith(mechanism + "$"):
-            count, salt, stored, server = text[len(mechanism) + 1:].replace("$", ":").split(":")
+            count, salt, stored, server = text[len(mechanism) + 1 :].replace("$", ":").split(":")
             return base64.b64decode(salt), int(count), base64.b64decode(stored), base64.b64decode(server)
     how = model.HASHES[mechanism]
     salt = model.mac("sha512", SECRET, b"Salt:%b:%b" % (mechanism.encode(), name))
@@ -202,8 +204,11 @@ paragraphs run
 def files():
     """Each file and what it has to hold. The run: a wrong password, and then the right one."""
     _, _, came, sent, _, _ = row("", True, WRONG_PLAIN, PLAIN)
-    return {ROOT / "crates/test_driver_programs/data/brokers.txt": "".join(rows()).encode(),
-            CRATE / "stdin": came + model.AMQP, CRATE / "stdout": sent}
+    return {
+        ROOT / "crates/test_driver_programs/data/brokers.txt": "".join(rows()).encode(),
+        CRATE / "stdin": came + model.AMQP,
+        CRATE / "stdout": sent,
+    }
 
 
 def main():

@@ -69,7 +69,9 @@ class Exchange:
     """A login, with this GS2 header in the client's first message and this one in its last, and with a text after the known
     parts of each message."""
 
-    def __init__(self, mechanism, header, repeated, first="", challenge="", last="", verifier="", user=USER, nonce=CLIENT_NONCE):
+    def __init__(
+        self, mechanism, header, repeated, first="", challenge="", last="", verifier="", user=USER, nonce=CLIENT_NONCE
+    ):
         self.mechanism = mechanism
         name = HASHES[mechanism]
         self.bare = f"n={user},r={nonce}{first}"
@@ -98,7 +100,6 @@ class Exchange:
 
     def not_believed(self):
         return f"{NO_NONCE.hex()} {response(self.client_final).hex()} => Outcome:Auth {AUTH.hex()}"
-
 
     def offered(self):
         """The client begins. Its nonce is 32 bytes 01."""
@@ -135,8 +136,12 @@ def accepting(mechanism):
     yes, no = Exchange(mechanism, "y,,", "y,,"), Exchange(mechanism, "n,,", "n,,")
     lines = [yes.challenged()]
     lines += [Exchange(mechanism, "y,,", "y,,", last=end).not_believed() for end in MISPLACED]
-    yield run("A client that could bind a channel, with a misplaced attribute in its last message.", "cbind_flag_y", mechanism,
-        [*lines, yes.believed()])
+    yield run(
+        "A client that could bind a channel, with a misplaced attribute in its last message.",
+        "cbind_flag_y",
+        mechanism,
+        [*lines, yes.believed()],
+    )
     lines = []
     for header, first, last in (("n,,", "", ",i=4096"), ("n,,", ",i=4096", ""), ("y,,", ",i=4096", "")):
         other = Exchange(mechanism, header, header, first=first, last=last)
@@ -150,8 +155,12 @@ def rejecting(mechanism):
     lines = [Exchange(mechanism, "n,,", "n,,", first=end).not_challenged() for end in MISPLACED]
     lines += [no.challenged()]
     lines += [Exchange(mechanism, "n,,", "n,,", last=end).not_believed() for end in MISPLACED]
-    yield run("A misplaced attribute in each message.", "reject_misplaced", mechanism,
-        [*lines, no.believed(), yes.not_challenged()])
+    yield run(
+        "A misplaced attribute in each message.",
+        "reject_misplaced",
+        mechanism,
+        [*lines, no.believed(), yes.not_challenged()],
+    )
     lines = []
     for end in EXTENSIONS:
         for other in (Exchange(mechanism, "n,,", "n,,", first=end), Exchange(mechanism, "n,,", "n,,", last=end)):
@@ -160,8 +169,13 @@ def rejecting(mechanism):
     loose = Exchange(mechanism, "n,,", "n,,", user="", nonce="a b\x7f")
     misplaced = Exchange(mechanism, "n,,", "n,,", user="", nonce="a b\x7f", first=",i=4096")
     empty = Exchange(mechanism, "n,,", "n,,", user="", nonce="")
-    yield run("An empty name, and a nonce that the grammar forbids.", "reject_misplaced", mechanism,
-        [misplaced.not_challenged(), loose.challenged(), loose.believed(), empty.challenged(), empty.believed()], user="")
+    yield run(
+        "An empty name, and a nonce that the grammar forbids.",
+        "reject_misplaced",
+        mechanism,
+        [misplaced.not_challenged(), loose.challenged(), loose.believed(), empty.challenged(), empty.believed()],
+        user="",
+    )
 
 
 def unoffered(mechanism):
@@ -171,11 +185,18 @@ def unoffered(mechanism):
     lines += [Exchange(mechanism, "y,,", "y,,", challenge=end).not_answered() for end in MISPLACED]
     lines += [yes.answered()]
     lines += [Exchange(mechanism, "y,,", "y,,", verifier=end).not_verified() for end in MISPLACED]
-    yield run("A client that says `y,,`, with a misplaced attribute in each message.", "client_unoffered", mechanism,
-        [*lines, yes.verified()])
+    yield run(
+        "A client that says `y,,`, with a misplaced attribute in each message.",
+        "client_unoffered",
+        mechanism,
+        [*lines, yes.verified()],
+    )
     lines = []
     for end in EXTENSIONS:
-        for other in (Exchange(mechanism, "y,,", "y,,", challenge=end), Exchange(mechanism, "y,,", "y,,", verifier=end)):
+        for other in (
+            Exchange(mechanism, "y,,", "y,,", challenge=end),
+            Exchange(mechanism, "y,,", "y,,", verifier=end),
+        ):
             lines += [other.offered(), other.answered(), other.verified()]
     yield run("A client that says `y,,`, with extensions.", "client_unoffered", mechanism, lines)
 
@@ -190,15 +211,45 @@ def text():
         other = Exchange(mechanism, "n,,", "y,,")
         bound = Exchange(mechanism, "p=tls-unique,,", "p=tls-unique,,")
         acting = Exchange(mechanism, "y,a=admin,", "y,a=admin,")
-        runs.append(run("A client that could bind a channel, and one that cannot.", "cbind_flag_y", mechanism,
-            [yes.challenged(), yes.believed(), no.challenged(), no.believed()]))
-        runs.append(run("The last message repeats the header of the first, and no other.", "cbind_flag_y", mechanism,
-            [yes.challenged(), swapped.not_believed(), yes.believed(), no.challenged(), other.not_believed(),
-             no.believed()]))
-        runs.append(run("A client that binds a channel, and one that acts for another.", "cbind_flag_y", mechanism,
-            [bound.not_challenged(), acting.not_challenged(), yes.challenged(), yes.believed()]))
-        runs.append(run("A server that was not asked to.", "server", mechanism,
-            [yes.not_challenged(), yes.not_believed(), no.challenged(), other.not_believed(), no.believed()]))
+        runs.append(
+            run(
+                "A client that could bind a channel, and one that cannot.",
+                "cbind_flag_y",
+                mechanism,
+                [yes.challenged(), yes.believed(), no.challenged(), no.believed()],
+            )
+        )
+        runs.append(
+            run(
+                "The last message repeats the header of the first, and no other.",
+                "cbind_flag_y",
+                mechanism,
+                [
+                    yes.challenged(),
+                    swapped.not_believed(),
+                    yes.believed(),
+                    no.challenged(),
+                    other.not_believed(),
+                    no.believed(),
+                ],
+            )
+        )
+        runs.append(
+            run(
+                "A client that binds a channel, and one that acts for another.",
+                "cbind_flag_y",
+                mechanism,
+                [bound.not_challenged(), acting.not_challenged(), yes.challenged(), yes.believed()],
+            )
+        )
+        runs.append(
+            run(
+                "A server that was not asked to.",
+                "server",
+                mechanism,
+                [yes.not_challenged(), yes.not_believed(), no.challenged(), other.not_believed(), no.believed()],
+            )
+        )
     mechanism = "SCRAM-SHA-256"
     return "".join([*runs, *accepting(mechanism), *rejecting(mechanism), *unoffered(mechanism)])
 
@@ -210,7 +261,9 @@ def main():
     if sys.argv[1:] == ["check"]:
         made = text()
         same = FILE.read_text() == made
-        print(f"{FILE.name}: {made.count(chr(10) + '# ') - HEAD.count(chr(10) + '# ')} runs{'' if same else ', which differ'}")
+        print(
+            f"{FILE.name}: {made.count(chr(10) + '# ') - HEAD.count(chr(10) + '# ')} runs{'' if same else ', which differ'}"
+        )
         return 0 if same else 1
     print(__doc__, file=sys.stderr)
     return 2

@@ -10,7 +10,6 @@ bodies here, and pairs equal verifiers and equal proofs. Nothing of this reposit
 import base64
 import re
 import sys
-from pathlib import Path
 
 sys.dont_write_bytecode = True
 
@@ -57,8 +56,16 @@ class Client(model.ScramClient):
     """A client that rejects what is no extension in the place of one if it has a channel, bound or not, or is set to, and
     has a minimum iteration count too."""
 
-    def __init__(self, mechanism=SHA_256, bound=None, unoffered=False, strict=False, by_challenge=False, least=1,
-                 most=model.HIGHEST):
+    def __init__(
+        self,
+        mechanism=SHA_256,
+        bound=None,
+        unoffered=False,
+        strict=False,
+        by_challenge=False,
+        least=1,
+        most=model.HIGHEST,
+    ):
         channel = bound and (header_of(bound[0]), bound[1])
         super().__init__(mechanism, USER, PASSWORD, most, by_challenge=by_challenge, channel=channel)
         if unoffered:
@@ -66,9 +73,13 @@ class Client(model.ScramClient):
         self.is_strict = strict or unoffered or bound is not None
         self.version, self.least, self.is_due = mechanism, least, False
         self.options = [
-            *(["client", bound[0], bound[1].hex()] if bound else []), *(["unoffered"] if unoffered else []),
-            *(["strict"] if strict else []), *(["signature_by_challenge"] if by_challenge else []),
-            *(["least", str(least)] if least != 1 else []), *(["most", str(most)] if most != model.HIGHEST else [])]
+            *(["client", bound[0], bound[1].hex()] if bound else []),
+            *(["unoffered"] if unoffered else []),
+            *(["strict"] if strict else []),
+            *(["signature_by_challenge"] if by_challenge else []),
+            *(["least", str(least)] if least != 1 else []),
+            *(["most", str(most)] if most != model.HIGHEST else []),
+        ]
 
     def first(self, nonce):
         self.signature, self.is_verified, self.is_due = None, False, True
@@ -105,8 +116,11 @@ class Server(model.ScramServer):
         headers = [header_of(bound[0])] if bound else [b"n,,", *([b"y,,"] if accepts_y else [])]
         super().__init__(mechanism, USER, PASSWORD, SALT, COUNT, tuple(headers), bound[1] if bound else b"")
         self.is_strict, self.is_lax = bound is not None or rejects, False
-        self.options = [*(["server", bound[0], bound[1].hex()] if bound else []),
-                        *(["cbind_flag_y"] if accepts_y else []), *(["reject_misplaced"] if rejects else [])]
+        self.options = [
+            *(["server", bound[0], bound[1].hex()] if bound else []),
+            *(["cbind_flag_y"] if accepts_y else []),
+            *(["reject_misplaced"] if rejects else []),
+        ]
 
     def init(self, mechanism, message, nonce):
         if self.is_strict and not self.is_lax and is_misplaced(message.split(b",,", 1)[-1].split(b",")[2:]):
@@ -238,8 +252,11 @@ class Shifted(Login):
         final = client.challenge(challenge)
         altered = b"c=%b,r=%b,%b" % (binding, server.nonce, final)
         signature = server.response(altered)[1][1]
-        self.client = [(CLIENT_NONCE, body("Mechanisms", [name])), (NO_NONCE, body("Challenge", challenge)),
-                       (NO_NONCE, body("Outcome", 0, signature))]
+        self.client = [
+            (CLIENT_NONCE, body("Mechanisms", [name])),
+            (NO_NONCE, body("Challenge", challenge)),
+            (NO_NONCE, body("Outcome", 0, signature)),
+        ]
         self.server = [(SERVER_NONCE, body("Init", name, init, None)), (NO_NONCE, body("Response", altered))]
 
 
@@ -259,8 +276,11 @@ class TalkedOut(Login):
         challenge = first + b"," + moved
         altered = moved + b"," + client.challenge(challenge)
         signature = server.response(altered)[1][1]
-        self.client = [(CLIENT_NONCE, body("Mechanisms", [client.mechanism.encode()])), (NO_NONCE, body("Challenge", challenge)),
-                       (NO_NONCE, body("Outcome", 0, signature))]
+        self.client = [
+            (CLIENT_NONCE, body("Mechanisms", [client.mechanism.encode()])),
+            (NO_NONCE, body("Challenge", challenge)),
+            (NO_NONCE, body("Outcome", 0, signature)),
+        ]
         self.server = [(SERVER_NONCE, body("Init", name, init, None)), (NO_NONCE, body("Response", altered))]
 
 
@@ -286,30 +306,60 @@ def channels():
         apart = Login(Client(**own), Server(**other))
         yield row("The server has other data of the channel.", apart, Client(**own), Server(**other), 0)
         whole = Login(Client(**own), Server(**own))
-        yield row("The server has other data of the channel. The client receives the signature that its own channel has.",
-                  whole, Client(**own), Server(**other), 0)
+        yield row(
+            "The server has other data of the channel. The client receives the signature that its own channel has.",
+            whole,
+            Client(**own),
+            Server(**other),
+            0,
+        )
         yield row("The client has other data of the channel.", whole, Client(**other), Server(**own), 0)
         there = Login(Client(**other), Server(**other))
         yield row("The bodies are of a login by another channel.", there, Client(**own), Server(**own), 0)
     data = KINDS[KIND]
     own, other = {"bound": (KIND, data)}, {"bound": ("tls-server-end-point", data)}
-    yield row("The server has the data by another kind.", Login(Client(**own), Server(**other)), Client(**own),
-              Server(**other), 0)
+    yield row(
+        "The server has the data by another kind.",
+        Login(Client(**own), Server(**other)),
+        Client(**own),
+        Server(**other),
+        0,
+    )
     unbound = Login(Client(), Server())
     yield row("The bodies are of a login without a channel.", unbound, Client(**own), Server(**own), 0)
     whole = Login(Client(**own), Server(**own))
     yield row("The client of a login with a channel has none.", whole, Client(strict=True), Server(**own), 0)
     by_challenge = Client(**own, by_challenge=True)
-    yield row("Both sides bind one channel. The signature comes in a challenge.",
-              Login(Client(**own), Server(**own), signs=True), by_challenge, Server(**own), 2)
+    yield row(
+        "Both sides bind one channel. The signature comes in a challenge.",
+        Login(Client(**own), Server(**own), signs=True),
+        by_challenge,
+        Server(**own),
+        2,
+    )
     for mechanism in model.HASHES:
         could = Login(Client(mechanism, unoffered=True), Server(mechanism, accepts_y=True))
-        yield row("A client that could bind a channel, and was offered none.", could, Client(mechanism, unoffered=True),
-                  Server(mechanism, accepts_y=True), 2)
-        yield row("A client that could bind a channel. The server does not accept it.", could,
-                  Client(mechanism, unoffered=True), Server(mechanism), 0)
-        yield row("The client could not bind a channel, and the client of the bodies could.", could,
-                  Client(mechanism, strict=True), Server(mechanism, accepts_y=True), 0)
+        yield row(
+            "A client that could bind a channel, and was offered none.",
+            could,
+            Client(mechanism, unoffered=True),
+            Server(mechanism, accepts_y=True),
+            2,
+        )
+        yield row(
+            "A client that could bind a channel. The server does not accept it.",
+            could,
+            Client(mechanism, unoffered=True),
+            Server(mechanism),
+            0,
+        )
+        yield row(
+            "The client could not bind a channel, and the client of the bodies could.",
+            could,
+            Client(mechanism, strict=True),
+            Server(mechanism, accepts_y=True),
+            0,
+        )
 
 
 def reading():
@@ -317,19 +367,39 @@ def reading():
     plain = Login(Client(), Server())
     yield row("A strict client, and no misplaced attribute.", plain, Client(strict=True), Server(), 2)
     shifted = Shifted()
-    yield row("Texts that are shifted between the messages: a client that is not strict takes them.", shifted,
-              Client(most=COUNT, by_challenge=True), Server(), 2)
-    yield row("Texts that are shifted between the messages: a strict client rejects them.", shifted,
-              Client(strict=True), Server(), 0)
+    yield row(
+        "Texts that are shifted between the messages: a client that is not strict takes them.",
+        shifted,
+        Client(most=COUNT, by_challenge=True),
+        Server(),
+        2,
+    )
+    yield row(
+        "Texts that are shifted between the messages: a strict client rejects them.",
+        shifted,
+        Client(strict=True),
+        Server(),
+        0,
+    )
     own = {"bound": (KIND, KINDS[KIND])}
-    yield row("Texts that are shifted between the messages: a client that binds a channel rejects them.", Shifted(**own),
-              Client(**own), Server(**own), 0)
+    yield row(
+        "Texts that are shifted between the messages: a client that binds a channel rejects them.",
+        Shifted(**own),
+        Client(**own),
+        Server(**own),
+        0,
+    )
     for ours, theirs in (({"unoffered": True}, {"accepts_y": True}), (own, own)):
         client, server = Client(**ours), Server(**theirs)
         yield row("A misplaced attribute after the signature.", Ended(client, server, b",i=1"), client, server, 1)
         yield row("An extension after the signature.", Ended(client, server, b",x=1"), client, server, 2)
-    yield row("Texts that are shifted between the messages: a server with `reject_misplaced` rejects them.", shifted,
-              Client(most=COUNT, by_challenge=True), Server(rejects=True), 0)
+    yield row(
+        "Texts that are shifted between the messages: a server with `reject_misplaced` rejects them.",
+        shifted,
+        Client(most=COUNT, by_challenge=True),
+        Server(rejects=True),
+        0,
+    )
     yield row("A server with `reject_misplaced`, and no misplaced attribute.", plain, Client(), Server(rejects=True), 2)
 
 
@@ -339,10 +409,21 @@ def talked_out():
     yield row("The client has no channel, and accepts what is moved.", TalkedOut(), lax, Server(), 2)
     yield row("A server with `reject_misplaced` rejects it.", TalkedOut(), lax, Server(rejects=True), 0)
     for mechanism in model.HASHES:
-        yield row("A client that says `y,,` rejects what is moved.", TalkedOut(mechanism, unoffered=True),
-                  Client(mechanism, unoffered=True), Server(mechanism), 0)
+        yield row(
+            "A client that says `y,,` rejects what is moved.",
+            TalkedOut(mechanism, unoffered=True),
+            Client(mechanism, unoffered=True),
+            Server(mechanism),
+            0,
+        )
         own = {"mechanism": mechanism, "bound": (KIND, KINDS[KIND])}
-        yield row("A client that binds a channel rejects what is moved.", TalkedOut(**own), Client(**own), Server(mechanism), 0)
+        yield row(
+            "A client that binds a channel rejects what is moved.",
+            TalkedOut(**own),
+            Client(**own),
+            Server(mechanism),
+            0,
+        )
 
 
 def limits():

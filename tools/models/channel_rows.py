@@ -99,7 +99,9 @@ class Login:
     extensions in the client's first, the server's first, the client's last and the server's last message, and with this
     escaped name."""
 
-    def __init__(self, header, bound, mechanism=SHA_256, client_more="", server_more="", last_more="", end_more="", user=USER):
+    def __init__(
+        self, header, bound, mechanism=SHA_256, client_more="", server_more="", last_more="", end_more="", user=USER
+    ):
         keys = Keys(mechanism)
         self.keys = keys
         self.bound = bound
@@ -222,21 +224,49 @@ def over_lines():
         login = bound(kind)
         first, challenged, last, signed = login.texts()
         rows.append(client(f"A client that binds {kind}.", channel(kind), [challenged, signed], [first, last], DONE))
-        rows.append(server(f"A server that binds {kind}.", channel(kind), [first, last], [challenged, signed], *LOGGED_IN))
-        rows.append(server("Other data.", channel(kind, b"\6" * 32), [first, last],
-            [challenged, "e=channel-bindings-dont-match"], *server_refuses("Invalid channel binding")))
+        rows.append(
+            server(f"A server that binds {kind}.", channel(kind), [first, last], [challenged, signed], *LOGGED_IN)
+        )
+        rows.append(
+            server(
+                "Other data.",
+                channel(kind, b"\6" * 32),
+                [first, last],
+                [challenged, "e=channel-bindings-dont-match"],
+                *server_refuses("Invalid channel binding"),
+            )
+        )
     for mechanism in ("SCRAM-SHA-1", "SCRAM-SHA-512"):
         login = bound("tls-exporter", mechanism=mechanism)
         first, challenged, last, signed = login.texts()
         option = channel("tls-exporter")
-        rows.append(client("Another mechanism.", option, [challenged, signed], [first, last], DONE, mechanism=mechanism))
-        rows.append(server("Another mechanism.", option, [first, last], [challenged, signed], *LOGGED_IN, mechanism=mechanism))
+        rows.append(
+            client("Another mechanism.", option, [challenged, signed], [first, last], DONE, mechanism=mechanism)
+        )
+        rows.append(
+            server("Another mechanism.", option, [first, last], [challenged, signed], *LOGGED_IN, mechanism=mechanism)
+        )
     login = bound("tls-unique")
     first, challenged, last, _ = login.texts()
-    rows.append(client("The server has other data.", channel("tls-unique"),
-        [challenged, "e=channel-bindings-dont-match"], [first, last], *REFUSED))
-    rows.append(client("The shortest data.", "--channel tls-unique:0a", [], [first],
-        "! scram: The other side closed before the end of the login.", "= 1"))
+    rows.append(
+        client(
+            "The server has other data.",
+            channel("tls-unique"),
+            [challenged, "e=channel-bindings-dont-match"],
+            [first, last],
+            *REFUSED,
+        )
+    )
+    rows.append(
+        client(
+            "The shortest data.",
+            "--channel tls-unique:0a",
+            [],
+            [first],
+            "! scram: The other side closed before the end of the login.",
+            "= 1",
+        )
+    )
     for header, name in (
         ("p=tls-unique,,", "A kind of which the server has no data."),
         ("n,,", "A client without a channel."),
@@ -251,17 +281,28 @@ def over_lines():
 def not_offered():
     first, challenged, last, signed = plain("y,,").texts()
     rows = [
-        client("A client that was offered no channel binding.", "--channel-not-offered", [challenged, signed],
-            [first, last], DONE),
+        client(
+            "A client that was offered no channel binding.",
+            "--channel-not-offered",
+            [challenged, signed],
+            [first, last],
+            DONE,
+        ),
         server("A server that accepts `y,,`.", "--accept-y", [first, last], [challenged, signed], *LOGGED_IN),
         server("A server that does not.", "", [first], ["e=other-error"], *NO_HEADER),
     ]
     without, challenged, last, signed = plain("n,,").texts()
     rows.append(server("It accepts `n,,` too.", "--accept-y", [without, last], [challenged, signed], *LOGGED_IN))
     swapped = Login("y,,", b"n,,")
-    rows.append(server("The last message repeats the header of the first.", "--accept-y",
-        [swapped.client_first, swapped.client_final], [swapped.server_first, "e=channel-bindings-dont-match"],
-        *server_refuses("Invalid channel binding")))
+    rows.append(
+        server(
+            "The last message repeats the header of the first.",
+            "--accept-y",
+            [swapped.client_first, swapped.client_final],
+            [swapped.server_first, "e=channel-bindings-dont-match"],
+            *server_refuses("Invalid channel binding"),
+        )
+    )
     return rows
 
 
@@ -272,8 +313,15 @@ def strict():
     rows.append(client("A client that is not strict.", "", [challenged, signed], [first, last], DONE))
     rows.append(client("A strict client.", "--strict", [challenged], [first], *client_refuses(MISPLACED)))
     login = bound("tls-exporter", server_more=",s=AAAA")
-    rows.append(client("A client that binds a channel is strict.", channel("tls-exporter"), [login.server_first],
-        [login.client_first], *client_refuses(MISPLACED)))
+    rows.append(
+        client(
+            "A client that binds a channel is strict.",
+            channel("tls-exporter"),
+            [login.server_first],
+            [login.client_first],
+            *client_refuses(MISPLACED),
+        )
+    )
     login = plain("n,,", server_more=",x=AAAA")
     first, challenged, last, signed = login.texts()
     rows.append(client("An extension.", "--strict", [challenged, signed], [first, last], DONE))
@@ -282,11 +330,21 @@ def strict():
     rows.append(server("A server that is not strict.", "", [first, last], [challenged, signed], *LOGGED_IN))
     rows.append(server("A strict server.", "--strict", [first], ["e=other-error"], *server_refuses(MISPLACED)))
     login = bound("tls-exporter", client_more=",i=1")
-    rows.append(server("A server that binds a channel is strict.", channel("tls-exporter"), [login.client_first],
-        ["e=other-error"], *server_refuses(MISPLACED)))
+    rows.append(
+        server(
+            "A server that binds a channel is strict.",
+            channel("tls-exporter"),
+            [login.client_first],
+            ["e=other-error"],
+            *server_refuses(MISPLACED),
+        )
+    )
     login = plain("y,,", client_more=",i=1")
-    rows.append(server("Both options.", "--accept-y --strict", [login.client_first], ["e=other-error"],
-        *server_refuses(MISPLACED)))
+    rows.append(
+        server(
+            "Both options.", "--accept-y --strict", [login.client_first], ["e=other-error"], *server_refuses(MISPLACED)
+        )
+    )
     return [*rows, *misplaced()]
 
 
@@ -296,34 +354,100 @@ def misplaced():
     for option, header in (("--channel-not-offered", "y,,"), (channel("tls-exporter"), "p=tls-exporter,,")):
         data = KINDS["tls-exporter"] if header.startswith("p=") else b""
         moved = Login(header, header.encode() + data, server_more=f",c=biws,r={plain('n,,').nonce}")
-        rows.append(client("What a server without a channel expects is moved to its message.", option, [moved.server_first],
-            [moved.client_first], *client_refuses(MISPLACED)))
+        rows.append(
+            client(
+                "What a server without a channel expects is moved to its message.",
+                option,
+                [moved.server_first],
+                [moved.client_first],
+                *client_refuses(MISPLACED),
+            )
+        )
         last = Login(header, header.encode() + data, end_more=",i=1")
-        rows.append(client("A misplaced attribute after the signature.", option, [last.server_first, last.server_final],
-            [last.client_first, last.client_final], *client_refuses(MISPLACED)))
+        rows.append(
+            client(
+                "A misplaced attribute after the signature.",
+                option,
+                [last.server_first, last.server_final],
+                [last.client_first, last.client_final],
+                *client_refuses(MISPLACED),
+            )
+        )
         more = Login(header, header.encode() + data, server_more=",x=AAAA", end_more=",x=1")
-        rows.append(client("Extensions.", option, [more.server_first, more.server_final], [more.client_first, more.client_final],
-            DONE))
+        rows.append(
+            client(
+                "Extensions.",
+                option,
+                [more.server_first, more.server_final],
+                [more.client_first, more.client_final],
+                DONE,
+            )
+        )
     last = plain("y,,", last_more=",i=1")
-    rows.append(server("The last message of a client that has a channel is tested.", "--accept-y",
-        [last.client_first, last.client_final], [last.server_first, "e=other-error"], *server_refuses(MISPLACED)))
+    rows.append(
+        server(
+            "The last message of a client that has a channel is tested.",
+            "--accept-y",
+            [last.client_first, last.client_final],
+            [last.server_first, "e=other-error"],
+            *server_refuses(MISPLACED),
+        )
+    )
     last = plain("n,,", last_more=",i=1")
-    rows.append(server("That of a client without a channel is not.", "--accept-y", [last.client_first, last.client_final],
-        [last.server_first, last.server_final], *LOGGED_IN))
+    rows.append(
+        server(
+            "That of a client without a channel is not.",
+            "--accept-y",
+            [last.client_first, last.client_final],
+            [last.server_first, last.server_final],
+            *LOGGED_IN,
+        )
+    )
     option = "--reject-misplaced"
-    rows.append(server("The last message.", option, [last.client_first, last.client_final],
-        [last.server_first, "e=other-error"], *server_refuses(MISPLACED)))
+    rows.append(
+        server(
+            "The last message.",
+            option,
+            [last.client_first, last.client_final],
+            [last.server_first, "e=other-error"],
+            *server_refuses(MISPLACED),
+        )
+    )
     first = plain("n,,", client_more=",i=1")
-    rows.append(server("The first message.", option, [first.client_first], ["e=other-error"], *server_refuses(MISPLACED)))
+    rows.append(
+        server("The first message.", option, [first.client_first], ["e=other-error"], *server_refuses(MISPLACED))
+    )
     more = plain("n,,", client_more=",x=1", last_more=",y=2")
-    rows.append(server("Extensions.", option, [more.client_first, more.client_final], [more.server_first, more.server_final],
-        *LOGGED_IN))
+    rows.append(
+        server(
+            "Extensions.",
+            option,
+            [more.client_first, more.client_final],
+            [more.server_first, more.server_final],
+            *LOGGED_IN,
+        )
+    )
     empty = plain("n,,", user="")
-    rows.append(server("The empty name is read.", option, [empty.client_first], ["e=unknown-user"],
-        "! scram: The user is unknown.", "= 3"))
+    rows.append(
+        server(
+            "The empty name is read.",
+            option,
+            [empty.client_first],
+            ["e=unknown-user"],
+            "! scram: The user is unknown.",
+            "= 3",
+        )
+    )
     unbound = plain("y,,")
-    rows.append(server("A client that was offered no channel binding.", option, [unbound.client_first], ["e=other-error"],
-        *NO_HEADER))
+    rows.append(
+        server(
+            "A client that was offered no channel binding.",
+            option,
+            [unbound.client_first],
+            ["e=other-error"],
+            *NO_HEADER,
+        )
+    )
     return rows
 
 
@@ -334,32 +458,80 @@ def over_frames():
         first, challenged, last, signed = login.texts()
         server_sent = [offer(login.plus), challenge(challenged), ok(signed)]
         client_sent = [init(login.plus, first), response(last)]
-        rows.append(client_frames(f"A client that binds {kind}.", channel(kind), server_sent, client_sent, DONE,
-            mechanism=mechanism))
-        rows.append(server_frames(f"A server that binds {kind}.", channel(kind), client_sent, server_sent, *LOGGED_IN,
-            mechanism=mechanism))
-        rows.append(server_frames("Other data.", channel(kind, b"\6" * 32), client_sent, [*server_sent[:2], AUTH],
-            *closed("The login was rejected"), mechanism=mechanism))
+        rows.append(
+            client_frames(
+                f"A client that binds {kind}.", channel(kind), server_sent, client_sent, DONE, mechanism=mechanism
+            )
+        )
+        rows.append(
+            server_frames(
+                f"A server that binds {kind}.", channel(kind), client_sent, server_sent, *LOGGED_IN, mechanism=mechanism
+            )
+        )
+        rows.append(
+            server_frames(
+                "Other data.",
+                channel(kind, b"\6" * 32),
+                client_sent,
+                [*server_sent[:2], AUTH],
+                *closed("The login was rejected"),
+                mechanism=mechanism,
+            )
+        )
     plus = SHA_256 + "-PLUS"
     option = channel("tls-exporter")
     first, challenged, last, signed = plain("n,,").texts()
-    rows.append(server_frames("A client without a channel.", option, [init(SHA_256, first)], [offer(plus), AUTH],
-        *closed("The login was rejected")))
-    rows.append(server_frames("A client without a channel that names the mechanism.", option, [init(plus, first)],
-        [offer(plus), AUTH], *closed("The login was rejected")))
-    rows.append(client_frames("The server does not offer the mechanism.", option, [offer(SHA_256)], [],
-        *closed("The server's message was rejected")))
+    rows.append(
+        server_frames(
+            "A client without a channel.",
+            option,
+            [init(SHA_256, first)],
+            [offer(plus), AUTH],
+            *closed("The login was rejected"),
+        )
+    )
+    rows.append(
+        server_frames(
+            "A client without a channel that names the mechanism.",
+            option,
+            [init(plus, first)],
+            [offer(plus), AUTH],
+            *closed("The login was rejected"),
+        )
+    )
+    rows.append(
+        client_frames(
+            "The server does not offer the mechanism.",
+            option,
+            [offer(SHA_256)],
+            [],
+            *closed("The server's message was rejected"),
+        )
+    )
     first, challenged, last, signed = plain("y,,").texts()
     server_sent = [offer(SHA_256), challenge(challenged), ok(signed)]
     client_sent = [init(SHA_256, first), response(last)]
-    rows.append(client_frames("A client that was offered no channel binding.", "--channel-not-offered", server_sent,
-        client_sent, DONE))
+    rows.append(
+        client_frames(
+            "A client that was offered no channel binding.", "--channel-not-offered", server_sent, client_sent, DONE
+        )
+    )
     rows.append(server_frames("A server that accepts `y,,`.", "--accept-y", client_sent, server_sent, *LOGGED_IN))
-    rows.append(server_frames("A server that does not.", "", client_sent[:1], [offer(SHA_256), AUTH],
-        *closed("The login was rejected")))
+    rows.append(
+        server_frames(
+            "A server that does not.", "", client_sent[:1], [offer(SHA_256), AUTH], *closed("The login was rejected")
+        )
+    )
     login = plain("n,,", server_more=",s=AAAA")
-    rows.append(client_frames("A strict client.", "--strict", [offer(SHA_256), challenge(login.server_first)],
-        [init(SHA_256, login.client_first)], *closed("The server's message was rejected")))
+    rows.append(
+        client_frames(
+            "A strict client.",
+            "--strict",
+            [offer(SHA_256), challenge(login.server_first)],
+            [init(SHA_256, login.client_first)],
+            *closed("The server's message was rejected"),
+        )
+    )
     return rows
 
 
@@ -390,20 +562,41 @@ def wrong_words():
         ("server", "users.txt", "FILE", "--accept-y"),
     ):
         words = f"{command} {SHA_256} {value} --channel tls-exporter:00 {option}"
-        rows.append(row("Two options that exclude each other.", words, [],
-            f"! error: the argument '--channel <KIND:HEX>' cannot be used with '{option}'", "!",
-            f"! Usage: scram {command} --channel <KIND:HEX> <M> <{place}>", "!",
-            "! For more information, try '--help'.", "= 2"))
+        rows.append(
+            row(
+                "Two options that exclude each other.",
+                words,
+                [],
+                f"! error: the argument '--channel <KIND:HEX>' cannot be used with '{option}'",
+                "!",
+                f"! Usage: scram {command} --channel <KIND:HEX> <M> <{place}>",
+                "!",
+                "! For more information, try '--help'.",
+                "= 2",
+            )
+        )
     return rows
 
 
 def explained():
     rows = []
     for kind, data in KINDS.items():
-        rows.append(explain(f"A login that binds {kind}.", bound(kind), f"channel binding {kind}, ",
-            f'header "p={kind},,", data {data.hex()}, '))
-    rows.append(explain("A client that was offered no channel binding.", plain("y,,"), "channel binding not offered, ",
-        'header "y,,", '))
+        rows.append(
+            explain(
+                f"A login that binds {kind}.",
+                bound(kind),
+                f"channel binding {kind}, ",
+                f'header "p={kind},,", data {data.hex()}, ',
+            )
+        )
+    rows.append(
+        explain(
+            "A client that was offered no channel binding.",
+            plain("y,,"),
+            "channel binding not offered, ",
+            'header "y,,", ',
+        )
+    )
     others = {
         "Another header in the last message.": Login("p=tls-unique,,", b"p=tls-exporter,," + b"\4" * 12),
         "Empty data.": bound("tls-unique", b""),
@@ -413,42 +606,87 @@ def explained():
     }
     for name, login in others.items():
         said = "channel binding tls-unique, " if login.client_first.startswith("p=") else ""
-        rows.append(row(name, "explain", ["< " + line(text) for text in login.texts()[:3]],
-            f'> client-first: {said}user "{USER}", nonce "{b64(CLIENT_NONCE)}"',
-            f'> server-first: salt {SALT.hex()}, {COUNT} iterations, nonce "{login.nonce}"',
-            "> client-final: rejected: Invalid channel binding", message_rejected(3), "= 3"))
+        rows.append(
+            row(
+                name,
+                "explain",
+                ["< " + line(text) for text in login.texts()[:3]],
+                f'> client-first: {said}user "{USER}", nonce "{b64(CLIENT_NONCE)}"',
+                f'> server-first: salt {SALT.hex()}, {COUNT} iterations, nonce "{login.nonce}"',
+                "> client-final: rejected: Invalid channel binding",
+                message_rejected(3),
+                "= 3",
+            )
+        )
     login = plain("y,,", last_more=",i=1")
-    rows.append(row("A misplaced attribute in the last message of a client that has a channel.", "explain",
-        ["< " + line(text) for text in login.texts()[:3]],
-        f'> client-first: channel binding not offered, user "{USER}", nonce "{b64(CLIENT_NONCE)}"',
-        f'> server-first: salt {SALT.hex()}, {COUNT} iterations, nonce "{login.nonce}"',
-        f"> client-final: rejected: {MISPLACED}", message_rejected(3), "= 3"))
+    rows.append(
+        row(
+            "A misplaced attribute in the last message of a client that has a channel.",
+            "explain",
+            ["< " + line(text) for text in login.texts()[:3]],
+            f'> client-first: channel binding not offered, user "{USER}", nonce "{b64(CLIENT_NONCE)}"',
+            f'> server-first: salt {SALT.hex()}, {COUNT} iterations, nonce "{login.nonce}"',
+            f"> client-final: rejected: {MISPLACED}",
+            message_rejected(3),
+            "= 3",
+        )
+    )
     login = bound("tls-exporter")
     for header, name in (
         ("p=tls-other,,", "An unknown kind."),
         ("p=tls-unique,a=,", "An empty identity."),
     ):
-        rows.append(row(name, "explain", ["< " + line(plain(header).client_first)],
-            "> client-first: rejected: Cannot parse GS2-header", message_rejected(1), "= 3"))
-    frames = [offer(login.plus), init(login.plus, login.client_first), challenge(login.server_first),
-        response(login.client_final), ok(login.server_final)]
-    rows.append(row("The bodies of a login.", "explain --frames", ["< " + body[4:].hex() for body in frames],
-        f"> sasl-mechanisms: offers {login.plus}",
-        f"> sasl-init: mechanism {login.plus}",
-        f'> client-first: channel binding tls-exporter, user "{USER}", nonce "{b64(CLIENT_NONCE)}"',
-        f"> sasl-challenge: {len(login.server_first)} bytes",
-        f'> server-first: salt {SALT.hex()}, {COUNT} iterations, nonce "{login.nonce}"',
-        f"> sasl-response: {len(login.client_final)} bytes",
-        f'> client-final: header "p=tls-exporter,,", data {KINDS["tls-exporter"].hex()}, '
-        f"proof {login.proof.hex()}, same nonce",
-        "> sasl-outcome: Ok",
-        f"> server-final: signature {login.signature.hex()}", "= 0"))
+        rows.append(
+            row(
+                name,
+                "explain",
+                ["< " + line(plain(header).client_first)],
+                "> client-first: rejected: Cannot parse GS2-header",
+                message_rejected(1),
+                "= 3",
+            )
+        )
+    frames = [
+        offer(login.plus),
+        init(login.plus, login.client_first),
+        challenge(login.server_first),
+        response(login.client_final),
+        ok(login.server_final),
+    ]
+    rows.append(
+        row(
+            "The bodies of a login.",
+            "explain --frames",
+            ["< " + body[4:].hex() for body in frames],
+            f"> sasl-mechanisms: offers {login.plus}",
+            f"> sasl-init: mechanism {login.plus}",
+            f'> client-first: channel binding tls-exporter, user "{USER}", nonce "{b64(CLIENT_NONCE)}"',
+            f"> sasl-challenge: {len(login.server_first)} bytes",
+            f'> server-first: salt {SALT.hex()}, {COUNT} iterations, nonce "{login.nonce}"',
+            f"> sasl-response: {len(login.client_final)} bytes",
+            f'> client-final: header "p=tls-exporter,,", data {KINDS["tls-exporter"].hex()}, '
+            f"proof {login.proof.hex()}, same nonce",
+            "> sasl-outcome: Ok",
+            f"> server-final: signature {login.signature.hex()}",
+            "= 0",
+        )
+    )
     return rows
 
 
 def text():
     """The text of the file."""
-    return "".join([HEAD + "\nparagraphs run\n", *over_lines(), *not_offered(), *strict(), *over_frames(), *wrong_words(), *explained()])
+    return "".join(
+        [
+            HEAD + "\nparagraphs run\n",
+            *over_lines(),
+            *not_offered(),
+            *strict(),
+            *over_frames(),
+            *wrong_words(),
+            *explained(),
+        ]
+    )
 
 
 def main():

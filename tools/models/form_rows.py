@@ -10,7 +10,7 @@ file is computed here from its description in `scram man`. The sentences are wri
 import hashlib
 import hmac
 import sys
-from typing import NamedTuple
+from typing import NamedTuple, Optional
 
 sys.dont_write_bytecode = True
 from channel_rows import CLIENT_NONCE, FILE, HASHES, SERVER_NONCE, b64, line, plain, row
@@ -38,8 +38,9 @@ HEAD = """# Runs of `scram users` and `scram server` that show the form of recor
 
 class Form(NamedTuple):
     """The length of a salt and an iteration count, each as the program prints it."""
+
     salt: int
-    count: int
+    iterations: int
 
 
 NEW = Form(16, 4096)
@@ -49,18 +50,18 @@ class Record(NamedTuple):
     name: str
     mechanism: str
     salt: bytes
-    count: int
+    iterations: int
     password: str
 
     def form(self):
-        return Form(len(self.salt), self.count)
+        return Form(len(self.salt), self.iterations)
 
     def line(self):
-        salted = hashlib.pbkdf2_hmac(HASHES[self.mechanism], self.password.encode(), self.salt, self.count)
+        salted = hashlib.pbkdf2_hmac(HASHES[self.mechanism], self.password.encode(), self.salt, self.iterations)
         client = hmac.digest(salted, b"Client Key", HASHES[self.mechanism])
         stored = hashlib.new(HASHES[self.mechanism], client).digest()
         server = hmac.digest(salted, b"Server Key", HASHES[self.mechanism])
-        return f"{self.name} {self.mechanism}${self.count}:{b64(self.salt)}${b64(stored)}:{b64(server)}"
+        return f"{self.name} {self.mechanism}${self.iterations}:{b64(self.salt)}${b64(stored)}:{b64(server)}"
 
 
 def old(name, mechanism, length, count):
@@ -70,19 +71,24 @@ def old(name, mechanism, length, count):
 
 class Options(NamedTuple):
     """The options of `add` and `passwd`."""
-    mechanism: str = None
-    count: int = None
-    length: int = None
-    salt: bytes = None
+
+    mechanism: Optional[str] = None
+    iterations: Optional[int] = None
+    length: Optional[int] = None
+    salt: Optional[bytes] = None
 
     def words(self):
-        named = (("mechanism", self.mechanism), ("iterations", self.count), ("salt-length", self.length),
-                 ("salt", self.salt and self.salt.hex()))
+        named = (
+            ("mechanism", self.mechanism),
+            ("iterations", self.iterations),
+            ("salt-length", self.length),
+            ("salt", self.salt and self.salt.hex()),
+        )
         return "".join(f" --{name} {value}" for name, value in named if value)
 
     def record(self, name, mechanism, first, password):
         length = self.length or first.salt
-        return Record(name, mechanism, self.salt or bytes(range(length)), self.count or first.count, password)
+        return Record(name, mechanism, self.salt or bytes(range(length)), self.iterations or first.iterations, password)
 
 
 def first_form(records, mechanism):
@@ -93,14 +99,19 @@ def first_form(records, mechanism):
 def noted(record, first):
     if first is None or record.form() == first:
         return []
-    return [f"! scram: the new record for {record.mechanism} has a salt of {len(record.salt)} bytes and {record.count} "
-            f"iterations, but the first has {first.salt} and {first.count}: clients see the difference"]
+    return [
+        f"! scram: the new record for {record.mechanism} has a salt of {len(record.salt)} bytes and {record.iterations} "
+        f"iterations, but the first has {first.salt} and {first.iterations}: clients see the difference"
+    ]
 
 
 def keeping(records, name, password):
     """What the errors say of records that keep another password."""
-    return [f"! scram: the record for {it} keeps another password; passwd changes it" for it in HASHES
-            if any(record.name == name and record.mechanism == it and record.password != password for record in records)]
+    return [
+        f"! scram: the record for {it} keeps another password; passwd changes it"
+        for it in HASHES
+        if any(record.name == name and record.mechanism == it and record.password != password for record in records)
+    ]
 
 
 def changed(records, name, mechanisms, options, password):
@@ -126,8 +137,16 @@ def add(title, records, name="alice", options=Options(), fails=True):
     after, notes = changed(before, name, mechanisms, options, "secret")
     done = "replaced" if any(it.name == name and it.mechanism in mechanisms for it in before) else "added"
     said = [f"> {done}", *notes, *keeping(after, name, "secret"), "= 0"]
-    return run(title, f"users add users.txt {name}{options.words()}", records, ["< secret"], said, after,
-               "600" if records is None else "644", fails)
+    return run(
+        title,
+        f"users add users.txt {name}{options.words()}",
+        records,
+        ["< secret"],
+        said,
+        after,
+        "600" if records is None else "644",
+        fails,
+    )
 
 
 def passwd(title, records, name="alice", options=Options(), more=""):
@@ -140,8 +159,9 @@ def passwd(title, records, name="alice", options=Options(), more=""):
 
 def hashes(title, records):
     names = {it.name for it in records}
-    common = [mechanism for mechanism in HASHES
-              if names and names == {it.name for it in records if it.mechanism == mechanism}]
+    common = [
+        mechanism for mechanism in HASHES if names and names == {it.name for it in records if it.mechanism == mechanism}
+    ]
     return run(title, "users list users.txt --hashes", records, [], [*(f"> {it}" for it in common), "= 0"])
 
 
@@ -150,15 +170,27 @@ def check(title, records):
     for it in records:
         first = first_form(records, it.mechanism)
         if it.form() != first:
-            said += [f"> {it.mechanism} {it.name}: a salt of {len(it.salt)} bytes and {it.count} iterations, "
-                     f"the first record has {first.salt} and {first.count}"]
+            said += [
+                f"> {it.mechanism} {it.name}: a salt of {len(it.salt)} bytes and {it.iterations} iterations, "
+                f"the first record has {first.salt} and {first.iterations}"
+            ]
         if it.name not in seen:
             has = {other.mechanism for other in records if other.name == it.name}
-            said += [f"> {mechanism} {it.name}: no record" for mechanism in HASHES
-                     if first_form(records, mechanism) and mechanism not in has]
+            said += [
+                f"> {mechanism} {it.name}: no record"
+                for mechanism in HASHES
+                if first_form(records, mechanism) and mechanism not in has
+            ]
         seen.add(it.name)
-    ended = ["! scram: users.txt: The records do not look alike, so clients can tell which users exist. "
-             "scram users passwd mends a user's.", "= 3"] if said else ["= 0"]
+    ended = (
+        [
+            "! scram: users.txt: The records do not look alike, so clients can tell which users exist. "
+            "scram users passwd mends a user's.",
+            "= 3",
+        ]
+        if said
+        else ["= 0"]
+    )
     # To name the file in an error is a call too, whose failure is not reported.
     return run(title, "users check users.txt", records, [], [*said, *ended], fails=not said)
 
@@ -170,18 +202,34 @@ def serve(title, records, name, mechanism=SHA_256, options=""):
     # See `docs/DECISIONS.md`: the secret, "Salt:", the mechanism, ":" and the name.
     salt = hmac.digest(SECRET, f"Salt:{mechanism}:{name}".encode(), "sha512")[:length]
     if record:
-        salt, count = record.salt, record.count
+        salt, count = record.salt, record.iterations
     first = f"n,,n={name},r={b64(CLIENT_NONCE)}"
     challenge = f"r={b64(CLIENT_NONCE)}{b64(SERVER_NONCE)},s={b64(salt)},i={count}"
     several = len({it.form() for it in records if it.mechanism == mechanism}) > 1
-    told = [f"! scram: users.txt: the records for {mechanism} have several forms, so clients can tell which users exist; "
-            "scram users check shows them"] if several and not options else []
+    told = (
+        [
+            f"! scram: users.txt: the records for {mechanism} have several forms, so clients can tell which users exist; "
+            "scram users check shows them"
+        ]
+        if several and not options
+        else []
+    )
     secret = [] if options else ["f users.txt.secret 600", f"- {SECRET.decode().strip()}"]
-    after = ["F users.txt 644", *(f"+ {it.line()}" for it in records), *(it.replace("f ", "F ", 1).replace("- ", "+ ", 1)
-                                                                         for it in secret)]
-    return row(title, f"server {mechanism} users.txt --nonce {SERVER_NONCE.hex()}{options}",
-               ["< " + line(first), "f users.txt", *(f"- {it.line()}" for it in records), *secret],
-               "> " + line(challenge), *told, "! scram: The other side closed before the end of the login.", "= 1", *after)
+    after = [
+        "F users.txt 644",
+        *(f"+ {it.line()}" for it in records),
+        *(it.replace("f ", "F ", 1).replace("- ", "+ ", 1) for it in secret),
+    ]
+    return row(
+        title,
+        f"server {mechanism} users.txt --nonce {SERVER_NONCE.hex()}{options}",
+        ["< " + line(first), "f users.txt", *(f"- {it.line()}" for it in records), *secret],
+        "> " + line(challenge),
+        *told,
+        "! scram: The other side closed before the end of the login.",
+        "= 1",
+        *after,
+    )
 
 
 def misplaced(title, options, is_rejected):
@@ -189,12 +237,21 @@ def misplaced(title, options, is_rejected):
     login = plain("n,,", client_more=",i=1")
     words = f"server {SHA_256} users.txt --nonce {SERVER_NONCE.hex()} --tell-unknown-users{options}"
     if is_rejected:
-        ended = ["> " + line("e=other-error"),
-                 "! scram: The client's message is rejected: Attribute in the place of an extension.", "= 3"]
+        ended = [
+            "> " + line("e=other-error"),
+            "! scram: The client's message is rejected: Attribute in the place of an extension.",
+            "= 3",
+        ]
     else:
         ended = ["> " + line(login.server_first), "! scram: The other side closed before the end of the login.", "= 1"]
-    return row(title, words, ["< " + line(login.client_first), "f users.txt", f"- {login.keys.record()}"], *ended,
-               "F users.txt 644", f"+ {login.keys.record()}")
+    return row(
+        title,
+        words,
+        ["< " + line(login.client_first), "f users.txt", f"- {login.keys.record()}"],
+        *ended,
+        "F users.txt 644",
+        f"+ {login.keys.record()}",
+    )
 
 
 def rows():
@@ -203,26 +260,40 @@ def rows():
     single = [old("alice", SHA_256, 32, 5), old("bob", SHA_256, 32, 5)]
     three = [old("bob", SHA_256, 32, 5), old("alice", SHA_1, 4, 3), old("alice", SHA_256, 16, 9)]
     yield add("A new file has salts of 16 bytes and 4096 iterations.", None, fails=False)
-    yield add("A new file with another form. It has no other record, so nothing is said.", None,
-              options=Options(count=1, length=4))
-    yield add("An empty file is like a new one.", [], options=Options(count=1))
+    yield add(
+        "A new file with another form. It has no other record, so nothing is said.",
+        None,
+        options=Options(iterations=1, length=4),
+    )
+    yield add("An empty file is like a new one.", [], options=Options(iterations=1))
     yield add("A new user: the form is that of the first record of each hash.", first)
     yield add("Later records with another form do not count.", later)
-    yield add("A file without a record for SCRAM-SHA-512: that one is as in a new file.", [old("bob", SHA_256, 32, 5)], fails=False)
+    yield add(
+        "A file without a record for SCRAM-SHA-512: that one is as in a new file.",
+        [old("bob", SHA_256, 32, 5)],
+        fails=False,
+    )
     yield add("A user with records: they are replaced in their places.", [old("alice", SHA_512, 8, 7), *first])
-    yield add("A user with one record: the other is added.", single, options=Options(count=5, length=32))
-    yield add("Another iteration count.", first, options=Options(count=6))
+    yield add("A user with one record: the other is added.", single, options=Options(iterations=5, length=32))
+    yield add("Another iteration count.", first, options=Options(iterations=6))
     yield add("Another salt length, for one mechanism.", first, options=Options(mechanism=SHA_256, length=16))
     yield add("The salt of an argument.", first, options=Options(mechanism=SHA_512, salt=b"\1\2"))
-    yield add("The form of the file as options.", first, options=Options(mechanism=SHA_256, length=32, count=5))
-    yield add("A record for SCRAM-SHA-1 only. The others keep another password.", first, "bob", Options(mechanism=SHA_1, count=1))
+    yield add("The form of the file as options.", first, options=Options(mechanism=SHA_256, length=32, iterations=5))
+    yield add(
+        "A record for SCRAM-SHA-1 only. The others keep another password.",
+        first,
+        "bob",
+        Options(mechanism=SHA_1, iterations=1),
+    )
     yield add("The record for SCRAM-SHA-1 keeps another password.", three)
     yield passwd("All records of a user, and the one that is missing.", [*three, old("bob", SHA_512, 8, 7)])
     yield passwd("The same by --all.", [*three, old("bob", SHA_512, 8, 7)], more=" --all")
     yield passwd("One record of a user.", three, options=Options(mechanism=SHA_1))
     yield passwd("The form of the first record, and not that of the old one.", later, "carol")
-    yield passwd("Another form.", first, "bob", Options(count=6, length=20))
-    yield hashes("The hashes for which each user has a record.", [*first, old("carol", SHA_512, 8, 7), old("carol", SHA_1, 8, 7)])
+    yield passwd("Another form.", first, "bob", Options(iterations=6, length=20))
+    yield hashes(
+        "The hashes for which each user has a record.", [*first, old("carol", SHA_512, 8, 7), old("carol", SHA_1, 8, 7)]
+    )
     yield hashes("Two such hashes.", later)
     yield hashes("No such hash.", [old("alice", SHA_1, 8, 7), old("bob", SHA_256, 8, 7)])
     yield hashes("No users.", [])

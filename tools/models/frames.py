@@ -275,12 +275,14 @@ SAMPLES = [
 def damaged(body, pick):
     """A body that is cut, has a byte changed, or has bytes behind it."""
     at = pick.randrange(len(body))
-    return pick.choice([
-        body[:at],
-        body[:at] + bytes([pick.randrange(256)]) + body[at + 1:],
-        body[:at] + bytes([body[at] ^ 1 << pick.randrange(8)]) + body[at + 1:],
-        body + pick.randbytes(1 + pick.randrange(3)),
-    ])
+    return pick.choice(
+        [
+            body[:at],
+            body[:at] + bytes([pick.randrange(256)]) + body[at + 1 :],
+            body[:at] + bytes([body[at] ^ 1 << pick.randrange(8)]) + body[at + 1 :],
+            body + pick.randbytes(1 + pick.randrange(3)),
+        ]
+    )
 
 
 def write(seed):

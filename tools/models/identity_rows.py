@@ -58,33 +58,104 @@ def clients():
     bob = acting("bob")
     first, challenged, last, signed = bob.texts()
     rows.append(client("A client that acts for another.", "--acts-for bob", [challenged, signed], [first, last], DONE))
-    rows.append(client("The server does not let the user act for it.", "--acts-for bob", [challenged, WRONG_PROOF],
-        [first, last], *REFUSED))
+    rows.append(
+        client(
+            "The server does not let the user act for it.",
+            "--acts-for bob",
+            [challenged, WRONG_PROOF],
+            [first, last],
+            *REFUSED,
+        )
+    )
     own = acting(USER)
-    rows.append(client("Its own name.", f"--acts-for {USER}", [own.server_first, own.server_final],
-        [own.client_first, own.client_final], DONE))
+    rows.append(
+        client(
+            "Its own name.",
+            f"--acts-for {USER}",
+            [own.server_first, own.server_final],
+            [own.client_first, own.client_final],
+            DONE,
+        )
+    )
     escaped = acting("a=2Cb=3Dc")
-    rows.append(client("A comma and an equals sign.", "--acts-for a,b=c", [escaped.server_first, escaped.server_final],
-        [escaped.client_first, escaped.client_final], DONE))
+    rows.append(
+        client(
+            "A comma and an equals sign.",
+            "--acts-for a,b=c",
+            [escaped.server_first, escaped.server_final],
+            [escaped.client_first, escaped.client_final],
+            DONE,
+        )
+    )
     other = acting("J\u00f6rg")
-    rows.append(client("A name that is not ASCII.", "--acts-for J\u00f6rg", [other.server_first, other.server_final],
-        [other.client_first, other.client_final], DONE))
+    rows.append(
+        client(
+            "A name that is not ASCII.",
+            "--acts-for J\u00f6rg",
+            [other.server_first, other.server_final],
+            [other.client_first, other.client_final],
+            DONE,
+        )
+    )
     none = plain("n,,")
-    rows.append(client("An empty identity is none.", "--acts-for  --max-iterations 4096",
-        [none.server_first, none.server_final], [none.client_first, none.client_final], DONE))
+    rows.append(
+        client(
+            "An empty identity is none.",
+            "--acts-for  --max-iterations 4096",
+            [none.server_first, none.server_final],
+            [none.client_first, none.client_final],
+            DONE,
+        )
+    )
     not_offered = acting("bob", "y")
-    rows.append(client("A client that was offered no channel binding.", "--acts-for bob --channel-not-offered",
-        [not_offered.server_first, not_offered.server_final], [not_offered.client_first, not_offered.client_final], DONE))
+    rows.append(
+        client(
+            "A client that was offered no channel binding.",
+            "--acts-for bob --channel-not-offered",
+            [not_offered.server_first, not_offered.server_final],
+            [not_offered.client_first, not_offered.client_final],
+            DONE,
+        )
+    )
     bound = acting("bob", "p=tls-exporter", KINDS["tls-exporter"])
-    rows.append(client("A client that binds a channel.", f"--acts-for bob {channel('tls-exporter')}",
-        [bound.server_first, bound.server_final], [bound.client_first, bound.client_final], DONE))
+    rows.append(
+        client(
+            "A client that binds a channel.",
+            f"--acts-for bob {channel('tls-exporter')}",
+            [bound.server_first, bound.server_final],
+            [bound.client_first, bound.client_final],
+            DONE,
+        )
+    )
     strict = acting("bob", server_more=",s=AAAA")
-    rows.append(client("A client that names an identity is strict.", "--acts-for bob", [strict.server_first],
-        [strict.client_first], f"! scram: The server's message is rejected: {MISPLACED}.", "= 3"))
-    rows.append(client_frames("Over frames.", "--acts-for bob", [offer(SHA_256), challenge(challenged), ok(signed)],
-        [init(SHA_256, first), response(last)], DONE))
-    rows.append(client_frames("Over frames, the server does not let the user act for it.", "--acts-for bob",
-        [offer(SHA_256), challenge(challenged), AUTH], [init(SHA_256, first), response(last)], *REFUSED))
+    rows.append(
+        client(
+            "A client that names an identity is strict.",
+            "--acts-for bob",
+            [strict.server_first],
+            [strict.client_first],
+            f"! scram: The server's message is rejected: {MISPLACED}.",
+            "= 3",
+        )
+    )
+    rows.append(
+        client_frames(
+            "Over frames.",
+            "--acts-for bob",
+            [offer(SHA_256), challenge(challenged), ok(signed)],
+            [init(SHA_256, first), response(last)],
+            DONE,
+        )
+    )
+    rows.append(
+        client_frames(
+            "Over frames, the server does not let the user act for it.",
+            "--acts-for bob",
+            [offer(SHA_256), challenge(challenged), AUTH],
+            [init(SHA_256, first), response(last)],
+            *REFUSED,
+        )
+    )
     return rows
 
 
@@ -93,8 +164,13 @@ def allowed(name, options, login, shown):
     first, challenged, last, signed = login.texts()
     return [
         server(name, options, [first, last], [challenged, signed], *logged_in(shown)),
-        server_frames(name, options, [init(login.plus, first), response(last)],
-            [offer(login.plus), challenge(challenged), ok(signed)], *logged_in(shown)),
+        server_frames(
+            name,
+            options,
+            [init(login.plus, first), response(last)],
+            [offer(login.plus), challenge(challenged), ok(signed)],
+            *logged_in(shown),
+        ),
     ]
 
 
@@ -103,8 +179,13 @@ def refused(name, options, login):
     first, challenged, last, _ = login.texts()
     return [
         server(name, options, [first, last], [challenged, WRONG_PROOF], *NOT_ALLOWED),
-        server_frames(name, options, [init(login.plus, first), response(last)],
-            [offer(login.plus), challenge(challenged), AUTH], *closed("The login was rejected")),
+        server_frames(
+            name,
+            options,
+            [init(login.plus, first), response(last)],
+            [offer(login.plus), challenge(challenged), AUTH],
+            *closed("The login was rejected"),
+        ),
     ]
 
 
@@ -122,7 +203,9 @@ def servers():
         *allowed("A comma and an equals sign.", "--may-act alice:a,b=c", acting("a=2Cb=3Dc"), "$'a,b=c'"),
         *allowed("A name that is not ASCII.", "--may-act alice:J\u00f6rg", acting("J\u00f6rg"), r"$'J\303\266rg'"),
         *allowed("A channel.", f"--may-act alice:bob {option}", exporter, "bob"),
-        *allowed("A client that was offered no channel binding.", "--may-act alice:bob --accept-y", acting("bob", "y"), "bob"),
+        *allowed(
+            "A client that was offered no channel binding.", "--may-act alice:bob --accept-y", acting("bob", "y"), "bob"
+        ),
         *refused("A user without a right.", "--accept-authzid", bob),
         *refused("The right of another user.", "--may-act carol:bob", bob),
         *refused("A right to another identity.", "--may-act alice:carol", bob),
@@ -131,24 +214,65 @@ def servers():
         *refused("A channel, without a right.", f"--accept-authzid {option}", exporter),
     ]
     first, challenged, last, signed = plain("n,,").texts()
-    rows.append(server("A client that names no identity.", "--may-act alice:bob", [first, last], [challenged, signed],
-        *LOGGED_IN))
-    rows.append(server("A wrong proof of a user who has the right.", "--may-act alice:bob",
-        [bob.client_first, with_wrong_proof(bob)], [bob.server_first, WRONG_PROOF], *NOT_ALLOWED))
+    rows.append(
+        server(
+            "A client that names no identity.", "--may-act alice:bob", [first, last], [challenged, signed], *LOGGED_IN
+        )
+    )
+    rows.append(
+        server(
+            "A wrong proof of a user who has the right.",
+            "--may-act alice:bob",
+            [bob.client_first, with_wrong_proof(bob)],
+            [bob.server_first, WRONG_PROOF],
+            *NOT_ALLOWED,
+        )
+    )
     rows.append(server("A server that accepts no identity.", "", [bob.client_first], ["e=other-error"], *NO_HEADER))
-    rows.append(server_frames("A server that accepts no identity.", "", [init(SHA_256, bob.client_first)],
-        [offer(SHA_256), AUTH], *closed("The login was rejected")))
-    rows.append(server("An empty identity.", "--accept-authzid", [acting("").client_first], ["e=other-error"], *NO_HEADER))
+    rows.append(
+        server_frames(
+            "A server that accepts no identity.",
+            "",
+            [init(SHA_256, bob.client_first)],
+            [offer(SHA_256), AUTH],
+            *closed("The login was rejected"),
+        )
+    )
+    rows.append(
+        server("An empty identity.", "--accept-authzid", [acting("").client_first], ["e=other-error"], *NO_HEADER)
+    )
     unknown = acting("bob", user="carol")
-    rows.append(server("An unknown user.", "--may-act carol:bob", [unknown.client_first], ["e=unknown-user"],
-        "! scram: The user is unknown.", "= 3"))
+    rows.append(
+        server(
+            "An unknown user.",
+            "--may-act carol:bob",
+            [unknown.client_first],
+            ["e=unknown-user"],
+            "! scram: The user is unknown.",
+            "= 3",
+        )
+    )
     for name, header in (("no identity", b"n,,"), ("another identity", b"n,a=carol,")):
         moved = Login("n,a=bob,", header)
-        rows.append(server(f"The last message has {name}.", "--may-act alice:bob", [moved.client_first, moved.client_final],
-            [moved.server_first, "e=channel-bindings-dont-match"], *server_refuses("Invalid channel binding")))
+        rows.append(
+            server(
+                f"The last message has {name}.",
+                "--may-act alice:bob",
+                [moved.client_first, moved.client_final],
+                [moved.server_first, "e=channel-bindings-dont-match"],
+                *server_refuses("Invalid channel binding"),
+            )
+        )
     strict = plain("n,,", client_more=",i=1")
-    rows.append(server("A server that accepts identities is strict.", "--accept-authzid", [strict.client_first],
-        ["e=other-error"], *server_refuses(MISPLACED)))
+    rows.append(
+        server(
+            "A server that accepts identities is strict.",
+            "--accept-authzid",
+            [strict.client_first],
+            ["e=other-error"],
+            *server_refuses(MISPLACED),
+        )
+    )
     return rows
 
 
@@ -159,7 +283,9 @@ def prepared():
     return [
         *allowed("A right of the prepared name.", option, acting("bob", user=soft), "bob"),
         *allowed("The prepared name.", "--saslprep --accept-authzid", acting(USER, user=soft), USER),
-        *allowed("The name as sent, which is printed prepared.", "--saslprep --accept-authzid", acting(soft, user=soft), USER),
+        *allowed(
+            "The name as sent, which is printed prepared.", "--saslprep --accept-authzid", acting(soft, user=soft), USER
+        ),
         *refused("An identity is not prepared.", option, acting("bo\u00adb", user=soft)),
         *refused("An identity that would be prepared to the user's name.", option, acting(soft)),
         *refused("A right of the name as sent.", f"--saslprep --may-act {soft}:bob", acting("bob", user=soft)),
@@ -169,11 +295,21 @@ def prepared():
 def wrong_words():
     rows = []
     for name, words in (
-        ("No colon.", "alice"), ("No user.", ":bob"), ("No identity.", "alice:"), ("A colon.", ":"),
+        ("No colon.", "alice"),
+        ("No user.", ":bob"),
+        ("No identity.", "alice:"),
+        ("A colon.", ":"),
         ("A second right without a colon.", "alice:bob --may-act carol"),
     ):
-        rows.append(row(name, f"server {SHA_256} nothing.txt --may-act {words}", [],
-            "! scram: The value of --may-act is not a user, a colon and an identity.", "= 2"))
+        rows.append(
+            row(
+                name,
+                f"server {SHA_256} nothing.txt --may-act {words}",
+                [],
+                "! scram: The value of --may-act is not a user, a colon and an identity.",
+                "= 2",
+            )
+        )
     return rows
 
 
@@ -194,16 +330,44 @@ def explain():
     rows = [
         explained("A login for an identity.", acting("bob"), "bob", "", 'header "n,a=bob,", '),
         explained("A comma and an equals sign.", acting("a=2Cb=3Dc"), "a,b=c", "", 'header "n,a=a=2Cb=3Dc,", '),
-        explained("A client that was offered no channel binding.", acting("bob", "y"), "bob", "channel binding not offered, ",
-            'header "y,a=bob,", '),
-        explained("A channel.", acting("bob", "p=tls-exporter", data), "bob", "channel binding tls-exporter, ",
-            f'header "p=tls-exporter,a=bob,", data {data.hex()}, '),
-        row("An empty identity.", "explain", ["< " + line(acting("").client_first)], first + "Cannot parse GS2-header",
-            message_rejected(1), "= 3"),
-        row("An escape that is none.", "explain", ["< " + line(acting("b=2cb").client_first)],
-            first + "Cannot parse GS2-header", message_rejected(1), "= 3"),
-        row("A message with an identity is read strictly.", "explain",
-            ["< " + line(acting("bob", client_more=",i=1").client_first)], f"{first}{MISPLACED}", message_rejected(1), "= 3"),
+        explained(
+            "A client that was offered no channel binding.",
+            acting("bob", "y"),
+            "bob",
+            "channel binding not offered, ",
+            'header "y,a=bob,", ',
+        ),
+        explained(
+            "A channel.",
+            acting("bob", "p=tls-exporter", data),
+            "bob",
+            "channel binding tls-exporter, ",
+            f'header "p=tls-exporter,a=bob,", data {data.hex()}, ',
+        ),
+        row(
+            "An empty identity.",
+            "explain",
+            ["< " + line(acting("").client_first)],
+            first + "Cannot parse GS2-header",
+            message_rejected(1),
+            "= 3",
+        ),
+        row(
+            "An escape that is none.",
+            "explain",
+            ["< " + line(acting("b=2cb").client_first)],
+            first + "Cannot parse GS2-header",
+            message_rejected(1),
+            "= 3",
+        ),
+        row(
+            "A message with an identity is read strictly.",
+            "explain",
+            ["< " + line(acting("bob", client_more=",i=1").client_first)],
+            f"{first}{MISPLACED}",
+            message_rejected(1),
+            "= 3",
+        ),
     ]
     for name, login in (
         ("The last message has no identity.", Login("n,a=bob,", b"n,,")),
@@ -213,10 +377,18 @@ def explain():
         flag, identity, _ = login.client_first.split(",", 2)
         channel_said = "channel binding tls-exporter, " if flag != "n" else ""
         identity_said = 'acts for "bob", ' if identity else ""
-        rows.append(row(name, "explain", ["< " + line(text) for text in login.texts()[:3]],
-            f'> client-first: {channel_said}user "{USER}", {identity_said}nonce "{b64(CLIENT_NONCE)}"',
-            f'> server-first: salt {SALT.hex()}, {COUNT} iterations, nonce "{login.nonce}"',
-            "> client-final: rejected: Invalid channel binding", message_rejected(3), "= 3"))
+        rows.append(
+            row(
+                name,
+                "explain",
+                ["< " + line(text) for text in login.texts()[:3]],
+                f'> client-first: {channel_said}user "{USER}", {identity_said}nonce "{b64(CLIENT_NONCE)}"',
+                f'> server-first: salt {SALT.hex()}, {COUNT} iterations, nonce "{login.nonce}"',
+                "> client-final: rejected: Invalid channel binding",
+                message_rejected(3),
+                "= 3",
+            )
+        )
     return rows
 
 

@@ -36,9 +36,17 @@ HEAD = """# Runs of `scram server` for names that SASLprep prepares, separated b
 # Source: written by `tools/models/name_rows.py`: names prepared by Python's `stringprep` and `unicodedata`, proofs and
 # signatures of Python's `hashlib` and `hmac`; sentences written by hand."""
 
-PROHIBITED = (stringprep.in_table_c12, stringprep.in_table_c21_c22, stringprep.in_table_c3, stringprep.in_table_c4,
-              stringprep.in_table_c5, stringprep.in_table_c6, stringprep.in_table_c7, stringprep.in_table_c8,
-              stringprep.in_table_c9)
+PROHIBITED = (
+    stringprep.in_table_c12,
+    stringprep.in_table_c21_c22,
+    stringprep.in_table_c3,
+    stringprep.in_table_c4,
+    stringprep.in_table_c5,
+    stringprep.in_table_c6,
+    stringprep.in_table_c7,
+    stringprep.in_table_c8,
+    stringprep.in_table_c9,
+)
 
 
 def mapped(c):
@@ -53,8 +61,11 @@ def prepared(name):
     text = unicodedata.ucd_3_2_0.normalize("NFKC", "".join(map(mapped, name)))
     if any(test(c) for c in text for test in PROHIBITED):
         return None
-    if any(map(stringprep.in_table_d1, text)) and not (stringprep.in_table_d1(text[0])
-            and stringprep.in_table_d1(text[-1]) and not any(map(stringprep.in_table_d2, text))):
+    if any(map(stringprep.in_table_d1, text)) and not (
+        stringprep.in_table_d1(text[0])
+        and stringprep.in_table_d1(text[-1])
+        and not any(map(stringprep.in_table_d2, text))
+    ):
         return None
     return text or None
 
@@ -83,7 +94,7 @@ class Login:
         salt = SALT
         if not is_known:
             # See `docs/DECISIONS.md`: the secret, "Salt:", the mechanism, ":" and the name.
-            salt = hmac.digest(SECRET, f"Salt:{SHA_256}:{name}".encode(), "sha512")[:len(SALT)]
+            salt = hmac.digest(SECRET, f"Salt:{SHA_256}:{name}".encode(), "sha512")[: len(SALT)]
         keys = Keys(SHA_256)
         bare = f"n={escaped(name)},r={b64(CLIENT_NONCE)}"
         nonce = b64(CLIENT_NONCE) + b64(SERVER_NONCE)
@@ -98,7 +109,7 @@ class Login:
 
 def record(name):
     """The line of a user, whose password is `pencil`."""
-    return escaped(name) + Keys(SHA_256).record()[len("alice"):]
+    return escaped(name) + Keys(SHA_256).record()[len("alice") :]
 
 
 class Server:
@@ -129,14 +140,23 @@ class Server:
         known = self.known(name)
         login = Login(name, known is not None)
         if known is None and "--tell-unknown-users" in self.options:
-            return self.run(title, ["< " + line(login.first)],
-                ["> " + line("e=unknown-user"), "! scram: The user is unknown.", "= 3"])
+            return self.run(
+                title,
+                ["< " + line(login.first)],
+                ["> " + line("e=unknown-user"), "! scram: The user is unknown.", "= 3"],
+            )
         if known is None:
-            answer, ended = "e=invalid-proof", ["! scram: The client's message is rejected: Authentication failed.", "= 3"]
+            answer, ended = "e=invalid-proof", [
+                "! scram: The client's message is rejected: Authentication failed.",
+                "= 3",
+            ]
         else:
             answer, ended = login.signed, logged_in(known)
-        return self.run(title, [f"< {line(text)}" for text in (login.first, login.last)],
-            [*(f"> {line(text)}" for text in (login.challenge, answer)), *ended])
+        return self.run(
+            title,
+            [f"< {line(text)}" for text in (login.first, login.last)],
+            [*(f"> {line(text)}" for text in (login.challenge, answer)), *ended],
+        )
 
     def over_frames(self, title, name):
         known = self.known(name)
@@ -174,9 +194,19 @@ def rows():
             run(Server("", options=telling), "An empty name is that of no user.", ""),
             run(Server("alice\u0007", options=telling), "A record of a name that is rejected.", "alice\u0007"),
             run(Server("ali\u00adce", options=telling), "A record of a name that is not prepared.", "ali\u00adce"),
-            run(Server("\u0221", options=telling), "A code point that Unicode 3.2 does not assign is allowed.", "\u0221"),
-            run(Server("alice", options="--tell-unknown-users"), "Without the option, a name is used as sent.", "ali\u00adce"),
-            run(Server("ali\u00adce", options="--tell-unknown-users"), "A name that is not prepared, as sent.", "ali\u00adce"),
+            run(
+                Server("\u0221", options=telling), "A code point that Unicode 3.2 does not assign is allowed.", "\u0221"
+            ),
+            run(
+                Server("alice", options="--tell-unknown-users"),
+                "Without the option, a name is used as sent.",
+                "ali\u00adce",
+            ),
+            run(
+                Server("ali\u00adce", options="--tell-unknown-users"),
+                "A name that is not prepared, as sent.",
+                "ali\u00adce",
+            ),
         ]
     return made
 

@@ -69,6 +69,7 @@ def read(body):
 
 # SCRAM (RFC 5802, sections 2.2, 3, 5.1 and 7)
 
+
 def text(data):
     try:
         data.decode()
@@ -153,7 +154,7 @@ class ScramServer:
         if not text(message).startswith(self.headers):
             raise Refused("CannotParseGs2Header")
         header = next(it for it in self.headers if message.startswith(it))
-        bare = message[len(header):]
+        bare = message[len(header) :]
         parts = bare.split(b",")
         user = unescaped(attribute(parts[0], b"n=", "CannotParseUsername"))
         if len(parts) < 2:
@@ -350,6 +351,7 @@ class MessageClient(OtherClient):
 
 # The two sides of a connection (AMQP 1.0, part 5, section 5.3.2)
 
+
 class Side:
     """Bytes in, bytes out: what came of the unit that is due, and what is due."""
 
@@ -477,6 +479,7 @@ class LateClient(Client):
 
 
 # The words of the files
+
 
 def hexed(data):
     return data.hex() or "-"
@@ -648,8 +651,12 @@ def whole_logins(rows):
         for side in ("server", "client"):
             units, line, nonces = login.units[side], login.line(side), login.nonces[side]
             rows.add(f"A login by {name}, unit by unit: the {side}.", line, [*units, AMQP], nonces)
-            rows.add(f"A login by {name}, all at once, with AMQP's header behind it: the {side}.", line,
-                     [b"".join(units) + AMQP], nonces)
+            rows.add(
+                f"A login by {name}, all at once, with AMQP's header behind it: the {side}.",
+                line,
+                [b"".join(units) + AMQP],
+                nonces,
+            )
     for login in (Login(server_line(MAIN), client_line(MAIN)), Login(server_line("PLAIN"), client_line("PLAIN"))):
         for side in ("server", "client"):
             stream = b"".join(login.units[side]) + AMQP[:2]
@@ -661,10 +668,21 @@ def whole_logins(rows):
 
 
 def headers(rows):
-    others = [TLS, AMQP, b"AMQP\x01\x01\0\0", b"AMQP\x04\x01\0\0", b"AMQP\xff\x01\0\0", b"AMQP\x03\0\x09\x01",
-              b"AMQP\x03\x01\0\x01", b"AMQP\x03\x01\x01\0", b"AMQP\x03\x02\0\0", b"amqp\x03\x01\0\0", b"GET / HT",
-              b"\0" * 8]
-    others += [SASL[:at] + bytes([SASL[at] ^ 0x20]) + SASL[at + 1:] for at in range(8)]
+    others = [
+        TLS,
+        AMQP,
+        b"AMQP\x01\x01\0\0",
+        b"AMQP\x04\x01\0\0",
+        b"AMQP\xff\x01\0\0",
+        b"AMQP\x03\0\x09\x01",
+        b"AMQP\x03\x01\0\x01",
+        b"AMQP\x03\x01\x01\0",
+        b"AMQP\x03\x02\0\0",
+        b"amqp\x03\x01\0\0",
+        b"GET / HT",
+        b"\0" * 8,
+    ]
+    others += [SASL[:at] + bytes([SASL[at] ^ 0x20]) + SASL[at + 1 :] for at in range(8)]
     for side, line in (("server", server_line(MAIN)), ("client", client_line(MAIN))):
         for header in others:
             rows.add(f"Another header: the {side}.", line, [header + SASL, SASL])
@@ -703,10 +721,18 @@ def sizes(rows):
         pieces = [long[:1], long[1:3], long[3:] + due[4:]]
         rows.add(f"A size above 512 in pieces {place}", line, [*before, *pieces], nonces)
         rows.add(f"The size in pieces {place}", line, [*before, due[:1], due[1:3], due[3:5], due[5:]], nonces)
-        rows.add(f"A size that is one short {place}", line,
-                 [*before, (len(due) - 1).to_bytes(4, "big") + due[4:], AMQP], nonces)
-        rows.add(f"A size that is one long {place}", line,
-                 [*before, (len(due) + 1).to_bytes(4, "big") + due[4:], AMQP], nonces)
+        rows.add(
+            f"A size that is one short {place}",
+            line,
+            [*before, (len(due) - 1).to_bytes(4, "big") + due[4:], AMQP],
+            nonces,
+        )
+        rows.add(
+            f"A size that is one long {place}",
+            line,
+            [*before, (len(due) + 1).to_bytes(4, "big") + due[4:], AMQP],
+            nonces,
+        )
 
 
 def types(rows):
@@ -714,8 +740,12 @@ def types(rows):
         for offset, kind in [(2, 0), (2, 255), (1, 1), (3, 1)]:
             body = bytes([offset, kind]) + due[6:]
             rows.add(f"Data offset {offset} and type {kind} {place}", line, [*before, frame(body) + AMQP], nonces)
-        rows.add(f"Two bytes of type SASL that are not read {place}", line,
-                 [*before, due[:6] + b"\xca\xfe" + due[8:]], nonces)
+        rows.add(
+            f"Two bytes of type SASL that are not read {place}",
+            line,
+            [*before, due[:6] + b"\xca\xfe" + due[8:]],
+            nonces,
+        )
         extended = frame(b"\x03\x01\0\0\0\0\0\0" + due[8:])
         rows.add(f"An extended header {place}", line, [*before, extended], nonces)
 
@@ -724,8 +754,14 @@ def out_of_turn(rows):
     login = Login(server_line(MAIN), client_line(MAIN))
     _, mechanisms, challenge, outcome = login.units["client"]
     _, init, response = login.units["server"]
-    every = {"mechanisms": mechanisms, "init": init, "challenge": challenge, "response": response, "outcome": outcome,
-             "refusal": spelled("Outcome", 1, None)}
+    every = {
+        "mechanisms": mechanisms,
+        "init": init,
+        "challenge": challenge,
+        "response": response,
+        "outcome": outcome,
+        "refusal": spelled("Outcome", 1, None),
+    }
     for place, line, nonces, before, due in at_each_turn():
         for name, unit in every.items():
             if unit != due:
@@ -735,19 +771,28 @@ def out_of_turn(rows):
     for side in ("server", "client"):
         units, line = login.units[side], login.line(side)
         for at in range(len(units) - 1):
-            pieces = [*units[:at], units[at] + units[at + 1], *units[at + 2:], AMQP]
+            pieces = [*units[:at], units[at] + units[at + 1], *units[at + 2 :], AMQP]
             rows.add(f"Two units in one call: the {side}.", line, pieces, login.nonces[side])
     for code in range(5):
         for mechanism in (MAIN, "PLAIN", "ANONYMOUS"):
             unit = spelled("Mechanisms", [mechanism.encode()])
             told = spelled("Outcome", code, None) + spelled("Outcome", 0, None)
-            rows.add(f"The outcome {CODES[code]} behind the init, and then Ok.", client_line(mechanism),
-                     [SASL, unit, told])
+            rows.add(
+                f"The outcome {CODES[code]} behind the init, and then Ok.", client_line(mechanism), [SASL, unit, told]
+            )
         told = spelled("Outcome", code, b"v=") + outcome
-        rows.add(f"The outcome {CODES[code]} behind the response, and then the server's.", login.client,
-                 [SASL, mechanisms, challenge, told], login.nonces["client"])
-    rows.add("An outcome with the signature behind the init.", login.client, [SASL, mechanisms, outcome, challenge],
-             login.nonces["client"])
+        rows.add(
+            f"The outcome {CODES[code]} behind the response, and then the server's.",
+            login.client,
+            [SASL, mechanisms, challenge, told],
+            login.nonces["client"],
+        )
+    rows.add(
+        "An outcome with the signature behind the init.",
+        login.client,
+        [SASL, mechanisms, outcome, challenge],
+        login.nonces["client"],
+    )
     for mechanism in ("PLAIN", "ANONYMOUS", "EXTERNAL"):
         unit = spelled("Mechanisms", [mechanism.encode()])
         rows.add(f"A challenge to {mechanism}.", client_line(mechanism), [SASL, unit, spelled("Challenge", b"") + AMQP])
@@ -757,10 +802,12 @@ def out_of_turn(rows):
 
 def refused_logins(rows):
     line = server_line(MAIN)
-    for name, client in [("A wrong password", client_line(MAIN, password=b"crayon")),
-                         ("An unknown user", client_line(MAIN, user=b"nobody")),
-                         ("An empty name", client_line(MAIN, user=b"")),
-                         ("A hostname", client_line(MAIN, hostname=b"localhost"))]:
+    for name, client in [
+        ("A wrong password", client_line(MAIN, password=b"crayon")),
+        ("An unknown user", client_line(MAIN, user=b"nobody")),
+        ("An empty name", client_line(MAIN, user=b"")),
+        ("A hostname", client_line(MAIN, hostname=b"localhost")),
+    ]:
         login = Login(line, client)
         for side in ("server", "client"):
             rows.add(f"{name}: the {side}.", login.line(side), [*login.units[side], AMQP], login.nonces[side])
@@ -771,13 +818,25 @@ def refused_logins(rows):
         rows.add("A list without the mechanism.", client_line(MAIN), [SASL, spelled("Mechanisms", names) + AMQP])
     names = [b"PLAIN", MAIN.encode(), b"ANONYMOUS"]
     rows.add("A list of three.", client_line(MAIN), [SASL, spelled("Mechanisms", names)], [b"\1" * 32])
-    for message in [None, b"", b"\0", b"\0user\0crayon", b"\0user\0pencil\0more", b"user\0user\0pencil",
-                    b"\0nobody\0pencil", b"\0user", b"\0user\0pencil "]:
+    for message in [
+        None,
+        b"",
+        b"\0",
+        b"\0user\0crayon",
+        b"\0user\0pencil\0more",
+        b"user\0user\0pencil",
+        b"\0nobody\0pencil",
+        b"\0user",
+        b"\0user\0pencil ",
+    ]:
         unit = spelled("Init", b"PLAIN", message, None)
         lenient = " lenient" if message in (b"user\0user\0pencil", b"\0user\0pencil\0more") else ""
         rows.add("A message of PLAIN.", server_line("PLAIN") + lenient, [SASL, unit + AMQP])
-    rows.add("Another mechanism to PLAIN, which reads its message.", server_line("PLAIN") + " lenient",
-             [SASL, spelled("Init", b"EXTERNAL", b"\0user\0pencil", b"h")])
+    rows.add(
+        "Another mechanism to PLAIN, which reads its message.",
+        server_line("PLAIN") + " lenient",
+        [SASL, spelled("Init", b"EXTERNAL", b"\0user\0pencil", b"h")],
+    )
     for mechanism, message in [(b"ANONYMOUS", None), (b"ANONYMOUS", b"me@example.org"), (b"PLAIN", b"\0user\0pencil")]:
         unit = spelled("Init", mechanism, message, None)
         lenient = " lenient" if mechanism == b"PLAIN" else ""
@@ -793,50 +852,137 @@ BOTH = NONCE + base64.b64encode(b"\2" * 32)
 
 
 def client_firsts(rows):
-    for message in [None, b"", b"n,,", b"n,,n=user", b"y,,n=user,r=x", b"p=tls-unique,,n=user,r=x",
-                    b"n,a=user,n=user,r=x", b"n,,m=x,n=user,r=x", b"n,,r=x,n=user", b"n,,n=us=er,r=x", b"n,,n=user,s=x",
-                    b"n,,n=\xff,r=x", b"n,,n=user,r=", b"n,,n=user,r=x,a=b", b"n,,n=use,r=x", b"n,,n=user=2C,r=x"]:
-        rows.add("A client-first message.", server_line(MAIN), [SASL, spelled("Init", MAIN.encode(), message, None)],
-                 [b"\2" * 32])
+    for message in [
+        None,
+        b"",
+        b"n,,",
+        b"n,,n=user",
+        b"y,,n=user,r=x",
+        b"p=tls-unique,,n=user,r=x",
+        b"n,a=user,n=user,r=x",
+        b"n,,m=x,n=user,r=x",
+        b"n,,r=x,n=user",
+        b"n,,n=us=er,r=x",
+        b"n,,n=user,s=x",
+        b"n,,n=\xff,r=x",
+        b"n,,n=user,r=",
+        b"n,,n=user,r=x,a=b",
+        b"n,,n=use,r=x",
+        b"n,,n=user=2C,r=x",
+    ]:
+        rows.add(
+            "A client-first message.",
+            server_line(MAIN),
+            [SASL, spelled("Init", MAIN.encode(), message, None)],
+            [b"\2" * 32],
+        )
 
 
 def client_finals(rows, login):
     proof = read(login.units["server"][2][4:])[1][0].split(b",p=")[1]
-    for binding, nonce, more in [(b"c=biws", BOTH, b",p=" + proof[:-1]), (b"c=biws", BOTH, b",p=" + proof[:8]),
-                                 (b"c=biws", BOTH, b",p="), (b"c=biws", BOTH, b",a=b"),
-                                 (b"c=biws", NONCE, b",p=" + proof), (b"c=biws", b"", b",p=" + proof),
-                                 (b"c=eSws", BOTH, b",p=" + proof), (b"c=!", BOTH, b",p=" + proof),
-                                 (b"c=", BOTH, b",p=" + proof), (b"a=b", BOTH, b",p=" + proof),
-                                 (b"c=biws", BOTH, b",a=b,p=" + proof), (b"c=biws", BOTH, b",p=" + proof + b",a=b"),
-                                 (b"c=biws", BOTH, b",p=" + proof + b"\xff"), (b"c=biws", BOTH, b",p=" + proof)]:
+    for binding, nonce, more in [
+        (b"c=biws", BOTH, b",p=" + proof[:-1]),
+        (b"c=biws", BOTH, b",p=" + proof[:8]),
+        (b"c=biws", BOTH, b",p="),
+        (b"c=biws", BOTH, b",a=b"),
+        (b"c=biws", NONCE, b",p=" + proof),
+        (b"c=biws", b"", b",p=" + proof),
+        (b"c=eSws", BOTH, b",p=" + proof),
+        (b"c=!", BOTH, b",p=" + proof),
+        (b"c=", BOTH, b",p=" + proof),
+        (b"a=b", BOTH, b",p=" + proof),
+        (b"c=biws", BOTH, b",a=b,p=" + proof),
+        (b"c=biws", BOTH, b",p=" + proof + b",a=b"),
+        (b"c=biws", BOTH, b",p=" + proof + b"\xff"),
+        (b"c=biws", BOTH, b",p=" + proof),
+    ]:
         message = binding + b",r=" + nonce + more
-        rows.add("A client-final message.", login.server,
-                 [*login.units["server"][:2], spelled("Response", message) + AMQP], login.nonces["server"])
+        rows.add(
+            "A client-final message.",
+            login.server,
+            [*login.units["server"][:2], spelled("Response", message) + AMQP],
+            login.nonces["server"],
+        )
     for message in [b"", b"c=biws", b"c=biws,r=" + BOTH, b"r=" + BOTH + b",c=biws,p=" + proof, b"\xff"]:
-        rows.add("A client-final message.", login.server,
-                 [*login.units["server"][:2], spelled("Response", message) + AMQP], login.nonces["server"])
+        rows.add(
+            "A client-final message.",
+            login.server,
+            [*login.units["server"][:2], spelled("Response", message) + AMQP],
+            login.nonces["server"],
+        )
 
 
 def server_firsts(rows, login):
     salt = b",s=" + base64.b64encode(b"\3" * 32)
     first = b"r=" + BOTH + salt
-    for message in [b"", b"\xff", b"r=" + BOTH, first, b"m=x," + first + b",i=1", b"n=" + first[2:] + b",i=1",
-                    b"r=x" + first[2:] + b",i=1", b"r=" + NONCE + salt + b",i=1", b"r=" + BOTH + b",i=1" + salt,
-                    b"r=" + BOTH + b",s=A,i=1", b"r=" + BOTH + b",s=,i=1", first + b",n=1", b"e=other-error",
-                    *(first + b",i=" + count for count in [b"", b"0", b"-1", b"+1", b"+", b"++1", b"1 ", b"0001", b"16",
-                                                           b"17", b"4294967295", b"4294967296", b"1,a=b"])]:
-        rows.add("A server-first message.", client_line(MAIN, limit=16),
-                 [*login.units["client"][:2], spelled("Challenge", message) + AMQP], login.nonces["client"])
+    for message in [
+        b"",
+        b"\xff",
+        b"r=" + BOTH,
+        first,
+        b"m=x," + first + b",i=1",
+        b"n=" + first[2:] + b",i=1",
+        b"r=x" + first[2:] + b",i=1",
+        b"r=" + NONCE + salt + b",i=1",
+        b"r=" + BOTH + b",i=1" + salt,
+        b"r=" + BOTH + b",s=A,i=1",
+        b"r=" + BOTH + b",s=,i=1",
+        first + b",n=1",
+        b"e=other-error",
+        *(
+            first + b",i=" + count
+            for count in [
+                b"",
+                b"0",
+                b"-1",
+                b"+1",
+                b"+",
+                b"++1",
+                b"1 ",
+                b"0001",
+                b"16",
+                b"17",
+                b"4294967295",
+                b"4294967296",
+                b"1,a=b",
+            ]
+        ),
+    ]:
+        rows.add(
+            "A server-first message.",
+            client_line(MAIN, limit=16),
+            [*login.units["client"][:2], spelled("Challenge", message) + AMQP],
+            login.nonces["client"],
+        )
 
 
 def server_finals(rows, login):
     shown = read(login.units["client"][3][4:])[1][1]
-    for data in [None, b"", b"v=", shown[:-1], shown + b",a=b", b"v=A", b"v=" + base64.b64encode(b"\0" * 32),
-                 b"e=other-error", b"\xff", shown + b"\xff", shown]:
-        rows.add("A server-final message.", login.client,
-                 [*login.units["client"][:3], spelled("Outcome", 0, data) + AMQP], login.nonces["client"])
-    rows.add("A password that is not printable.", client_line(MAIN, password=b"pen\x7fcil"), login.units["client"][:3],
-             login.nonces["client"])
+    for data in [
+        None,
+        b"",
+        b"v=",
+        shown[:-1],
+        shown + b",a=b",
+        b"v=A",
+        b"v=" + base64.b64encode(b"\0" * 32),
+        b"e=other-error",
+        b"\xff",
+        shown + b"\xff",
+        shown,
+    ]:
+        rows.add(
+            "A server-final message.",
+            login.client,
+            [*login.units["client"][:3], spelled("Outcome", 0, data) + AMQP],
+            login.nonces["client"],
+        )
+    rows.add(
+        "A password that is not printable.",
+        client_line(MAIN, password=b"pen\x7fcil"),
+        login.units["client"][:3],
+        login.nonces["client"],
+    )
 
 
 def scram_messages(rows):
@@ -854,7 +1000,7 @@ def large_replies(rows):
         rows.add(f"A user name of {length} bytes.", line, [SASL, mechanisms + AMQP])
     for mechanism in SCRAM:
         units = SASL, spelled("Mechanisms", [mechanism.encode()])
-        for length in ((422, 423) if mechanism == "SCRAM-SHA-1" else (420, 421)):
+        for length in (422, 423) if mechanism == "SCRAM-SHA-1" else (420, 421):
             rows.add(f"A user name of {length} bytes.", client_line(mechanism, b"u" * length), units, [b"\1" * 32])
     for length in (390, 391):
         unit = spelled("Init", MAIN.encode(), b"n,,n=user,r=" + b"x" * length, None)
@@ -862,8 +1008,12 @@ def large_replies(rows):
     for length in (387, 388):
         text = b"r=" + NONCE + b"x" * length + b",s=AwMD,i=1"
         login = Login(server_line(MAIN), client_line(MAIN))
-        rows.add(f"A server's nonce of {length} bytes.", login.client,
-                 [*login.units["client"][:2], spelled("Challenge", text)], login.nonces["client"])
+        rows.add(
+            f"A server's nonce of {length} bytes.",
+            login.client,
+            [*login.units["client"][:2], spelled("Challenge", text)],
+            login.nonces["client"],
+        )
 
 
 def other_spellings(rows):
@@ -889,14 +1039,20 @@ def single_messages(rows):
             rows.add(f"A login by {mechanism} with its message.", line, [SASL, listed, accepts + AMQP])
             rows.add(f"A login by {mechanism}, whose message is asked for.", line, [SASL, listed, asks, accepts + AMQP])
             rows.add(f"A message of {mechanism} that is asked for twice.", line, [SASL, listed, asks, asks, accepts])
-            rows.add(f"A challenge with a text to {mechanism}.", line, [SASL, listed, spelled("Challenge", b"\0") + AMQP])
-            rows.add(f"{mechanism} that is rejected once it is asked for.", line,
-                     [SASL, listed, asks, spelled("Outcome", 1, None)])
+            rows.add(
+                f"A challenge with a text to {mechanism}.", line, [SASL, listed, spelled("Challenge", b"\0") + AMQP]
+            )
+            rows.add(
+                f"{mechanism} that is rejected once it is asked for.",
+                line,
+                [SASL, listed, asks, spelled("Outcome", 1, None)],
+            )
             rows.add(f"A challenge to {mechanism} before the mechanisms.", line, [SASL, asks, listed])
             rows.add(f"Another list for {mechanism}.", line, [SASL, spelled("Mechanisms", [b"PLAIN"]) + AMQP])
 
 
 # Challenges beyond those of the mechanisms (RFC 4422, section 5)
+
 
 def server_with(words, mechanism, **given):
     return " ".join([server_line(mechanism, **given), *words])
@@ -920,18 +1076,31 @@ def longer_logins(rows):
         for side in ("server", "client"):
             both_ways(rows, f"A login by {mechanism} with the signature by challenge", signed, side)
         asked = Login(server_with(["asks"], mechanism), client_line(mechanism), late=True)
-        rows.add(f"A login by {mechanism}, whose initial response is asked for: the server.", asked.server,
-                 [*asked.units["server"], AMQP], asked.nonces["server"])
-        every = Login(server_with(["asks", "signs"], mechanism), by_challenge_line(mechanism, hostname=b"localhost"),
-                      late=True)
+        rows.add(
+            f"A login by {mechanism}, whose initial response is asked for: the server.",
+            asked.server,
+            [*asked.units["server"], AMQP],
+            asked.nonces["server"],
+        )
+        every = Login(
+            server_with(["asks", "signs"], mechanism), by_challenge_line(mechanism, hostname=b"localhost"), late=True
+        )
         both_ways(rows, f"A login by {mechanism} with both challenges", every, "server")
         plain = Login(server_line(mechanism), by_challenge_line(mechanism))
-        rows.add(f"A login by {mechanism} with the signature in the outcome, to a client that takes a challenge too.",
-                 plain.client, [*plain.units["client"], AMQP], plain.nonces["client"])
+        rows.add(
+            f"A login by {mechanism} with the signature in the outcome, to a client that takes a challenge too.",
+            plain.client,
+            [*plain.units["client"], AMQP],
+            plain.nonces["client"],
+        )
     every = Login(server_with(["asks", "signs"], MAIN), by_challenge_line(), late=True)
     stream, ends = b"".join(every.units["server"]) + AMQP, range(0, 1024, 7)
-    rows.add("A login with both challenges, in pieces of 7 bytes: the server.", every.server,
-             [stream[it:it + 7] for it in ends if it < len(stream)], every.nonces["server"])
+    rows.add(
+        "A login with both challenges, in pieces of 7 bytes: the server.",
+        every.server,
+        [stream[it : it + 7] for it in ends if it < len(stream)],
+        every.nonces["server"],
+    )
     usual = Login(server_with(["asks", "signs"], MAIN), by_challenge_line())
     both_ways(rows, "A login by an init with an initial response, which is not asked for", usual, "server")
 
@@ -942,23 +1111,40 @@ def asked_messages(rows):
     login = Login(line, client_line("PLAIN"), late=True)
     both_ways(rows, "A login by PLAIN, whose message is asked for", login, "server")
     usual = Login(server_with(["asks", "signs"], "PLAIN"), client_line("PLAIN"))
-    rows.add("A message of PLAIN that is not asked for, and no data in the outcome.", usual.server,
-             [*usual.units["server"], AMQP], usual.nonces["server"])
+    rows.add(
+        "A message of PLAIN that is not asked for, and no data in the outcome.",
+        usual.server,
+        [*usual.units["server"], AMQP],
+        usual.nonces["server"],
+    )
     unit = spelled("Init", b"PLAIN", None, None)
     for message in (b"", b"\0user\0crayon", b"\0nobody\0pencil"):
         rows.add("Another message of PLAIN that is asked for.", line, [SASL, unit, spelled("Response", message) + AMQP])
-    rows.add("An init of PLAIN in place of its message.", line,
-             [SASL, unit, spelled("Init", b"PLAIN", b"\0user\0pencil", None)])
+    rows.add(
+        "An init of PLAIN in place of its message.",
+        line,
+        [SASL, unit, spelled("Init", b"PLAIN", b"\0user\0pencil", None)],
+    )
     rows.add("An empty message of PLAIN, which is not asked for.", line, [SASL, spelled("Init", b"PLAIN", b"", None)])
-    rows.add("Another mechanism without a message, which is not asked for.", line,
-             [SASL, spelled("Init", b"EXTERNAL", None, None)])
+    rows.add(
+        "Another mechanism without a message, which is not asked for.",
+        line,
+        [SASL, spelled("Init", b"EXTERNAL", None, None)],
+    )
     for mechanism in ("ANONYMOUS", "EXTERNAL"):
         line = server_with(["asks", "signs"], mechanism)
-        both_ways(rows, f"{mechanism} without a message, which is not asked for", Login(line, client_line(mechanism)),
-                  "server")
-        for message in (b"nobody", b"", b"user")[:3 if mechanism == "EXTERNAL" else 1]:
-            rows.add(f"A message of {mechanism} to a server that asks.", line,
-                     [SASL, spelled("Init", mechanism.encode(), message, None)])
+        both_ways(
+            rows,
+            f"{mechanism} without a message, which is not asked for",
+            Login(line, client_line(mechanism)),
+            "server",
+        )
+        for message in (b"nobody", b"", b"user")[: 3 if mechanism == "EXTERNAL" else 1]:
+            rows.add(
+                f"A message of {mechanism} to a server that asks.",
+                line,
+                [SASL, spelled("Init", mechanism.encode(), message, None)],
+            )
     rows.add("A server of EXTERNAL.", server_line("EXTERNAL"), [SASL, spelled("Init", b"EXTERNAL", None, None)])
 
 
@@ -970,31 +1156,48 @@ def asked_scram(rows):
         first = read(Login(line, client_line(MAIN)).units["server"][1][4:])[1][1]
         for name, message in (("An empty response", b""), ("An unknown user", b"n,,n=nobody,r=fyko")):
             pieces = [SASL, unit, spelled("Response", message)]
-            rows.add(f"{name} where the client-first message is asked for.", line,
-                     pieces if words == ["asks"] else [b"".join(pieces) + AMQP], [b"\2" * 32])
-        rows.add("A second init in place of the client-first message.", line,
-                 [SASL, unit, spelled("Init", MAIN.encode(), first, None)], [b"\2" * 32])
+            rows.add(
+                f"{name} where the client-first message is asked for.",
+                line,
+                pieces if words == ["asks"] else [b"".join(pieces) + AMQP],
+                [b"\2" * 32],
+            )
+        rows.add(
+            "A second init in place of the client-first message.",
+            line,
+            [SASL, unit, spelled("Init", MAIN.encode(), first, None)],
+            [b"\2" * 32],
+        )
     for password, words in ((b"crayon", ["signs"]), (b"crayon", ["asks", "signs"])):
         login = Login(server_with(words, MAIN), by_challenge_line(password=password), late="asks" in words)
         both_ways(rows, "A wrong password", login, "server")
     login = Login(server_with(["signs"], MAIN), by_challenge_line(password=b"crayon"))
     rows.add("A wrong password: the client.", login.client, [*login.units["client"], AMQP], login.nonces["client"])
     login = Login(server_with(["signs"], MAIN), by_challenge_line(user=b"nobody"))
-    rows.add("An unknown user, to a server that signs.", login.server, [*login.units["server"], AMQP],
-             login.nonces["server"])
+    rows.add(
+        "An unknown user, to a server that signs.", login.server, [*login.units["server"], AMQP], login.nonces["server"]
+    )
 
 
 def confirmations(rows):
     """What follows the challenge with the signature, to a server."""
     login = Login(server_with(["signs"], MAIN), by_challenge_line())
     *before, empty = login.units["server"]
-    for name, unit in [("A response of one byte", spelled("Response", b"\0")),
-                       ("The client-final message", before[-1]), ("The init", before[1]),
-                       ("An outcome", spelled("Outcome", 0, None)), ("The size 513", (513).to_bytes(4, "big")),
-                       ("Two empty responses", empty + empty)]:
+    for name, unit in [
+        ("A response of one byte", spelled("Response", b"\0")),
+        ("The client-final message", before[-1]),
+        ("The init", before[1]),
+        ("An outcome", spelled("Outcome", 0, None)),
+        ("The size 513", (513).to_bytes(4, "big")),
+        ("Two empty responses", empty + empty),
+    ]:
         rows.add(f"{name} in place of the empty response.", login.server, [*before, unit], login.nonces["server"])
-    rows.add("A response of one byte in place of the empty response, all at once.", login.server,
-             [b"".join(before) + spelled("Response", b"\0") + AMQP], login.nonces["server"])
+    rows.add(
+        "A response of one byte in place of the empty response, all at once.",
+        login.server,
+        [b"".join(before) + spelled("Response", b"\0") + AMQP],
+        login.nonces["server"],
+    )
 
 
 def signatures(rows):
@@ -1009,18 +1212,40 @@ def signatures(rows):
     rows.add("An outcome without data in place of the challenge.", login.client, [*before[:2], accepted], nonces)
     for pieces in ([*before, accepted], [b"".join([*before, accepted])]):
         rows.add("An outcome without data in place of the signature.", login.client, pieces, nonces)
-    for data in (b"", b"v=", shown[:-1], b"v=A", b"v=" + base64.b64encode(b"\0" * 32), b"e=other-error", b"\xff",
-                 read(before[2][4:])[1][0], shown + b",a=b"):
-        rows.add("A server-final message in a challenge.", login.client,
-                 [*before, spelled("Challenge", data), accepted], nonces)
-    rows.add("A server-final message in place of the server-first message.", login.client, [*before[:2], signed],
-             nonces)
+    for data in (
+        b"",
+        b"v=",
+        shown[:-1],
+        b"v=A",
+        b"v=" + base64.b64encode(b"\0" * 32),
+        b"e=other-error",
+        b"\xff",
+        read(before[2][4:])[1][0],
+        shown + b",a=b",
+    ):
+        rows.add(
+            "A server-final message in a challenge.",
+            login.client,
+            [*before, spelled("Challenge", data), accepted],
+            nonces,
+        )
+    rows.add(
+        "A server-final message in place of the server-first message.", login.client, [*before[:2], signed], nonces
+    )
     for data in (shown, b"", b"\xff"):
-        rows.add("Data of an outcome behind the signature.", login.client,
-                 [*before, signed, spelled("Outcome", 0, data) + AMQP], nonces)
+        rows.add(
+            "Data of an outcome behind the signature.",
+            login.client,
+            [*before, signed, spelled("Outcome", 0, data) + AMQP],
+            nonces,
+        )
     for code in (1, 4):
-        rows.add(f"The outcome {CODES[code]} behind the signature.", login.client,
-                 [*before, signed, spelled("Outcome", code, None) + accepted], nonces)
+        rows.add(
+            f"The outcome {CODES[code]} behind the signature.",
+            login.client,
+            [*before, signed, spelled("Outcome", code, None) + accepted],
+            nonces,
+        )
     rows.add("A rejection in place of the signature.", login.client, [*before, spelled("Outcome", 1, None)], nonces)
     for pieces in ([*before, before[1]], [*before, signed, before[1]]):
         rows.add("The list where the signature and its outcome are due.", login.client, pieces, nonces)
@@ -1064,14 +1289,30 @@ def other_nonces(rows):
     for ours, theirs in [(1, 2), (1, 4), (5, 2), (5, 4)]:
         login = Login(server_line(MAIN), client_line(MAIN, limit=16), bytes([ours]) * 32, bytes([theirs]) * 32)
         for side in ("server", "client"):
-            rows.add(f"A login with the nonces {ours} and {theirs}: the {side}.", login.line(side),
-                     [*login.units[side], AMQP], login.nonces[side])
+            rows.add(
+                f"A login with the nonces {ours} and {theirs}: the {side}.",
+                login.line(side),
+                [*login.units[side], AMQP],
+                login.nonces[side],
+            )
 
 
 def connections():
     rows = Rows(HEADING + MODEL)
-    for part in (whole_logins, headers, sizes, types, out_of_turn, refused_logins, scram_messages, large_replies,
-                 other_spellings, single_messages, more_challenges, other_nonces):
+    for part in (
+        whole_logins,
+        headers,
+        sizes,
+        types,
+        out_of_turn,
+        refused_logins,
+        scram_messages,
+        large_replies,
+        other_spellings,
+        single_messages,
+        more_challenges,
+        other_nonces,
+    ):
         part(rows)
     return rows
 
@@ -1079,18 +1320,23 @@ def connections():
 def outside():
     """The runs of other programs over bodies, each as a connection."""
     heading, *runs = PEERS.read_text().split("\n\n")
-    source = heading[heading.index("# Source: "):].removeprefix("# Source: ").partition("\nparagraphs ")[0]
-    rows = Rows(f"{HEADING}{source}\n# Headers, sizes and the pieces were made, by `tools/models/negotiations.py`, which wrote "
-                "this file from\n# crates/test_driver_frames/data/peer-runs.txt. Of the last ones, from peer-streams.txt, "
-                "all bytes are real.")
+    source = heading[heading.index("# Source: ") :].removeprefix("# Source: ").partition("\nparagraphs ")[0]
+    rows = Rows(
+        f"{HEADING}{source}\n# Headers, sizes and the pieces were made, by `tools/models/negotiations.py`, which wrote "
+        "this file from\n# crates/test_driver_frames/data/peer-runs.txt. Of the last ones, from peer-streams.txt, "
+        "all bytes are real."
+    )
     for at, run in enumerate(runs):
         side, *lines = [it for it in run.splitlines() if it and not it.startswith("#")]
         events = [it.replace(" => ", " ").split(" ") for it in lines]
         line = {"server": f"{side} 4096", "client": f"{side} {HIGHEST} none"}.get(side.split(" ")[0], side)
         units = [SASL, *(frame(unhexed(it[1])) for it in events)]
         stream = b"".join(units) + AMQP
-        ways = [("unit by unit", [*units, AMQP]), ("all at once", [stream]),
-                ("in pieces of 50 bytes", [stream[it:it + 50] for it in range(0, len(stream), 50)])]
+        ways = [
+            ("unit by unit", [*units, AMQP]),
+            ("all at once", [stream]),
+            ("in pieces of 50 bytes", [stream[it : it + 50] for it in range(0, len(stream), 50)]),
+        ]
         name, pieces = ways[at // 2 % 3]
         # (those of the other sides are answered here, and by the program as runs alone)
         told = Rows("") if line == side else rows
@@ -1105,8 +1351,9 @@ def streams(rows):
     for paragraph in STREAMS.read_text().rstrip("\n").split("\n\n")[1:]:
         name, line, *given = paragraph.splitlines()
         words = [it.split(" ") for it in given]
-        nonces, pieces, recorded = ([unhexed(it[1]) for it in words if it[0] == kind]
-                                    for kind in ("nonce", "came", "sent"))
+        nonces, pieces, recorded = (
+            [unhexed(it[1]) for it in words if it[0] == kind] for kind in ("nonce", "came", "sent")
+        )
         _, sent = rows.add(f"{name.removeprefix('# ')}.", line, pieces, nonces)
         if sent != b"".join(recorded).removeprefix(SASL if line.startswith("client") else b""):
             sys.exit(f"not as recorded: {name} {sent.hex()}")
@@ -1153,17 +1400,21 @@ def logins():
             line, [nonce] = login.line(name), login.nonces[name]
             stream = b"".join(login.units[name]) + AMQP
             for length in (MOST, 50, 7):
-                side, pieces = side_of(line), [stream[it:it + length] for it in range(0, len(stream), length)]
+                side, pieces = side_of(line), [stream[it : it + length] for it in range(0, len(stream), length)]
                 sent, whole, taken = negotiated(side, pieces, nonce)
                 given = " ".join([nonce_word(nonce), *(it.hex() for it in pieces)])
-                lines.append(f"{call} {line.partition(' ')[2]} {given} => {hexed(sent)} {whole} {taken} {side.progress}")
+                lines.append(
+                    f"{call} {line.partition(' ')[2]} {given} => {hexed(sent)} {whole} {taken} {side.progress}"
+                )
     return "\n".join(lines) + "\n"
 
 
 def made():
     """The files."""
-    files = {CONNECTIONS / name: rows.text()
-             for name, rows in (("connections.txt", connections()), ("peer-connections.txt", outside()))}
+    files = {
+        CONNECTIONS / name: rows.text()
+        for name, rows in (("connections.txt", connections()), ("peer-connections.txt", outside()))
+    }
     files[CONNECTIONS / "calls-logins.txt"] = logins()
     return files
 

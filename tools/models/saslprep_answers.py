@@ -28,8 +28,17 @@ CODE_POINTS = [c for c in range(0x110000) if not 0xD800 <= c < 0xE000]
 # What Unicode since the version that this Python knows, 14, changes by NFKC: no answer from outside is at hand, but
 # that it is another than in Unicode 3.2.
 LATER = [
-    (0x0558, 0x0558), (0x058B, 0x058C), (0x209D, 0x209F), (0xA7F1, 0xA7F1), (0x107BB, 0x107BF), (0x1B123, 0x1B126),
-    (0x1CCD6, 0x1CCF9), (0x1D6A6, 0x1D6A6), (0x1DF95, 0x1DF95), (0x1DFCD, 0x1DFFF), (0x1E030, 0x1E06D),
+    (0x0558, 0x0558),
+    (0x058B, 0x058C),
+    (0x209D, 0x209F),
+    (0xA7F1, 0xA7F1),
+    (0x107BB, 0x107BF),
+    (0x1B123, 0x1B126),
+    (0x1CCD6, 0x1CCF9),
+    (0x1D6A6, 0x1D6A6),
+    (0x1DF95, 0x1DF95),
+    (0x1DFCD, 0x1DFFF),
+    (0x1E030, 0x1E06D),
 ]
 
 # The words of stringprep.h: what its calls return, and the flag of stored strings.
@@ -230,11 +239,11 @@ def texts():
         letters = [c for first, last in alphabet for c in range(first, last + 1)]
         rows = set()
         while len(rows) < 200:
-            if chance.random() < 0.5:
-                letter = lambda: chance.choice(letters)
-            else:
-                letter = lambda: chance.randint(*chance.choice(alphabet))
-            made = "".join(chr(letter()) for _ in range(chance.randint(2, 6)))
+            is_even = chance.random() < 0.5
+            made = "".join(
+                chr(chance.choice(letters) if is_even else chance.randint(*chance.choice(alphabet)))
+                for _ in range(chance.randint(2, 6))
+            )
             refused = chance.random() < 0.7
             answer = agreed(made, refused)
             if answer is not None and not changed(made) and not any(is_later(ord(c)) for c in made):

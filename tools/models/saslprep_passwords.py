@@ -24,9 +24,18 @@ HASHES = {"SCRAM-SHA-1": "sha1", "SCRAM-SHA-256": "sha256", "SCRAM-SHA-512": "sh
 # Passwords as they are typed: of printable ASCII, examples of RFC 4013, section 3, and texts that are composed,
 # that stay as they are, that have other spaces, and that are written from right to left.
 TYPED = [
-    "pencil", "I\u00adX", "\u2168", "\u00aa", "p\u00e4ssw\u00f6rd", "pa\u0308sswo\u0308rd", "\ufb03 \u212b",
-    "\u30d1\u30b9\u30ef\u30fc\u30c9", "\uff8a\uff9f\uff7d\uff9c\uff70\uff84\uff9e", "pen\u00a0cil",
-    "\u05e1\u05d5\u05d3", "\U0001d538\U00010400",
+    "pencil",
+    "I\u00adX",
+    "\u2168",
+    "\u00aa",
+    "p\u00e4ssw\u00f6rd",
+    "pa\u0308sswo\u0308rd",
+    "\ufb03 \u212b",
+    "\u30d1\u30b9\u30ef\u30fc\u30c9",
+    "\uff8a\uff9f\uff7d\uff9c\uff70\uff84\uff9e",
+    "pen\u00a0cil",
+    "\u05e1\u05d5\u05d3",
+    "\U0001d538\U00010400",
 ]
 
 RECORDS = """\
@@ -109,8 +118,18 @@ class Keys:
 
 def by_gsasl(mechanism, typed, salt, count):
     """The record that GNU SASL makes of the typed password."""
-    command = ["gsasl", "--mkpasswd", "--mechanism", mechanism, "--iteration-count", str(count),
-               "--salt", encoded(salt), "--password", typed]
+    command = [
+        "gsasl",
+        "--mkpasswd",
+        "--mechanism",
+        mechanism,
+        "--iteration-count",
+        str(count),
+        "--salt",
+        encoded(salt),
+        "--password",
+        typed,
+    ]
     try:
         line = subprocess.run(command, check=True, capture_output=True, text=True).stdout.strip()
     except FileNotFoundError:

@@ -70,17 +70,22 @@ def tested(tests, side):
 def client_first(text, side, headers=("n,,",)):
     """What a server says (section 5.1): what it reads in any case, and then what it tests."""
     header = next((it for it in headers if text.startswith(it)), None)
-    bare = text[len(header or ""):]
+    bare = text[len(header or "") :]
     parts = bare.split(",")
     second = parts[1] if len(parts) > 1 else ""
-    return first_failure(tested([
-        (None, "CannotParseGs2Header", header is not None),
-        (None, "CannotParseUsername", match(r"n=(?:[^,=]|=2C|=3D)*", parts[0])),
-        (None, "CannotParseClientNonce", second.startswith("r=")),
-        ("grammar", "CannotParseUsername", match(f"n={SASLNAME}", parts[0])),
-        ("grammar", "CannotParseClientNonce", match(f"r={PRINTABLE}+", second)),
-        ("extensions", "MisplacedAttribute", match(f"[^,]*,[^,]*{EXTENSIONS}", bare)),
-    ], side))
+    return first_failure(
+        tested(
+            [
+                (None, "CannotParseGs2Header", header is not None),
+                (None, "CannotParseUsername", match(r"n=(?:[^,=]|=2C|=3D)*", parts[0])),
+                (None, "CannotParseClientNonce", second.startswith("r=")),
+                ("grammar", "CannotParseUsername", match(f"n={SASLNAME}", parts[0])),
+                ("grammar", "CannotParseClientNonce", match(f"r={PRINTABLE}+", second)),
+                ("extensions", "MisplacedAttribute", match(f"[^,]*,[^,]*{EXTENSIONS}", bare)),
+            ],
+            side,
+        )
+    )
 
 
 def server_first(text, side, nonce=CLIENT_NONCE):
@@ -88,56 +93,152 @@ def server_first(text, side, nonce=CLIENT_NONCE):
     parts = text.split(",")
     third = parts[2] if len(parts) > 2 else ""
     digits = third[2:]
-    return first_failure(tested([
-        (None, "InsufficientParts", len(parts) > 2),
-        (None, "ExtensionNotSupported", not parts[0].startswith("m=")),
-        (None, "NonceNotFound", parts[0].startswith("r=")),
-        (None, "ClientNonceMismatch", parts[0].startswith("r=" + nonce)),
-        (None, "SaltNotFound", len(parts) > 1 and parts[1].startswith("s=")),
-        (None, "Base64DecodeError", len(parts) > 1 and match(f"s={BASE64}", parts[1])),
-        (None, "IterationCountNotFound", third.startswith("i=")),
-        (None, "IterationCountParseError", match(r"\+?[0-9]+", digits) and 1 <= int(digits) < 2**32),
-        ("grammar", "ClientNonceMismatch", match(f"r={re.escape(nonce)}{PRINTABLE}+", parts[0])),
-        ("grammar", "IterationCountParseError", match(COUNT, digits)),
-        ("extensions", "MisplacedAttribute", match(f"[^,]*,[^,]*,[^,]*{EXTENSIONS}", text)),
-    ], side))
+    return first_failure(
+        tested(
+            [
+                (None, "InsufficientParts", len(parts) > 2),
+                (None, "ExtensionNotSupported", not parts[0].startswith("m=")),
+                (None, "NonceNotFound", parts[0].startswith("r=")),
+                (None, "ClientNonceMismatch", parts[0].startswith("r=" + nonce)),
+                (None, "SaltNotFound", len(parts) > 1 and parts[1].startswith("s=")),
+                (None, "Base64DecodeError", len(parts) > 1 and match(f"s={BASE64}", parts[1])),
+                (None, "IterationCountNotFound", third.startswith("i=")),
+                (None, "IterationCountParseError", match(r"\+?[0-9]+", digits) and 1 <= int(digits) < 2**32),
+                ("grammar", "ClientNonceMismatch", match(f"r={re.escape(nonce)}{PRINTABLE}+", parts[0])),
+                ("grammar", "IterationCountParseError", match(COUNT, digits)),
+                ("extensions", "MisplacedAttribute", match(f"[^,]*,[^,]*,[^,]*{EXTENSIONS}", text)),
+            ],
+            side,
+        )
+    )
 
 
 def client_final(text, side, nonce=BOTH, binding=b"n,,"):
     """What a server with this nonce says, which expects this header with the data of a channel."""
     before, comma, proof = text.rpartition(",")
     parts = text.split(",")
-    return first_failure(tested([
-        (None, "CannotParseClientFinalMessage", parts[0].startswith("c=")),
-        (None, "Base64DecodeError", match(f"c={BASE64}", parts[0])),
-        (None, "InvalidChannelBinding", parts[0] == "c=" + base64.b64encode(binding).decode()),
-        (None, "CannotParseClientFinalMessage", len(parts) > 1 and parts[1].startswith("r=")),
-        (None, "IncorrectClientFinalNonce", len(parts) > 1 and parts[1] == "r=" + nonce),
-        (None, "ProofNotFoundInClientFinal", comma and proof.startswith("p=")),
-        (None, "Base64DecodeError", match(f"p={BASE64}", proof)),
-        ("extensions", "MisplacedAttribute", match(f"[^,]*,[^,]*{EXTENSIONS}", before)),
-    ], side))
+    return first_failure(
+        tested(
+            [
+                (None, "CannotParseClientFinalMessage", parts[0].startswith("c=")),
+                (None, "Base64DecodeError", match(f"c={BASE64}", parts[0])),
+                (None, "InvalidChannelBinding", parts[0] == "c=" + base64.b64encode(binding).decode()),
+                (None, "CannotParseClientFinalMessage", len(parts) > 1 and parts[1].startswith("r=")),
+                (None, "IncorrectClientFinalNonce", len(parts) > 1 and parts[1] == "r=" + nonce),
+                (None, "ProofNotFoundInClientFinal", comma and proof.startswith("p=")),
+                (None, "Base64DecodeError", match(f"p={BASE64}", proof)),
+                ("extensions", "MisplacedAttribute", match(f"[^,]*,[^,]*{EXTENSIONS}", before)),
+            ],
+            side,
+        )
+    )
 
 
 def server_final(text, side, signature=SIGNATURE):
     """What a client says that waits for this signature."""
     parts = text.split(",")
-    return first_failure(tested([
-        (None, "ServerSignatureMismatch", parts[0].startswith("v=")),
-        (None, "Base64DecodeError", match(f"v={BASE64}", parts[0])),
-        ("extensions", "MisplacedAttribute", match(f"[^,]*{EXTENSIONS}", text)),
-        (None, "ServerSignatureMismatch", parts[0] == "v=" + signature),
-    ], side))
+    return first_failure(
+        tested(
+            [
+                (None, "ServerSignatureMismatch", parts[0].startswith("v=")),
+                (None, "Base64DecodeError", match(f"v={BASE64}", parts[0])),
+                ("extensions", "MisplacedAttribute", match(f"[^,]*{EXTENSIONS}", text)),
+                (None, "ServerSignatureMismatch", parts[0] == "v=" + signature),
+            ],
+            side,
+        )
+    )
 
 
 # Texts in the place of extensions.
-ENDS = ["", ",x=1", ",X=1", ",A=", ",A=a", ",x==", ",x=1,y=2", ",", ",,x=1", ",x", ",x=", ",=1", ",xy=1", ",1=1", ", x=1",
-        ",x=\0", ",x=\u00e4", ",\u00e4=1", ",m=1", ",a=admin", ",n=user", ",r=a", ",c=biws", ",s=AAAA", ",i=1", ",p=AAAA",
-        ",v=AAAA", ",e=other-error", ",x=1,m=1", ",m", ",M=1"]
-NAMES = ["user", "", "u", "=2C", "=3D", "u=2Cs=3Dr", "\0", "u\0", "\0u", "u r", "J\u00fcrgen", "\x7f", "\x01", "=", "=2c"]
-NONCES = [CLIENT_NONCE, "", "a", "!", "~", "+", "=", "\x7f", " ", "a b", "a\t", "a\0", "\u00e4", "a\u00e4", "-", "%", "\x1f"]
-COUNTS = ["4096", "1", "0", "+1", "+4096", "04096", "00", "+", "-1", "", "4294967295", "4294967296", "04294967295", " 1",
-          "1 ", "1e3", "10"]
+ENDS = [
+    "",
+    ",x=1",
+    ",X=1",
+    ",A=",
+    ",A=a",
+    ",x==",
+    ",x=1,y=2",
+    ",",
+    ",,x=1",
+    ",x",
+    ",x=",
+    ",=1",
+    ",xy=1",
+    ",1=1",
+    ", x=1",
+    ",x=\0",
+    ",x=\u00e4",
+    ",\u00e4=1",
+    ",m=1",
+    ",a=admin",
+    ",n=user",
+    ",r=a",
+    ",c=biws",
+    ",s=AAAA",
+    ",i=1",
+    ",p=AAAA",
+    ",v=AAAA",
+    ",e=other-error",
+    ",x=1,m=1",
+    ",m",
+    ",M=1",
+]
+NAMES = [
+    "user",
+    "",
+    "u",
+    "=2C",
+    "=3D",
+    "u=2Cs=3Dr",
+    "\0",
+    "u\0",
+    "\0u",
+    "u r",
+    "J\u00fcrgen",
+    "\x7f",
+    "\x01",
+    "=",
+    "=2c",
+]
+NONCES = [
+    CLIENT_NONCE,
+    "",
+    "a",
+    "!",
+    "~",
+    "+",
+    "=",
+    "\x7f",
+    " ",
+    "a b",
+    "a\t",
+    "a\0",
+    "\u00e4",
+    "a\u00e4",
+    "-",
+    "%",
+    "\x1f",
+]
+COUNTS = [
+    "4096",
+    "1",
+    "0",
+    "+1",
+    "+4096",
+    "04096",
+    "00",
+    "+",
+    "-1",
+    "",
+    "4294967295",
+    "4294967296",
+    "04294967295",
+    " 1",
+    "1 ",
+    "1e3",
+    "10",
+]
 
 
 def rows():
@@ -157,8 +258,12 @@ def rows():
         yield "server-first", f"r={CLIENT_NONCE}{nonce},s=QSXCR+Q6sek8bf92,i=4096"
     for count in COUNTS:
         yield "server-first", f"{base},i={count}"
-    for text in (f"r={CLIENT_NONCE},s=QSXCR+Q6sek8bf92,i=+1,m=1", f"{base},i=+1,m=1", f"r={CLIENT_NONCE},s=A,i=+1",
-                 f"r={CLIENT_NONCE},s=,i=0"):
+    for text in (
+        f"r={CLIENT_NONCE},s=QSXCR+Q6sek8bf92,i=+1,m=1",
+        f"{base},i=+1,m=1",
+        f"r={CLIENT_NONCE},s=A,i=+1",
+        f"r={CLIENT_NONCE},s=,i=0",
+    ):
         yield "server-first", text
     for end in ENDS:
         yield "client-final", f"c=biws,r={BOTH}{end},p={PROOF}"
@@ -175,8 +280,12 @@ def quoted(text):
     return f'"{out}"'
 
 
-READERS = {"client-first": client_first, "server-first": server_first, "client-final": client_final,
-           "server-final": server_final}
+READERS = {
+    "client-first": client_first,
+    "server-first": server_first,
+    "client-final": client_final,
+    "server-final": server_final,
+}
 KINDS = list(READERS)
 
 
@@ -211,7 +320,9 @@ def peers():
         text = max(texts, key=len, default=b"").decode()
         if code == 0x44 and "v=" not in text:
             continue
-        found = re.search({0x41: r"(?:n|y|p=[^,]*),[^,]*,n=.*", 0x42: r"r=.*", 0x43: r"c=.*", 0x44: r"v=.*"}[code], text)
+        found = re.search(
+            {0x41: r"(?:n|y|p=[^,]*),[^,]*,n=.*", 0x42: r"r=.*", 0x43: r"c=.*", 0x44: r"v=.*"}[code], text
+        )
         if not found:
             continue
         count += 1

@@ -111,7 +111,7 @@ def claims(side: ServerConnection) -> str:
 def certified_name(writer: asyncio.StreamWriter) -> str:
     """Returns the common name in the certificate that TLS has verified; empty unless there is exactly one."""
     subject = (writer.get_extra_info("peercert") or {}).get("subject", ())
-    names = [value for part in subject for kind, value in part if kind == "commonName"]
+    names: list[str] = [value for part in subject for kind, value in part if kind == "commonName"]
     return names[0] if len(names) == 1 else ""
 
 
@@ -132,9 +132,11 @@ async def main(port: str, users: str, *tls: str) -> None:
     if context is not None:
         context.verify_mode = ssl.CERT_OPTIONAL
         context.load_cert_chain(*tls[:2])
-    limits = {"limit": 4096, "ssl_handshake_timeout": LOGIN_SECONDS if tls else None}
     serve = Broker(Path(users), is_tls=bool(tls)).serve
-    server = await asyncio.start_server(serve, "127.0.0.1", int(port), ssl=context, **limits)
+    seconds = LOGIN_SECONDS if tls else None
+    server = await asyncio.start_server(
+        serve, "127.0.0.1", int(port), ssl=context, limit=4096, ssl_handshake_timeout=seconds
+    )
     print(server.sockets[0].getsockname()[1], flush=True)
     await server.serve_forever()
 

@@ -46,8 +46,14 @@ class Login:
         """Returns a login that has not begun. Qpid Proton's servers send the signature of SCRAM in a challenge."""
         if not (allowed := self.allowed()):
             raise ConnectionError("no mechanism is allowed")
-        options = {"max_iterations": 100_000, "signature_by_challenge": True}
-        return ClientConnection.select(self.user, self.password, allowed, hostname=self.host, **options)
+        return ClientConnection.select(
+            self.user,
+            self.password,
+            allowed,
+            hostname=self.host,
+            max_iterations=100_000,
+            signature_by_challenge=True,
+        )
 
 
 async def log_in(login: Login, reader: asyncio.StreamReader, writer: asyncio.StreamWriter) -> tuple[str, bytes]:

@@ -48,3 +48,17 @@ pub mod ServerReplayLemmas
 pub mod ServerByteLemmas
 pub mod ServerRetryLemmas
 pub mod LoginByteLemmas
+pub mod SignedLoginLemmas
+pub mod ServerPairLemmas
+pub mod ServerProofLemmas
+pub mod PolicyCallLemmas
+pub mod PolicyByteLemmas
+pub mod PolicySelectedLemmas
+pub mod PolicyLoginLemmas
+pub mod ProfileKindLemmas
+pub mod PolicyScramLemmas
+pub mod PolicyCostLemmas
+pub mod PolicyBoundLemmas
+pub mod PolicyProfileLemmas
+pub mod PolicyChoiceLemmas
+pub mod PolicyDivisionLemmas

@@ -12,3 +12,5 @@ pub mod ServerHmacs
 pub mod ServerBytes
 pub mod CallPieces
 pub mod ServerReplays
+pub mod ServerPairs
+pub mod PolicyClients

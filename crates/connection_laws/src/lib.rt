@@ -6,6 +6,8 @@ pub mod cuts;
 pub mod hostile;
 pub mod joined;
 pub mod pairs;
+pub mod policy_clients;
 pub mod server_logins;
+pub mod server_pairs;
 pub mod servers;
 pub mod unaltered;

@@ -29,7 +29,7 @@ pub fn proofs()
 /// - `shown`: if the server accepted the proof that the client showed, and both agree on the login, both bind one channel.
 ///
 /// Each SCRAM profile that a policy with a channel selects meets the premise (`client_policy::laws::selected_channels`), and
-/// so does each SCRAM mechanism of a password server with channels (`password_server::laws::offered_scrams`).
+/// so does each SCRAM mechanism of a `Server` with channels (`server::laws::offered_scrams`).
 pub fn bound_channels()
     ensures verified { LoggedInClientsBindOneChannel }
     ensures shown { AcceptedProofsBindOneChannel }

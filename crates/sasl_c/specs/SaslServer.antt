@@ -161,7 +161,7 @@ ShowsState scram (Failed why) logged = scram.state ≡ 0
 -- the struct of SCRAM that a call writes for a login of this progress and stage
 abbrev pub progress_struct : Progress → KeptStage → Option Rejection → ScramStruct
 progress_struct (Failed why) stage rejection = rejected_struct (rejection_number rejection)
-progress_struct progress stage rejection = stage_struct stage
+progress_struct other stage rejection = stage_struct stage
 
 -- the struct that a call writes for a server
 abbrev pub state_struct : Progress → Logged → ScramStruct
@@ -170,7 +170,7 @@ state_struct progress logged = progress_struct progress (kept_stage logged.serve
 -- the struct of SCRAM shows a login of this progress and stage, after a call
 abbrev pub ShowsProgress : ScramStruct → Progress → KeptStage → Type 0
 ShowsProgress scram (Failed why) stage = scram.state ≡ 0
-ShowsProgress scram progress stage = ShowsStage scram stage
+ShowsProgress scram other stage = ShowsStage scram stage
 
 abbrev pub ShowsNext : ScramStruct → Progress → Logged → Type 0
 ShowsNext scram progress logged = ShowsProgress scram progress (kept_stage logged.server.stage)

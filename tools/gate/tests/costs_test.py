@@ -64,10 +64,13 @@ class Costs(unittest.TestCase):
         self.assertEqual(costs.longest_chain({}, LINES), (0, ()))
 
     def test_the_closing_lines(self):
-        self.assertEqual(costs.closing(RECORD), [
-            "gate: 10,812 processor seconds, 66 min on 4 processors; other processes took 1,200 s",
-            "gate: longest chain 56 min: low, middle (tests)",
-        ])
+        self.assertEqual(
+            costs.closing(RECORD),
+            [
+                "gate: 10,812 processor seconds, 66 min on 4 processors; other processes took 1,200 s",
+                "gate: longest chain 56 min: low, middle (tests)",
+            ],
+        )
         self.assertEqual(len(costs.closing(RECORD | {"chain": {"seconds": 0, "crates": ()}})), 1)
 
 

@@ -32,7 +32,9 @@ class Notices(unittest.TestCase):
         for name, uses in USES.items():
             (self.kit / "rattle" / name / "src").mkdir(parents=True)
             (self.kit / "rlibs" / f"{name}.rlib").mkdir(parents=True)
-            (self.kit / "rlibs" / f"{name}.rlib" / "format").write_text("rlib\n" + "".join(f"dep {it}\n" for it in uses))
+            (self.kit / "rlibs" / f"{name}.rlib" / "format").write_text(
+                "rlib\n" + "".join(f"dep {it}\n" for it in uses)
+            )
         for name, text in FILES.items():
             (self.kit / "rattle" / name).write_text(text)
         kept = notices.WITHOUT

@@ -9,9 +9,20 @@ sys.path.insert(0, str(Path(__file__).resolve().parents[1]))
 
 import pages
 
-BUDGET = {"README.md": (2, 4), "docs/A.md": (3, 9), "pages": (4, 10), "READMEs": (None, 3), "CHANGELOG.md": (None, None)}
-FIT = {"README.md": "one two\nthree\n", "docs/A.md": "one\ntwo\n", "crates/a/README.md": "one two\n",
-       "CHANGELOG.md": "one\n" * 50, "crates/a/SIGNATURES.md": "x" * 500 + "\n"}
+BUDGET = {
+    "README.md": (2, 4),
+    "docs/A.md": (3, 9),
+    "pages": (4, 10),
+    "READMEs": (None, 3),
+    "CHANGELOG.md": (None, None),
+}
+FIT = {
+    "README.md": "one two\nthree\n",
+    "docs/A.md": "one\ntwo\n",
+    "crates/a/README.md": "one two\n",
+    "CHANGELOG.md": "one\n" * 50,
+    "crates/a/SIGNATURES.md": "x" * 500 + "\n",
+}
 
 
 class Pages(unittest.TestCase):
@@ -23,23 +34,31 @@ class Pages(unittest.TestCase):
         self.assertEqual(self.faults(), [])
 
     def test_above(self):
-        self.assertEqual(self.faults(README="1\n2\n3\n"), ["README.md: 3 lines, and the budget is 2",
-                                                           "pages: 5 lines, and the budget is 4"])
+        self.assertEqual(
+            self.faults(README="1\n2\n3\n"),
+            ["README.md: 3 lines, and the budget is 2", "pages: 5 lines, and the budget is 4"],
+        )
         self.assertEqual(self.faults(README="1 2 3 4 5\n"), ["README.md: 5 words, and the budget is 4"])
         self.assertEqual(self.faults(docs__A="1 2 3 4 5 6 7 8\n"), ["pages: 11 words, and the budget is 10"])
         self.assertEqual(self.faults(bench__README="1 2\n"), ["READMEs: 4 words, and the budget is 3"])
 
     def test_width(self):
-        self.assertEqual(self.faults(CHANGELOG="x" * 400 + "\n" + "x" * 401 + "\n"),
-                         ["CHANGELOG.md:2: 401 characters, and the widest line may have 400"])
+        self.assertEqual(
+            self.faults(CHANGELOG="x" * 400 + "\n" + "x" * 401 + "\n"),
+            ["CHANGELOG.md:2: 401 characters, and the widest line may have 400"],
+        )
 
     def test_pages(self):
         self.assertEqual(self.faults(docs__B="one"), ["docs/B.md: a page without a budget"])
-        self.assertEqual(pages.faults_of({name: FIT[name] for name in FIT if name != "docs/A.md"}, BUDGET)[0],
-                         ["docs/A.md: there is no such page"])
+        self.assertEqual(
+            pages.faults_of({name: FIT[name] for name in FIT if name != "docs/A.md"}, BUDGET)[0],
+            ["docs/A.md: there is no such page"],
+        )
 
     def test_paragraphs(self):
-        text = "one\n\n" + "word " * 81 + "\n\n- " + "word " * 40 + "\n- " + "word " * 45 + "\n\n| " + "word " * 90 + "|\n"
+        text = (
+            "one\n\n" + "word " * 81 + "\n\n- " + "word " * 40 + "\n- " + "word " * 45 + "\n\n| " + "word " * 90 + "|\n"
+        )
         self.assertEqual(list(pages.long_paragraphs(text)), [(3, 81)])
 
     def test_budgets(self):

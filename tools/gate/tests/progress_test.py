@@ -28,8 +28,11 @@ class Progress(unittest.TestCase):
             self.assertEqual(progress.stage(command, place, line), wanted)
 
     def test_commands(self):
-        with subprocess.Popen([sys.executable, "-c", "input()", "tools/gate/refused.py", "x"], stdin=subprocess.PIPE,
-                              stderr=subprocess.DEVNULL) as child:
+        with subprocess.Popen(
+            [sys.executable, "-c", "input()", "tools/gate/refused.py", "x"],
+            stdin=subprocess.PIPE,
+            stderr=subprocess.DEVNULL,
+        ) as child:
             pid, parent = str(child.pid), str(os.getpid())
             while "refused" not in progress.words(pid):
                 pass

@@ -9,22 +9,42 @@ sys.path.insert(0, str(Path(__file__).resolve().parents[1]))
 
 import prose
 
-FAULTS, COUNTED = prose.vocabulary()
+FAULTS, COUNTED, ANY_OF = prose.vocabulary()
 
 
 class Prose(unittest.TestCase):
     def found(self, name, text):
         path = Path(name)
-        return [(line, words) for line, words, _ in sorted(prose.faults_of(path, prose.blocks_of(path, text), FAULTS))]
+        blocks = [*prose.blocks_of(path, text)]
+        return [(line, words) for line, words, _ in sorted(prose.faults_of(path, blocks, FAULTS, ANY_OF))]
 
     def test_words(self):
-        for text in ("It stands there.", "Whoever reads it.", "It is handed in.", "so many bytes", "past ASCII",
-                     "It tells why.", "It comes to its end.", "as it came", "a made-up record", "hides users"):
+        for text in (
+            "It stands there.",
+            "Whoever reads it.",
+            "It is handed in.",
+            "so many bytes",
+            "past ASCII",
+            "It tells why.",
+            "It comes to its end.",
+            "as it came",
+            "a made-up record",
+            "hides users",
+        ):
             self.assertEqual(len(self.found("a.md", text + "\n")), 1, text)
 
     def test_other_words(self):
-        for text in ("understands", "It stands for a name.", "written by hand in Rust", "takes up 8 bytes", "withstands",
-                     "`stands`", "``a ` stands``", "[x](stands.md#stands)", "```text\nstands\n```"):
+        for text in (
+            "understands",
+            "It stands for a name.",
+            "written by hand in Rust",
+            "takes up 8 bytes",
+            "withstands",
+            "`stands`",
+            "``a ` stands``",
+            "[x](stands.md#stands)",
+            "```text\nstands\n```",
+        ):
             self.assertEqual(self.found("a.md", text + "\n"), [], text)
 
     def test_words_across_lines(self):
@@ -46,7 +66,12 @@ class Prose(unittest.TestCase):
             self.assertEqual(self.found("a.rt", f"//! {word} of another.\n"), [(1, word)])
             self.assertEqual(self.found("a.antt", f"-- {word.lower()} of another\n"), [(1, word.lower())])
             self.assertEqual(self.found("a.h", f"/* {word} of another. */\n"), [(1, word)])
-        for text in ("/// Assigns it.\n/// It is so.\n", "// It is no doc.\n", "/// The sameness.\n", "/// Its name.\n"):
+        for text in (
+            "/// Assigns it.\n/// It is so.\n",
+            "// It is no doc.\n",
+            "/// The sameness.\n",
+            "/// Its name.\n",
+        ):
             self.assertEqual(self.found("a.rt", text), [], text)
 
 

@@ -40,23 +40,32 @@ class Quoted(unittest.TestCase):
         self.assertEqual(self.check("```rust\n// crates/a.rt\none();\n```\n```text\nany\n```\n"), ([], 1))
 
     def test_a_line_that_differs(self):
-        self.assertEqual(self.fault("```rust\n// crates/a.rt\none();\n2();\n```\n"),
-                         "README.md:4: is not in crates/a.rt: 2();")
+        self.assertEqual(
+            self.fault("```rust\n// crates/a.rt\none();\n2();\n```\n"), "README.md:4: is not in crates/a.rt: 2();"
+        )
 
     def test_lines_in_another_order(self):
-        self.assertEqual(self.fault("```rust\n// crates/a.rt\ntwo();\n// ..\none();\n```\n"),
-                         "README.md:5: is not in crates/a.rt: one();")
+        self.assertEqual(
+            self.fault("```rust\n// crates/a.rt\ntwo();\n// ..\none();\n```\n"),
+            "README.md:5: is not in crates/a.rt: one();",
+        )
 
     def test_a_line_that_is_left_out_silently(self):
-        self.assertEqual(self.fault("```rust\n// crates/a.rt\nfn first() {\ntwo();\n```\n"),
-                         "README.md:4: is not in crates/a.rt: two();")
+        self.assertEqual(
+            self.fault("```rust\n// crates/a.rt\nfn first() {\ntwo();\n```\n"),
+            "README.md:4: is not in crates/a.rt: two();",
+        )
 
     def test_no_file(self):
-        self.assertEqual(self.fault("\n```rust\n// crates/b.rt\none();\n```\n"), "README.md:3: there is no file crates/b.rt")
+        self.assertEqual(
+            self.fault("\n```rust\n// crates/b.rt\none();\n```\n"), "README.md:3: there is no file crates/b.rt"
+        )
 
     def test_a_block_that_names_no_file(self):
         for kind in ("rust", "antt"):
-            self.assertEqual(self.fault(f"```{kind}\none();\n```\n"), f"README.md:1: a block of {kind} that names no file")
+            self.assertEqual(
+                self.fault(f"```{kind}\none();\n```\n"), f"README.md:1: a block of {kind} that names no file"
+            )
 
     def test_a_block_without_an_end(self):
         self.assertEqual(self.fault("\n```rust\n// crates/a.rt\none();\n"), "README.md:2: a block without an end")

@@ -56,21 +56,35 @@ int main(int count, char **words)
 
 class Rows(unittest.TestCase):
     def test_selected_lines(self):
-        for wanted, kept in (({3}, "call one\na => 1\n"), ({5}, "call one\ngiven x\nb => 2\n"), ({9}, "call two\nd => 4 # 5\n"),
-                             ({3, 8}, "call one\na => 1\ncall two\nc => \n"), ({1, 2, 6, 10}, "")):
+        for wanted, kept in (
+            ({3}, "call one\na => 1\n"),
+            ({5}, "call one\ngiven x\nb => 2\n"),
+            ({9}, "call two\nd => 4 # 5\n"),
+            ({3, 8}, "call one\na => 1\ncall two\nc => \n"),
+            ({1, 2, 6, 10}, ""),
+        ):
             self.assertEqual(test_rows.selected(LINES, wanted), kept)
 
     def test_selected_paragraphs(self):
         head = "# A comment.\nparagraphs run"
-        for wanted, kept in (({4}, f"{head}\n\nserver\na => 1"), ({5}, f"{head}\n\nserver\na => 1"), ({3, 6}, head),
-                             ({9}, f"{head}\n\nclient\n# b\nc d => 2\n> e\n"), ({5, 7}, PARAGRAPHS)):
+        for wanted, kept in (
+            ({4}, f"{head}\n\nserver\na => 1"),
+            ({5}, f"{head}\n\nserver\na => 1"),
+            ({3, 6}, head),
+            ({9}, f"{head}\n\nclient\n# b\nc d => 2\n> e\n"),
+            ({5, 7}, PARAGRAPHS),
+        ):
             self.assertEqual(test_rows.selected(PARAGRAPHS, wanted), kept)
 
     def test_altered(self):
-        self.assertEqual(test_rows.altered(LINES), (
-            "# A comment.\ncall one\na => 1?\ngiven x\nb => 2?\n\ncall two\nc => ?\nd => 4 # 5?\n", 4))
-        self.assertEqual(test_rows.altered(PARAGRAPHS), (
-            "# A comment.\nparagraphs run\n\nserver\na => 1?\n\nclient\n# b\nc d => 2?\n> e?\n", 2))
+        self.assertEqual(
+            test_rows.altered(LINES),
+            ("# A comment.\ncall one\na => 1?\ngiven x\nb => 2?\n\ncall two\nc => ?\nd => 4 # 5?\n", 4),
+        )
+        self.assertEqual(
+            test_rows.altered(PARAGRAPHS),
+            ("# A comment.\nparagraphs run\n\nserver\na => 1?\n\nclient\n# b\nc d => 2?\n> e?\n", 2),
+        )
         self.assertEqual(test_rows.altered("call x\n00 01\n"), ("call x\n00 00\n", 1))
 
 
@@ -81,8 +95,10 @@ class Memory(unittest.TestCase):
         cls.addClassCleanup(room.cleanup)
         cls.folder = Path(room.name)
         (cls.folder / "driver.c").write_text(DRIVER)
-        for words in (["-o", "driver", "driver.c"],
-                      ["-shared", "-fPIC", "-o", "refuse.so", TOP / "tools/test_memory/refuse.c"]):
+        for words in (
+            ["-o", "driver", "driver.c"],
+            ["-shared", "-fPIC", "-o", "refuse.so", TOP / "tools/test_memory/refuse.c"],
+        ):
             subprocess.run(["cc", *words], cwd=cls.folder, check=True)
 
     def found(self, rows, name="calls.txt"):
@@ -92,8 +108,13 @@ class Memory(unittest.TestCase):
         return *counts, len(wrong)
 
     def test_calls(self):
-        for rows, wanted in (("one\none\n", ({"one"}, 4, 2, 0)), ("two\none\n", ({"one", "two"}, 6, 2, 0)),
-                             ("hide\n", (set(), 2, 1, 2)), ("keep\n", ({"keep"}, 2, 1, 1)), ("free\n", (set(), 0, 1, 1))):
+        for rows, wanted in (
+            ("one\none\n", ({"one"}, 4, 2, 0)),
+            ("two\none\n", ({"one", "two"}, 6, 2, 0)),
+            ("hide\n", (set(), 2, 1, 2)),
+            ("keep\n", ({"keep"}, 2, 1, 1)),
+            ("free\n", (set(), 0, 1, 1)),
+        ):
             self.assertEqual(self.found(rows), wanted)
 
     def test_hints(self):

@@ -19,7 +19,11 @@ RECORD = {
     "others": 1200,
     "wall": 3960,
     "chain": {"seconds": 3360, "crates": ["low", "middle (tests)"]},
-    "crates": {"low": {"proof": 1000.4, "tests": 20, "run": 1}, "middle": {"proof": 7, "wrong": 80.6}, "high": {"build": 9}},
+    "crates": {
+        "low": {"proof": 1000.4, "tests": 20, "run": 1},
+        "middle": {"proof": 7, "wrong": 80.6},
+        "high": {"build": 9},
+    },
 }
 PAGE = """\
 Before.

@@ -16,8 +16,7 @@ FILES = {
     "README.md": "This is version 0.4.0. Names follow version 0.18.4.\n",
     "crates/scram_lib/src/manual.rt": '        .version("0.4.0")\n',
     "crates/test_driver_programs/data/words.txt": "$ scram --version\n> scram 0.4.0\n= 0\n",
-    "crates/sasl_c/src/texts.rt":
-        'pub extern "C" fn fe2o3_version() -> u32\n    ensures { result ≡ 400 }\n{\n    400\n}\n',
+    "crates/sasl_c/src/texts.rt": 'pub extern "C" fn fe2o3_version() -> u32\n    ensures { result ≡ 400 }\n{\n    400\n}\n',
     "bindings/callers.mk": "SONAME = libfe2o3_sasl.so.2\n",
     "bindings/python/fe2o3_sasl.py": '"""`libfe2o3_sasl.so.2`"""\n_load("libfe2o3_sasl.so.2")\n',
     "CHANGELOG.md": "# Changelog\n\n## 0.4.0 (2026-11-29)\n\n- Now `libfe2o3_sasl.so.2`.\n\n## 0.3.0\n\n- `libfe2o3_sasl.so.1`\n",
@@ -45,10 +44,14 @@ class Versions(unittest.TestCase):
         self.assertEqual(self.faults(), "")
 
     def test_each_place(self):
-        for name, old in (("interop/rust/Cargo.toml", "0.4.0"), ("README.md", "0.4.0"),
-                          ("crates/scram_lib/src/manual.rt", "0.4.0"),
-                          ("crates/test_driver_programs/data/words.txt", "0.4.0"),
-                          ("crates/sasl_c/src/texts.rt", "≡ 400"), ("crates/sasl_c/src/texts.rt", "    400\n")):
+        for name, old in (
+            ("interop/rust/Cargo.toml", "0.4.0"),
+            ("README.md", "0.4.0"),
+            ("crates/scram_lib/src/manual.rt", "0.4.0"),
+            ("crates/test_driver_programs/data/words.txt", "0.4.0"),
+            ("crates/sasl_c/src/texts.rt", "≡ 400"),
+            ("crates/sasl_c/src/texts.rt", "    400\n"),
+        ):
             with self.subTest(name=name, old=old):
                 new = old.replace("4", "3")
                 self.turn(name, old, new)
@@ -72,13 +75,14 @@ class Versions(unittest.TestCase):
     def test_changelog(self):
         log = "# Changelog\n\n## Unreleased\n\n{}## 0.4.0\n\n- one\n"
         for text, version, fault in (
-                ("# Changelog\n", "0.4.0", "no section of a version"),
-                (log.format(""), "0.4.0", None),
-                (log.format("- two\n\n"), "0.4.0", "set NEXT-dev"),
-                (log.format("- two\n\n"), "0.5.0-dev", None),
-                (log.format(""), "0.4.0-dev", "has 0.4.0"),
-                (log.format(""), "0.5.0", "newest section of CHANGELOG.md 0.4.0"),
-                ("## 0.4.0\n", "0.5.0-dev", "no section Unreleased")):
+            ("# Changelog\n", "0.4.0", "no section of a version"),
+            (log.format(""), "0.4.0", None),
+            (log.format("- two\n\n"), "0.4.0", "set NEXT-dev"),
+            (log.format("- two\n\n"), "0.5.0-dev", None),
+            (log.format(""), "0.4.0-dev", "has 0.4.0"),
+            (log.format(""), "0.5.0", "newest section of CHANGELOG.md 0.4.0"),
+            ("## 0.4.0\n", "0.5.0-dev", "no section Unreleased"),
+        ):
             with self.subTest(text=text, version=version):
                 found = versions.changelog_fault(text, version)
                 self.assertIn(fault, found) if fault else self.assertIsNone(found)

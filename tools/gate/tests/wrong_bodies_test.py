@@ -62,7 +62,9 @@ impl TryFrom<[u8; 2]> for Pair {
 }
 """
 HALF = "note: src/lib.rt:8:1: it is not proved that what the function ensures holds when it returns (`returns`)"
-HALF_FALLS = "fn numbers::half: no proof: expected answers in ./proofs/half/Answers.antt; `search` did not prove `returns`"
+HALF_FALLS = (
+    "fn numbers::half: no proof: expected answers in ./proofs/half/Answers.antt; `search` did not prove `returns`"
+)
 HALF_PROVED = "fn numbers::half: no holes"
 LARGER = "note: src/lib.rt:16:5: it is not proved that what the function ensures holds when it returns (`returns`)"
 LARGER_FALLS = "fn numbers::Pair::larger: no proof: expected answers in ./proofs/Pair/larger/Answers.antt"
@@ -74,7 +76,9 @@ NOT_PROVED = "logic=not-proved functions=3"
 
 
 def edit(old, new, *more):
-    return "\n".join(["It turns something. Refused by its clause.", *more, "file: src/lib.rt", f"old: {old}", f"new: {new}", ""])
+    return "\n".join(
+        ["It turns something. Refused by its clause.", *more, "file: src/lib.rt", f"old: {old}", f"new: {new}", ""]
+    )
 
 
 class WrongBodies(unittest.TestCase):
@@ -153,7 +157,11 @@ class WrongBodies(unittest.TestCase):
         half = self.read(edit("    x / 2", "    x / 3"))
         texts = wrong_bodies.by_contract("numbers", wrong_bodies.planted([half]), ["numbers::half"])
         left = LIBRARY.replace("    x / 2", "    x / 3")
-        for body in ("self.left.max(self.right)", "Ok(Pair { left: self.left, right: self.right })", "Pair { left, right: 0 }"):
+        for body in (
+            "self.left.max(self.right)",
+            "Ok(Pair { left: self.left, right: self.right })",
+            "Pair { left, right: 0 }",
+        ):
             left = left.replace(f"        {body}", wrong_bodies.NO_BODY)
         self.assertEqual(texts.pop("src/lib.rt"), left)
         folders = [f"proofs/{it}" for it in ("Pair/larger", "PairClone/clone", "PairFromU32/from")]
@@ -206,7 +214,10 @@ class WrongBodies(unittest.TestCase):
         self.assertEqual(self.judge([body], HALF, HALF_FALLS, "rattle: no verdict", status=3), ([True], True))
 
     def test_one_of_two_in_a_round(self):
-        bodies = [self.read(edit("    x / 2", "    x / 3"), "one"), self.read(edit("left.max(self.right)", "left"), "two")]
+        bodies = [
+            self.read(edit("    x / 2", "    x / 3"), "one"),
+            self.read(edit("left.max(self.right)", "left"), "two"),
+        ]
         self.assertEqual(wrong_bodies.rounds_of(bodies), [bodies])
         waits = LARGER_FALLS.partition(" expected")[0] + " it calls `numbers::half`, which is not proved"
         self.assertEqual(self.judge(bodies, HALF, HALF_FALLS, waits, TWO_FALL), ([True, False], False))

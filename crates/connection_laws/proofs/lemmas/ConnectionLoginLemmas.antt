@@ -29,7 +29,7 @@ use Rattle.connection_laws.proofs.lemmas.ServerStepLemmas.{Kind, challenge, chal
 use Rattle.connection_laws.proofs.lemmas.WayLemmas.{asked_offers, offered_asked}
 
 -- no login is at two stages that are one
-no_login : {A : Type 0} (stage : ServerStage) (login : ServerLogin) → logged_in_at stage ≡ None
+pub no_login : {A : Type 0} (stage : ServerStage) (login : ServerLogin) → logged_in_at stage ≡ None
     → logged_in_at stage ≡ Some login → A
 no_login stage login none some = let no : None ≡ Some login = sym none ∙ some in absurd (cc)
 
@@ -178,11 +178,11 @@ last_init settings (ways.Scram version plus) nonce (Some said) login (messages, 
     let no = sym is ∙ scram.all in absurd (cc)
 
 -- the answers to an init whose mechanism is found
-abbrev FoundAnswers : Option Way → ServerSettings → List ℕ → Option (List ℕ) → SaslFrame → ServerStage → Type 0
+abbrev pub FoundAnswers : Option Way → ServerSettings → List ℕ → Option (List ℕ) → SaslFrame → ServerStage → Type 0
 FoundAnswers found settings nonce response reply next = MatchOption found (StageRejects NotStarted reply next)
     (λ way. InitAnswers settings way NotStarted nonce response reply next)
 
-found_way : (found : Option Way) (settings : ServerSettings) (nonce : List ℕ) (response : Option (List ℕ))
+pub found_way : (found : Option Way) (settings : ServerSettings) (nonce : List ℕ) (response : Option (List ℕ))
     (reply : SaslFrame) (next : ServerStage) → IsChallenged reply
     → FoundAnswers found settings nonce response reply next
     → (way : Way) × (found ≡ Some way) × InitAnswers settings way NotStarted nonce response reply next
@@ -334,7 +334,7 @@ connection_ok pieces limit settings (event ∷ second ∷ events) replies last a
 -- ---- both laws
 
 module _ (settings : ServerSettings) (server : ServerBy sasl_machine (new_server settings)) where
-  run : Served sasl_machine (new_server settings) server.connection.events server.connection.replies server.last.state
+  pub run : Served sasl_machine (new_server settings) server.connection.events server.connection.replies server.last.state
   run = let n = server.connection in
       served sasl_machine turns.Init n.events n.replies n.answer (new_server settings) server.last.state n.run n.replied
 

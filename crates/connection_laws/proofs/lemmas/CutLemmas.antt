@@ -58,7 +58,7 @@ module _ (limit : ℕ) (small : limit < 2 ^ 32) where
       unanswered).0 in_turn
 
   -- what is left over does not begin with an answered frame
-  no_frame_left : (turn : FrameKind) (tail body more : List ℕ) (progress : Progress) → LeftOver turn limit tail progress
+  pub no_frame_left : (turn : FrameKind) (tail body more : List ℕ) (progress : Progress) → LeftOver turn limit tail progress
       → tail ≡ framed body ++ more → Fits limit (length body + 4) → ¬ SpellsTurn turn body
   no_frame_left turn tail body more progress (inl part) is fits spells =
       frame_is_no_part turn tail body more is fits part.0
@@ -90,7 +90,7 @@ module _ (limit : ℕ) (small : limit < 2 ^ 32) where
       let eight : 8 ≤ length body + 4 = fits.0 in omega (arith, four, long, eight)
 
   -- it leaves the side in one way
-  one_left_over : (turn : FrameKind) (tail : List ℕ) (progress other : Progress) → LeftOver turn limit tail progress
+  pub one_left_over : (turn : FrameKind) (tail : List ℕ) (progress other : Progress) → LeftOver turn limit tail progress
       → LeftOver turn limit tail other → progress ≡ other
   one_left_over turn tail progress other (inl part) (inl too) = part.1 ∙ sym too.1
   one_left_over turn tail progress other (inl part) (inr (inl size)) =

@@ -70,7 +70,7 @@ text_of_data events replies m more text given verifier is = let same : text ≡ 
     is ∙ ap Some (sym same)
 
 -- the last reply of a client that has logged in
-reports_last : (login : Login) (client : ClientOf login) → client.last.progress ≡ Authenticated
+pub reports_last : (login : Login) (client : ClientOf login) → client.last.progress ≡ Authenticated
     → (m : ℕ) × (text : List ℕ) × ReportsLast client m text
 reports_last login client logged =
     let events = client.connection.events in

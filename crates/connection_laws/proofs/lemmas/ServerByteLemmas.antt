@@ -1,5 +1,5 @@
 -- A connection of a server of all mechanisms sends few challenges: `server_connections_are_bounded`.
-use Rattle.std.proofs.Common.{◌+◌, ◌≤◌, arith}
+use Rattle.std.proofs.Common.{arith}
 use Rattle.fe2o3_sasl_core.proofs.lemmas.machines.ChallengeCountLemmas.{servers_are_bounded}
 use Rattle.fe2o3_sasl_core.specs.ChallengeCounts.{challenges_left, challenges_most}
 use Rattle.fe2o3_sasl_core.specs.Servers.{sasl_machine}

@@ -221,11 +221,11 @@ lets_in server next nonce (frames.Outcome code more) reply login (same, answers,
 -- ---- signatures
 
 -- the login of a signature that a stage shows
-abbrev shown_at : ServerStage → Option ServerLogin
+abbrev pub shown_at : ServerStage → Option ServerLogin
 shown_at (SignatureShown login) = Some login
 shown_at stage = None
 
-unshown : {A : Type 0} (stage next : ServerStage) (login : ServerLogin) → next ≡ stage → shown_at stage ≡ None
+pub unshown : {A : Type 0} (stage next : ServerStage) (login : ServerLogin) → next ≡ stage → shown_at stage ≡ None
     → next ≡ SignatureShown login → A
 unshown stage next login is none shows =
     let no : None ≡ Some login = sym none ∙ ap shown_at (sym is ∙ shows) in absurd (cc)

@@ -93,11 +93,11 @@ taken_verifiers_are_judged sides m n accepted histories kept takes =
     (agrees, verdict.0, verdict.1)
 
 -- what a proof says that was shown and accepted
-record Shown (sides : Sides) (answer : Answering) (accepted : Accepted) : Type 0 where
-  met : Met sides answer accepted
-  sized : AreSized (keys_at sides.login answer)
-  one : proof_at sides.login answer ≡ accepted.final.proof
-  meets : digest sides.provider.version (recovered_at sides.provider accepted) ≡ accepted.challenge.stored.stored_key
+pub record Shown (sides : Sides) (answer : Answering) (accepted : Accepted) : Type 0 where
+  pub met : Met sides answer accepted
+  pub sized : AreSized (keys_at sides.login answer)
+  pub one : proof_at sides.login answer ≡ accepted.final.proof
+  pub meets : digest sides.provider.version (recovered_at sides.provider accepted) ≡ accepted.challenge.stored.stored_key
 
 -- with the stored key, and where the client's key comes back out of the proof, the two HMAC values are one
 one_mac : (sides : Sides) (answer : Answering) (accepted : Accepted) → Shown sides answer accepted
@@ -122,7 +122,7 @@ one_mac sides answer accepted shown stored recovers =
     (long ∙ sym (length-hmac_of version kept (server_message accepted))) back
 
 -- such a proof has a verdict
-proof_judged : (sides : Sides) (answer : Answering) (accepted : Accepted) → Shown sides answer accepted
+pub proof_judged : (sides : Sides) (answer : Answering) (accepted : Accepted) → Shown sides answer accepted
     → (verdict : Verdict) × JudgesProof sides answer accepted verdict
 proof_judged sides answer accepted shown =
     go (same_or_not (digest (keys_at sides.login answer).version (keys_at sides.login answer).client_key)

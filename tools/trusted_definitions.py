@@ -1,10 +1,10 @@
 #!/usr/bin/env python3
 """What a reader has to trust of some statements: every definition that they rest on, file by file.
 
-    tools/believed.py [STATEMENT..]
+    tools/trusted_definitions.py [STATEMENT..]
 
 A statement is one of:
-    MODULE          each definition of a module of specs/; with no statement, the headline's, Rattle.fe2o3_sasl_core.specs.Headline
+    MODULE          each definition of a module of specs/; with no statement, Rattle.fe2o3_sasl_core.specs.Headline
     MODULE:NAME     one definition of that module
     CRATE::LAW      the clauses of a law: an empty function of the crate's src/, as fe2o3_sasl_negotiation::server_connections
 
@@ -23,7 +23,14 @@ import sys
 from pathlib import Path
 
 CRATES = Path(__file__).resolve().parent.parent / "crates"
-LIBRARIES = ("fe2o3_sasl_wire", "fe2o3_scram", "fe2o3_sasl_core", "fe2o3_sasl", "fe2o3_sasl_negotiation", "connection_laws")
+LIBRARIES = (
+    "fe2o3_sasl_wire",
+    "fe2o3_scram",
+    "fe2o3_sasl_core",
+    "fe2o3_sasl",
+    "fe2o3_sasl_negotiation",
+    "connection_laws",
+)
 HEADLINE = "Rattle.fe2o3_sasl_core.specs.Headline"
 HEAD = re.compile(r"(?:abbrev |unfoldable |infix\w* \d+ \S+ )*(?:pub )?(?:record |data )?(\S+)")
 USE = re.compile(r"(?:ghost )?use ([\w.]+?)(?:\.\{(.*)\})?(?: as (\w+))?;?$")
@@ -64,7 +71,9 @@ def read(path):
     return len(lines), names, modules, definitions
 
 
-FILES = {module_of(path, crate): read(path) for crate in LIBRARIES for path in (CRATES / crate / "specs").rglob("*.antt")}
+FILES = {
+    module_of(path, crate): read(path) for crate in LIBRARIES for path in (CRATES / crate / "specs").rglob("*.antt")
+}
 
 
 def find(module, name):

@@ -1,14 +1,13 @@
 #!/usr/bin/env python3
 """Compiles every round of wrong bodies, without proofs: for an edit that no longer fits its crate.
 
-    tools/gate/rounds.py [CRATE..]
+    tools/gate/compile_wrong_bodies.py [CRATE..]
 
 One edit that does not compile fails all bodies of its round in the gate, after an hour. Here a round takes 10 to 25 s: it
 is planted in a copy of its crate, and checked for a function that does not exist, over the sources of the crates below.
 Prints each round that does not compile, and last how many rounds do. The exit status is 1 if one does not, or if an edit
 cannot be planted.
 """
-import os
 import re
 import shutil
 import subprocess
@@ -16,7 +15,6 @@ import sys
 import tempfile
 
 sys.dont_write_bytecode = True
-import wrong_bodies
 from wrong_bodies import KIT, ROOT, below, bodies_of, is_static, libraries, planted, rounds_of, used_by
 
 # What a check says that has found no error before the functions.
@@ -42,12 +40,14 @@ def check_of(lines, crate, root):
 
 def compiled(lines, crate, bodies):
     """What is wrong with a round, or nothing."""
-    with tempfile.TemporaryDirectory(prefix="rounds-") as room:
+    with tempfile.TemporaryDirectory(prefix="compiled-") as room:
         shutil.copytree(f"{ROOT}/crates/{crate}", f"{room}/{crate}", ignore=shutil.ignore_patterns("out"))
         for path, text in planted(bodies).items():
             with open(f"{room}/{crate}/{path}", "w", encoding="utf-8") as it:
                 it.write(text)
-        ran = subprocess.run(check_of(lines, crate, "src/lib.rt"), cwd=f"{room}/{crate}", capture_output=True, text=True)
+        ran = subprocess.run(
+            check_of(lines, crate, "src/lib.rt"), cwd=f"{room}/{crate}", capture_output=True, text=True
+        )
     said = (ran.stdout + ran.stderr).splitlines()
     if COMPILED in (said or [""])[-1]:
         return []
@@ -66,7 +66,7 @@ def main():
             if faults:
                 print("\n    ".join([f"round {which + 1} of {crate}, {len(found)} bodies:", *faults[:8]]), flush=True)
             rounds, wrong = rounds + 1, wrong + bool(faults)
-    print(f"rounds: {rounds} compiled, {wrong} faults")
+    print(f"compile_wrong_bodies: {rounds} rounds compiled, {wrong} faults")
     return 1 if wrong or not rounds else 0
 
 

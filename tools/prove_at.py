@@ -1,7 +1,7 @@
 #!/usr/bin/env python3
 """Proves the function at a line of a source, and the lemma files that its proof cites.
 
-    tools/prove FILE:LINE [FLAG..]      FILE is crates/NAME/src/.., from the current folder or the repository's top
+    tools/prove_at.py FILE:LINE [FLAG..]    FILE is crates/NAME/src/.., from the current folder or the repository's top
 
 Finds the path of the function, as `rt check` prints it, and runs `rt check --only PATH` with these flags in the crate's
 folder. The line may be one of its comment, its head or its body. If the text does not determine the path, as for an
@@ -20,7 +20,9 @@ sys.path.insert(0, str(TOP / "tools/gate"))
 import wrong_bodies
 
 HEAD = re.compile(r"^( *)(?:pub(?:\([a-z]+\))? )?(?:const )?(?:unsafe )?(?:extern \"C\" )?fn (\w+)", re.M)
-IMPL = re.compile(r"impl(?:<[^{]*?>)? (?:(?P<trait>[\w:]+(?:<[^{]*?>)?) for )?(?P<type>\S[^{]*?)\s*(?:where[^{]*)?\{$", re.M)
+IMPL = re.compile(
+    r"impl(?:<[^{]*?>)? (?:(?P<trait>[\w:]+(?:<[^{]*?>)?) for )?(?P<type>\S[^{]*?)\s*(?:where[^{]*)?\{$", re.M
+)
 TRAIT = re.compile(r"([\w:]+)(?:<(.*)>)?")
 GENERIC = re.compile(r"([\w:]+)<((?:'\w+|[A-Z])(?:, (?:'\w+|[A-Z]))*)>")
 

@@ -33,8 +33,10 @@ def block_after(text, at):
 
 def end_of(text, at, mark):
     """Where the expression at a place ends: at this mark, or where what is around it closes."""
-    return next((found.start() for found, depth in brackets(text, at, MARK)
-                 if depth < 0 or depth == 0 and found[0] == mark), len(text))
+    return next(
+        (found.start() for found, depth in brackets(text, at, MARK) if depth < 0 or depth == 0 and found[0] == mark),
+        len(text),
+    )
 
 
 def arms_of(text, begin):
@@ -42,11 +44,11 @@ def arms_of(text, begin):
     at, last = begin + 1, closing(text, begin) - 1
     while (arrow := end_of(text, at, "=>")) < last:
         body = re.compile(r"\s*").match(text, arrow + 2).end()
-        end = closing(text, body) if text[body:body + 1] == "{" else body
+        end = closing(text, body) if text[body : body + 1] == "{" else body
         if end == body or re.compile(r"\s*[.?]").match(text, end):
             end = end_of(text, end, ",")
         yield re.split(r"\bif\b", text[at:arrow])[0], at, end
-        at = end + 1 if text[end:end + 1] == "," else end
+        at = end + 1 if text[end : end + 1] == "," else end
 
 
 def names_in(pattern):

@@ -1,17 +1,15 @@
 #!/usr/bin/env python3
-"""Which path `tools/prove` finds for a line of a source."""
+"""Which path `tools/prove_at.py` finds for a line of a source."""
 import sys
 import tempfile
 import unittest
-from importlib.machinery import SourceFileLoader
-from importlib.util import module_from_spec, spec_from_loader
 from pathlib import Path
 
 sys.dont_write_bytecode = True
 TOP = Path(__file__).resolve().parents[3]
-LOADER = SourceFileLoader("prove", str(TOP / "tools/prove"))
-prove = module_from_spec(spec_from_loader("prove", LOADER))
-LOADER.exec_module(prove)
+sys.path.insert(0, str(TOP / "tools"))
+
+import prove_at
 
 # The files of a library, and the path of each function with a number in its body, as `rt check` prints such a path.
 FILES = {
@@ -110,10 +108,20 @@ pub fn at_the_top() -> u32 {
 }
 """,
 }
-PATHS = ["frames::items::Items::symbol", "frames::items::ItemsIterator::next", "frames::items::symbol_at",
-         "error::ErrorFromAllocError::from", "error::ErrorFromAllocFailed::from", "error::ErrorFromOther_crateFault::from",
-         "header::ArrayU88FromHeader::from", "header::HeaderTryFromRefSliceU8::try_from", "hmac::Version::h_i",
-         "hmac::hasher::Sha1Sha1Hasher20::copy", "hmac::hasher::RcProvider::version", "at_the_top"]
+PATHS = [
+    "frames::items::Items::symbol",
+    "frames::items::ItemsIterator::next",
+    "frames::items::symbol_at",
+    "error::ErrorFromAllocError::from",
+    "error::ErrorFromAllocFailed::from",
+    "error::ErrorFromOther_crateFault::from",
+    "header::ArrayU88FromHeader::from",
+    "header::HeaderTryFromRefSliceU8::try_from",
+    "hmac::Version::h_i",
+    "hmac::hasher::Sha1Sha1Hasher20::copy",
+    "hmac::hasher::RcProvider::version",
+    "at_the_top",
+]
 
 SOURCE = """\
 //! A module.
@@ -152,8 +160,8 @@ class Prove(unittest.TestCase):
     def setUp(self):
         room = tempfile.TemporaryDirectory()
         self.addCleanup(room.cleanup)
-        self.addCleanup(setattr, prove.wrong_bodies, "ROOT", prove.wrong_bodies.ROOT)
-        prove.wrong_bodies.ROOT = room.name
+        self.addCleanup(setattr, prove_at.wrong_bodies, "ROOT", prove_at.wrong_bodies.ROOT)
+        prove_at.wrong_bodies.ROOT = room.name
         for file, text in FILES.items():
             path = Path(room.name) / "crates/library" / file
             path.parent.mkdir(parents=True, exist_ok=True)
@@ -164,12 +172,12 @@ class Prove(unittest.TestCase):
         for file, text in FILES.items():
             for at, line in enumerate(text.split("\n"), 1):
                 if line.strip().isdecimal():
-                    found[int(line)] = prove.function_at("library", file, text, at)
+                    found[int(line)] = prove_at.function_at("library", file, text, at)
         self.assertEqual(found, {at: f"library::{path}" for at, path in enumerate(PATHS, 1)})
 
     def at(self, text):
-        line = SOURCE[:SOURCE.index(text)].count("\n") + 1
-        return prove.function_at("library", "src/some/module.rt", SOURCE, line)
+        line = SOURCE[: SOURCE.index(text)].count("\n") + 1
+        return prove_at.function_at("library", "src/some/module.rt", SOURCE, line)
 
     def test_lines_of_a_function(self):
         for text in ("/// A function.", "#[tactic", "pub extern", "ensures { result ≡ count }", "    count\n"):
@@ -182,14 +190,14 @@ class Prove(unittest.TestCase):
 
     def test_lines_of_no_function(self):
         for text in ("//! A module.", "/// A trait.", "    /// Its name.", "    fn name"):
-            with self.assertRaises(prove.NoFunction):
+            with self.assertRaises(prove_at.NoFunction):
                 self.at(text)
 
     def test_places(self):
-        self.assertEqual(prove.place_of("crates/sasl_c/src/lib.rt:12:3:"), ("sasl_c", "src/lib.rt", 12))
+        self.assertEqual(prove_at.place_of("crates/sasl_c/src/lib.rt:12:3:"), ("sasl_c", "src/lib.rt", 12))
         for word in ("crates/sasl_c/src/lib.rt", "README.md:1", "crates/sasl_c/src/none.rt:1"):
-            with self.assertRaises(prove.NoFunction):
-                prove.place_of(word)
+            with self.assertRaises(prove_at.NoFunction):
+                prove_at.place_of(word)
 
 
 if __name__ == "__main__":

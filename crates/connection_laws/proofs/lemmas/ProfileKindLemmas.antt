@@ -1,0 +1,113 @@
+-- No step of a profile changes whether it is of SCRAM.
+use Rattle.std.proofs.Common.{◌≡◌, ℕ, Bool, true, false, Option, Some, None, List, [], ◌∷◌, ap, ◌∙◌, inl, inr, Result, Ok, Err}
+use Rattle.fe2o3_sasl_wire.specs.declared.amqp_types.SaslCode.TheVariants as outcomes
+use Rattle.fe2o3_sasl_wire.specs.declared.sasl_frames.error.Error.{Error}
+use Rattle.fe2o3_sasl_wire.specs.SaslFrames as frames
+use Rattle.fe2o3_sasl_wire.specs.SaslFrames.{SaslFrame, canonical}
+use Rattle.fe2o3_scram.specs.ScramClient.{ClientSide, expects_signature}
+use Rattle.fe2o3_sasl_core.specs.Bodies.{carried}
+use Rattle.fe2o3_sasl_core.specs.Events.{Given, ClientSays}
+use Rattle.fe2o3_sasl_core.specs.Profiles.{Profile, ScramProfile, PlainProfile, AnonymousProfile, ExternalProfile, MessageProfile, ChallengeReplies, profile_machine, is_scram}
+use Rattle.fe2o3_sasl_core.specs.Runs.{ProfileGives, ProfileSteps, Replies, Runs}
+use Rattle.fe2o3_sasl_core.specs.declared.sasl_profile.error.ProfileError.{ProfileError}
+
+-- the second profile is of SCRAM exactly if the first is
+abbrev pub Stays : Profile → Profile → Type 0
+Stays profile next = is_scram next ≡ is_scram profile
+
+-- ---- a step
+
+challenge_stays : (expects : Bool) (client : ClientSide) (text : List ℕ) (reply : Result SaslFrame ProfileError)
+    (moved : Profile) → ChallengeReplies expects client text reply moved → Stays (ScramProfile client) moved
+challenge_stays false client text reply moved is = ap is_scram is.4
+challenge_stays true client text reply moved is = ap is_scram is.4
+
+scram_stays : (client : ClientSide) (hostname : Option (List ℕ)) (nonce : List ℕ) (frame : SaslFrame)
+    (reply : Result SaslFrame ProfileError) (moved : Profile)
+    → profile_machine (ScramProfile client) hostname nonce frame reply moved → Stays (ScramProfile client) moved
+scram_stays client hostname nonce (frames.Mechanisms names) reply moved (inl is) =
+    ap is_scram is.2
+scram_stays client hostname nonce (frames.Mechanisms names) reply moved (inr is) =
+    ap is_scram is.2
+scram_stays client hostname nonce (frames.Challenge text) reply moved (inl is) = ap is_scram is.2
+scram_stays client hostname nonce (frames.Challenge text) reply moved (inr is) =
+    challenge_stays (expects_signature client) client text reply moved is.1
+scram_stays client hostname nonce (frames.Outcome outcomes.Ok None) reply moved is =
+    ap is_scram is.4
+scram_stays client hostname nonce (frames.Outcome outcomes.Ok (Some text)) reply moved is =
+    ap is_scram is.4
+scram_stays client hostname nonce (frames.Outcome code more) reply moved is = ap is_scram is.1
+scram_stays client hostname nonce (frames.Init mechanism response host) reply moved is =
+    ap is_scram is.1
+scram_stays client hostname nonce (frames.Response text) reply moved is = ap is_scram is.1
+
+machine_stays : (profile : Profile) (hostname : Option (List ℕ)) (nonce : List ℕ) (frame : SaslFrame)
+    (reply : Result SaslFrame ProfileError) (moved : Profile)
+    → profile_machine profile hostname nonce frame reply moved → Stays profile moved
+machine_stays (ScramProfile client) hostname nonce frame reply moved is =
+    scram_stays client hostname nonce frame reply moved is
+machine_stays (PlainProfile identity user password) hostname nonce (frames.Mechanisms names) reply moved (inl is) =
+    ap is_scram is.2
+machine_stays (PlainProfile identity user password) hostname nonce (frames.Mechanisms names) reply moved (inr is) =
+    ap is_scram is.2
+machine_stays (PlainProfile identity user password) hostname nonce frame reply moved is = ap is_scram is.1
+machine_stays AnonymousProfile hostname nonce (frames.Mechanisms names) reply moved (inl is) =
+    ap is_scram is.2
+machine_stays AnonymousProfile hostname nonce (frames.Mechanisms names) reply moved (inr is) =
+    ap is_scram is.2
+machine_stays AnonymousProfile hostname nonce frame reply moved is = ap is_scram is.1
+machine_stays ExternalProfile hostname nonce (frames.Mechanisms names) reply moved (inl is) =
+    ap is_scram is.2
+machine_stays ExternalProfile hostname nonce (frames.Mechanisms names) reply moved (inr is) =
+    ap is_scram is.2
+machine_stays ExternalProfile hostname nonce frame reply moved is = ap is_scram is.1
+machine_stays (MessageProfile mechanism message is_due) hostname nonce (frames.Mechanisms names) reply moved (inl is) =
+    ap is_scram is.2
+machine_stays (MessageProfile mechanism message is_due) hostname nonce (frames.Mechanisms names) reply moved (inr is) =
+    ap is_scram is.2
+machine_stays (MessageProfile mechanism message true) hostname nonce (frames.Challenge []) reply moved is =
+    ap is_scram is.1
+machine_stays (MessageProfile mechanism message is_due) hostname nonce frame reply moved is =
+    ap is_scram is.1
+
+-- also where the reply is not sent
+carried_stays : (profile : Profile) (body : Option (List ℕ)) (moved next : Profile) → Stays profile moved
+    → next ≡ carried profile (λ _. moved) body → Stays profile next
+carried_stays profile None moved next stays is = ap is_scram is
+carried_stays profile (Some body) moved next stays is = ap is_scram is ∙ stays
+
+replied_stays : (profile moved next : Profile) (reply : Result SaslFrame ProfileError) (says : ClientSays)
+    → Stays profile moved → Replies profile moved reply says next → Stays profile next
+replied_stays profile moved next (Err fault) says stays is = ap is_scram is.1 ∙ stays
+replied_stays profile moved next (Ok (frames.Outcome code more)) says stays is =
+    ap is_scram is.1 ∙ stays
+replied_stays profile moved next (Ok (frames.Init mechanism response host)) says stays is =
+    carried_stays profile (canonical (frames.Init mechanism response host)) moved next stays is.1
+replied_stays profile moved next (Ok (frames.Response text)) says stays is =
+    carried_stays profile (canonical (frames.Response text)) moved next stays is.1
+replied_stays profile moved next (Ok (frames.Mechanisms names)) says stays is =
+    carried_stays profile (canonical (frames.Mechanisms names)) moved next stays is.1
+replied_stays profile moved next (Ok (frames.Challenge text)) says stays is =
+    carried_stays profile (canonical (frames.Challenge text)) moved next stays is.1
+
+given_stays : (hostname : Option (List ℕ)) (profile : Profile) (event : Given) (spelled : Result SaslFrame Error)
+    (says : ClientSays) (next : Profile) → ProfileGives hostname profile event spelled says next → Stays profile next
+given_stays hostname profile event (Err fault) says next is = ap is_scram is.1
+given_stays hostname profile event (Ok frame) says next (inl is) = ap is_scram is.2
+given_stays hostname profile event (Ok frame) says next (inr is) =
+    replied_stays profile is.1 next is.0 says (machine_stays profile hostname event.nonce frame is.0 is.1 is.2) is.3
+
+pub kind_stays : (hostname : Option (List ℕ)) (profile : Profile) (event : Given) (says : ClientSays) (next : Profile)
+    → ProfileSteps hostname profile event says next
+    → is_scram next ≡ is_scram profile
+kind_stays hostname profile event says next (spelled, spells, gives) =
+    given_stays hostname profile event spelled says next gives
+
+-- ---- a run
+
+pub kind_stays_over : (hostname : Option (List ℕ)) (profile : Profile) (events : List Given) (replies : List ClientSays)
+    (last : Profile) → Runs (ProfileSteps hostname) profile events replies last
+    → is_scram last ≡ is_scram profile
+kind_stays_over hostname profile [] replies last run = ap is_scram run.1
+kind_stays_over hostname profile (event ∷ events) replies last (says, next, others, step, is, run) =
+    kind_stays_over hostname next events others last run ∙ kind_stays hostname profile event says next step

@@ -1,0 +1,209 @@
+-- What any number of calls of a client that selects its mechanism from the server's offer do over a stream, divided in any way
+-- (AMQP 1.0, part 5, sections 5.3.2 and 5.3.3.2; RFC 5802, sections 3 and 5). Each law is the contract of a clause in
+-- `policy_clients`.
+use Rattle.std.specs.Prelude.{◌≡◌, ◌≢◌, ◌⊎◌, ◌+◌, ◌*◌, ◌<◌, ◌≤◌, ◌^◌, ◌++◌, ℕ, false, Option, Some, None, List, [], length, Ok}
+use Rattle.std.specs.Str.{IsUtf8}
+use Rattle.fe2o3_sasl_wire.specs.SaslFrames as frames
+use Rattle.fe2o3_sasl_wire.specs.SaslFrames.{IsBytes}
+use Rattle.fe2o3_scram.specs.ChannelBinding.{HoldsHeaderBytes, authzid_text}
+use Rattle.fe2o3_scram.specs.ScramClient.{ClientSide, identity_named}
+use Rattle.fe2o3_scram.specs.declared.scram_messages.client_channel.ClientChannel.TheVariants.{Absent}
+use Rattle.fe2o3_sasl_core.specs.Bodies.{SpellsBody}
+use Rattle.fe2o3_sasl_core.specs.ClientPolicy.{secret_for, unbound_channel, bound_channel}
+use Rattle.fe2o3_sasl_core.specs.Events.{IsLogin, IsSecret, Login}
+use Rattle.fe2o3_sasl_core.specs.Profiles.{Profile, ScramProfile, scram_profile}
+use Rattle.fe2o3_sasl_core.specs.declared.sasl_profile.error.ProfileError.TheVariants.{NotImplemented}
+use Rattle.fe2o3_sasl_negotiation.specs.declared.progress.CloseReason.TheVariants.{Mechanism as ProfileRefused}
+use Rattle.fe2o3_sasl_negotiation.specs.declared.progress.Expected.TheVariants.{Frame}
+use Rattle.fe2o3_sasl_negotiation.specs.declared.progress.FrameKind.TheVariants as turns
+use Rattle.fe2o3_sasl_negotiation.specs.declared.progress.Progress.TheVariants.{InProgress, Authenticated, Failed}
+use Rattle.fe2o3_sasl_negotiation.specs.ClientNegotiation.{ClientReceives, ClientSideAnswers}
+use Rattle.fe2o3_sasl_negotiation.specs.Connections.{IsHeaderPart, IsOtherHeader, LeftOver, fresh}
+use Rattle.fe2o3_sasl_negotiation.specs.CostLaws.{Bounded, MeteredCalls}
+use Rattle.fe2o3_sasl_negotiation.specs.Framing.{Fits, framed, sasl_header}
+use Rattle.fe2o3_sasl_negotiation.specs.Laws.{Call, Calls}
+use Rattle.fe2o3_sasl_negotiation.specs.Negotiations.{Side}
+use Rattle.fe2o3_sasl_negotiation.specs.PolicyClient.{IsSelected, NoneIsSelected, PolicyCosts, PolicyReceives, PolicySideAnswers, Selection}
+use Rattle.fe2o3_sasl_negotiation.specs.PolicyLaws.{side_in_state}
+use Rattle.fe2o3_sasl_negotiation.specs.Retries.{RetriedCalls}
+use Rattle.fe2o3_sasl_negotiation.specs.ScramConnections.{ScramReports}
+use Rattle.connection_laws.specs.Cuts.{CallsEndEqually, taken_pieces}
+use Rattle.connection_laws.specs.Pairs.{ClientOf}
+
+-- ---- a client that has selected a profile
+
+-- what was taken of a stream, all but this rest, begins with the header of SASL and one frame, which offers these mechanisms
+-- (part 5, section 5.3.3.1)
+pub record ReadsOffer (limit : ℕ) (stream rest : List ℕ) (names : List (List ℕ)) : Type 0 where
+  pub body : List ℕ
+  pub more : List ℕ
+  pub fits : Fits limit (length body + 4)
+  pub spells : SpellsBody body (Ok (frames.Mechanisms names))
+  pub carried : stream ≡ sasl_header ++ (framed body ++ (more ++ rest))
+
+-- the calls do what they do to a fresh client of a profile, which is selected from the offer that was read: with the same
+-- nonces they take and send the same bytes, and leave the same side
+pub record ActsAsSelected (selection : Selection) (limit : ℕ) (calls : List Call) (stream sent rest : List ℕ)
+    (last : Side Profile) : Type 0 where
+  pub names : List (List ℕ)
+  pub profile : Profile
+  pub offer : ReadsOffer limit stream rest names
+  pub selected : IsSelected selection names profile
+  pub made : Calls (ClientReceives selection.hostname) (fresh limit profile) calls stream sent last rest
+
+-- calls of a new client that has selected a profile, however they divide the stream
+abbrev pub SelectedClientsActAsProfile : Type 0
+SelectedClientsActAsProfile = (selection : Selection) (limit : ℕ) (calls : List Call) (stream sent rest : List ℕ)
+    (last : Side (Option Profile)) (now : Profile) → IsBytes stream
+    → Calls (PolicyReceives selection) (fresh limit None) calls stream sent last rest → last.state ≡ Some now
+    → ActsAsSelected selection limit calls stream sent rest (side_in_state last now)
+
+-- and the reverse: calls of a fresh client of a profile, which is selected from the offer that they read, are calls of a new
+-- client of the selection, with the same nonces, and it has selected that profile. The size of a frame has 32 bits (part 2,
+-- section 2.3.1)
+abbrev pub SelectedProfilesActAsClient : Type 0
+SelectedProfilesActAsClient = (selection : Selection) (limit : ℕ) (calls : List Call) (stream sent rest : List ℕ)
+    (last : Side Profile) (names : List (List ℕ)) (profile : Profile) → limit < 2 ^ 32
+    → ReadsOffer limit stream rest names → IsSelected selection names profile
+    → Calls (ClientReceives selection.hostname) (fresh limit profile) calls stream sent last rest
+    → Calls (PolicyReceives selection) (fresh limit None) calls stream sent (side_in_state last (Some last.state)) rest
+
+-- an offer has one such profile at most, and none where the client selects none
+abbrev pub OneIsSelected : Type 0
+OneIsSelected = (selection : Selection) (names : List (List ℕ)) (profile : Profile) → IsSelected selection names profile
+    → ((other : Profile) → IsSelected selection names other → other ≡ profile) × ¬ NoneIsSelected selection names
+
+-- ---- a client that has selected none
+
+-- after the header of SASL no offer has been read: the client waits for the rest of the first frame, of which it holds what
+-- has arrived; or it has closed, at a size that is not allowed or at a whole frame that is no list of mechanisms
+pub record HasNoOffer (limit : ℕ) (taken : List ℕ) (last : Side (Option Profile)) : Type 0 where
+  pub tail : List ℕ
+  pub carried : taken ≡ sasl_header ++ tail
+  pub left : LeftOver turns.Mechanisms limit tail last.progress
+  pub state : last.state ≡ None
+  pub waits : last.progress ≡ InProgress → last ≡ record {
+    progress = InProgress;
+    expected = Frame turns.Mechanisms;
+    limit = limit;
+    held = tail;
+    state = None;
+  }
+
+-- the client has closed at an offer from which it selects no profile, and has taken nothing after it
+pub record SelectsNone (selection : Selection) (limit : ℕ) (taken : List ℕ) (last : Side (Option Profile)) : Type 0 where
+  pub names : List (List ℕ)
+  pub body : List ℕ
+  pub fits : Fits limit (length body + 4)
+  pub spells : SpellsBody body (Ok (frames.Mechanisms names))
+  pub carried : taken ≡ sasl_header ++ framed body
+  pub none : NoneIsSelected selection names
+  pub closed : last.progress ≡ Failed (ProfileRefused NotImplemented)
+  pub state : last.state ≡ None
+
+-- what a client that has selected no profile has taken: a part of a header, another header, no whole offer, or an offer from
+-- which it selects none
+abbrev pub IsUnselected : Selection → ℕ → List ℕ → Side (Option Profile) → Type 0
+IsUnselected selection limit taken last = IsHeaderPart limit None taken [] last ⊎ IsOtherHeader None taken last
+    ⊎ HasNoOffer limit taken last ⊎ SelectsNone selection limit taken last
+
+-- calls of a new client that has selected no profile send nothing after its header, and have not logged in
+abbrev pub UnselectedClientsSendNothing : Type 0
+UnselectedClientsSendNothing = (selection : Selection) (limit : ℕ) (calls : List Call) (stream sent rest : List ℕ)
+    (last : Side (Option Profile)) → IsBytes stream
+    → Calls (PolicyReceives selection) (fresh limit None) calls stream sent last rest → last.state ≡ None
+    → (taken : List ℕ) × (stream ≡ taken ++ rest) × (sent ≡ []) × (last.progress ≢ Authenticated)
+    × IsUnselected selection limit taken last
+
+-- ---- a client that has selected SCRAM
+
+-- this is the login by which a client of this selection logs in by SCRAM (RFC 5802, sections 5 and 6): of its user, with what
+-- its secret is for the version; it says of its channel what it says with -PLUS or without
+pub record IsLoginOf (selection : Selection) (login : Login) : Type 0 where
+  pub user : login.user ≡ selection.user
+  pub secret : secret_for login.version selection.secret ≡ Some login.secret
+  pub limits : login.limits ≡ selection.policy.limits
+  pub channel : (login.channel ≡ unbound_channel selection.policy.channel)
+      ⊎ (login.channel ≡ bound_channel selection.policy.channel)
+  pub acts_for : login.acts_for ≡ identity_named selection.acts_for
+  pub strict : login.strict ≡ false
+  pub signature_by_challenge : login.signature_by_challenge ≡ false
+  pub hostname : login.hostname ≡ selection.hostname
+
+-- the calls make a connection of a SCRAM client of a login, whose profile is selected from the offer that was read: its pieces
+-- are the bytes that each call took, with its nonce. So the laws of `pairs` hold of it, and the headline theorem does
+-- (`ScramReports`)
+pub record IsScramClient (selection : Selection) (limit : ℕ) (calls : List Call) (stream sent rest : List ℕ)
+    (last : Side Profile) : Type 0 where
+  pub names : List (List ℕ)
+  pub offer : ReadsOffer limit stream rest names
+  pub login : Login
+  pub login_of : IsLoginOf selection login
+  pub selected : IsSelected selection names (scram_profile login)
+  pub made : Calls (ClientReceives login.hostname) (fresh limit (scram_profile login)) calls stream sent last rest
+  pub client : ClientOf login
+  pub limit_is : client.limit ≡ limit
+  pub pieces : client.pieces ≡ taken_pieces (ClientSideAnswers login.hostname) (fresh limit (scram_profile login)) calls
+      stream sent last rest made
+  pub taken : stream ≡ client.taken ++ rest
+  pub sends : client.sent ≡ sent
+  pub ends : client.last ≡ last
+  pub reports : ScramReports login client.connection.events client.connection.replies
+
+-- calls of a new client that has selected a profile of SCRAM
+abbrev pub ScramClientsReportSelected : Type 0
+ScramClientsReportSelected = (selection : Selection) (limit : ℕ) (calls : List Call) (stream sent rest : List ℕ)
+    (last : Side (Option Profile)) (now : ClientSide) → IsBytes stream
+    → Calls (PolicyReceives selection) (fresh limit None) calls stream sent last rest
+    → last.state ≡ Some (ScramProfile now)
+    → IsScramClient selection limit calls stream sent rest (side_in_state last (ScramProfile now))
+
+-- what the code holds of a selection, as `IsLogin` says of a login: texts in UTF-8, a limit of 32 bits, and a header that is
+-- bytes, also where the channel is bound
+pub record HoldsSelection (selection : Selection) : Type 0 where
+  pub user : IsUtf8 selection.user
+  pub secret : IsSecret selection.secret
+  pub limit : selection.policy.limits.max_iterations < 2 ^ 32
+  pub channel : HoldsHeaderBytes (record {
+    channel = bound_channel selection.policy.channel;
+    acts_for = identity_named selection.acts_for;
+  })
+  pub identity : IsUtf8 (authzid_text (identity_named selection.acts_for))
+  pub hostname : (text : List ℕ) → selection.hostname ≡ Some text → IsUtf8 text
+
+-- each login of a selection meets the premises of the laws of `pairs`: the code holds of it what they ask, and a client with a
+-- channel has one, bound or not
+abbrev pub LoginsMeetPremises : Type 0
+LoginsMeetPremises = (selection : Selection) (login : Login) → IsLoginOf selection login
+    → (HoldsSelection selection → IsLogin login × IsSecret login.secret)
+    × (selection.policy.channel ≢ None → login.channel ≢ Absent)
+
+-- ---- in any division
+
+-- what two lists of calls of a new client over one stream have in common, in any two divisions of the stream, where each frame
+-- has one nonce in both
+abbrev pub PolicyCallsEndEqually : Type 0
+PolicyCallsEndEqually = (selection : Selection) → CallsEndEqually (PolicySideAnswers selection) None
+
+-- ---- what a connection costs
+
+-- a connection of a new client makes no more HMAC values than the limit of its policy on iterations and four (RFC 5802,
+-- section 3)
+abbrev pub PolicyClientsCost : Type 0
+PolicyClientsCost = (selection : Selection) (limit : ℕ) (calls : List Call) (stream : List ℕ) (before after : ℕ)
+    → MeteredCalls (PolicySideAnswers selection) PolicyCosts (fresh limit None) calls stream before after
+    → (before ≤ after) × (after ≤ before + (selection.policy.limits.max_iterations + 4))
+
+-- and that many more for each call that ran out of memory
+abbrev pub PolicyClientsRetry : Type 0
+PolicyClientsRetry = (selection : Selection) (limit : ℕ) (calls : List Call) (stream : List ℕ) (failed before after : ℕ)
+    → RetriedCalls (PolicySideAnswers selection) PolicyCosts (fresh limit None) calls stream failed before after
+    → (before ≤ after) × (after ≤ before + (failed * (selection.policy.limits.max_iterations + 4)
+    + (selection.policy.limits.max_iterations + 4)))
+
+-- after its header it sends at most an init and a response, each frame of at most 512 bytes (part 5, section 5.3.1), and holds
+-- less than a header, or less than its limit of a frame
+abbrev pub PolicyClientsAreBounded : Type 0
+PolicyClientsAreBounded = (selection : Selection) (limit : ℕ) (calls : List Call) (stream sent rest : List ℕ)
+    (last : Side (Option Profile)) → Calls (PolicyReceives selection) (fresh limit None) calls stream sent last rest
+    → Bounded (2 * 512) limit sent last
