@@ -83,12 +83,19 @@ class SharedUsers(PostgreSql):
         said = []
         for broker, port in self.brokers:
             done = subprocess.run(
-                [*side.frames_client, "localhost", str(port), user.name], input=user.password + "\n",
-                env=self.environment(), capture_output=True, text=True, timeout=PATIENCE, check=False,
+                [*side.frames_client, "localhost", str(port), user.name],
+                input=user.password + "\n",
+                env=self.environment(),
+                capture_output=True,
+                text=True,
+                timeout=PATIENCE,
+                check=False,
             )
             said.append(done.stdout.strip())
             told = broker.stdout.readline()
-            assert told.startswith({IN: f"logged in: {user.name!r}\n", WRONG: "not logged in:"}.get(said[-1], "no login:"))
+            assert told.startswith(
+                {IN: f"logged in: {user.name!r}\n", WRONG: "not logged in:"}.get(said[-1], "no login:")
+            )
         return said
 
     def added(self, side: Side) -> Ending:
@@ -146,9 +153,22 @@ class SharedUsers(PostgreSql):
 
         yield cell("a user that is added, before and after it, at both", self.added, WRONG, WRONG, IN, IN)
         yield cell("a user that is removed, before and after it, at both", self.removed, IN, IN, WRONG, WRONG)
-        yield cell("the old password, the same after a change, and the new one, at both", self.changed, IN, IN, WRONG, WRONG,
-                   IN, IN)
-        yield cell("PostgreSQL is down: the right password and a wrong one; it is back: the right one", self.down,
-                   *[TEMPORARY] * 4, IN, IN)
+        yield cell(
+            "the old password, the same after a change, and the new one, at both",
+            self.changed,
+            IN,
+            IN,
+            WRONG,
+            WRONG,
+            IN,
+            IN,
+        )
+        yield cell(
+            "PostgreSQL is down: the right password and a wrong one; it is back: the right one",
+            self.down,
+            *[TEMPORARY] * 4,
+            IN,
+            IN,
+        )
         yield cell("a record that cannot be read", self.unreadable, TEMPORARY, TEMPORARY)
         yield cell("salts of two unknown names, at both", self.unknown, "1 and 1, 2 in all")

@@ -21,8 +21,10 @@ PAGES = {
 }
 EXAMPLES = {
     **{f"bindings/c/{name}.c": f"examples/{name}.c" for name in ("client", "server", "scram", "steps", "fits")},
-    **{f"bindings/python/examples/{name}.py": f"examples/{name}.py"
-       for name in ("login", "client", "broker", "channel", "shared_users")},
+    **{
+        f"bindings/python/examples/{name}.py": f"examples/{name}.py"
+        for name in ("login", "client", "broker", "channel", "shared_users")
+    },
 }
 LINK = re.compile(r"(?<!!)\[((?:[^\[\]`]|`[^`]*`)*)\]\(([^()\s]+)\)")
 
@@ -36,7 +38,7 @@ def code_left_out(text):
 def links_of(text):
     """The links outside code: start, end, words and target."""
     for found in LINK.finditer(code_left_out(text)):
-        yield found.start(), found.end(), text[found.start(1):found.end(1)], found[2]
+        yield found.start(), found.end(), text[found.start(1) : found.end(1)], found[2]
 
 
 def moved(page, folder, places):
@@ -73,7 +75,9 @@ def check(folder):
     import links
 
     faults, count = links.check(folder.resolve())
-    print("".join(f"{folder}: {fault}\n" for fault in faults) + f"{folder}: {count} links, {len(faults)} without a target")
+    print(
+        "".join(f"{folder}: {fault}\n" for fault in faults) + f"{folder}: {count} links, {len(faults)} without a target"
+    )
     return bool(faults) or not count
 
 

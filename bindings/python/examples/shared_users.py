@@ -19,6 +19,7 @@ import secrets
 import socket
 import sys
 import threading
+from typing import Any, Callable
 
 import psycopg
 from fe2o3_sasl import SHA_256, SHA_512, Offer, Progress, Record, RecordError, Refused, ServerConnection
@@ -43,7 +44,7 @@ class TableUnreadable(Exception):
     """Nobody knows whether there is such a user, or whether a password is right."""
 
 
-def connect(database: str) -> psycopg.Connection:
+def connect(database: str) -> psycopg.Connection[Any]:
     return psycopg.connect(database, connect_timeout=SECONDS, options=f"-c statement_timeout={SECONDS}s")
 
 
@@ -51,7 +52,9 @@ def prepare(database: str) -> None:
     """Makes what is not there yet. A new secret would show who is unknown, so the first one stays."""
     with connect(database) as connection:
         connection.execute(TABLES)
-        connection.execute("INSERT INTO mock_secret (secret) VALUES (%s) ON CONFLICT DO NOTHING", (secrets.token_bytes(32),))
+        connection.execute(
+            "INSERT INTO mock_secret (secret) VALUES (%s) ON CONFLICT DO NOTHING", (secrets.token_bytes(32),)
+        )
 
 
 def set_user(name: str, database: str) -> None:
@@ -67,7 +70,8 @@ class Users:
     def __init__(self, database: str) -> None:
         self.database = database
         with connect(database) as connection:
-            (self.secret,) = connection.execute("SELECT secret FROM mock_secret").fetchone() or (b"",)
+            row = connection.execute("SELECT secret FROM mock_secret").fetchone()
+        self.secret = bytes(row[0]) if row else b""
 
     def records(self, name: str) -> list[Record]:
         """Returns the records of a user, those of SHA-256 first; none for an unknown name."""
@@ -127,8 +131,10 @@ def serve(port: str, database: str) -> None:
             threading.Thread(target=report, args=(users, sock), daemon=True).start()
 
 
+COMMANDS: dict[str, Callable[..., None]] = {"prepare": prepare, "set": set_user, "serve": serve}
+
 if __name__ == "__main__":
     try:
-        {"prepare": prepare, "set": set_user, "serve": serve}[sys.argv[1]](*sys.argv[2:])
+        COMMANDS[sys.argv[1]](*sys.argv[2:])
     except (psycopg.Error, Refused, ValueError) as why:
         sys.exit(f"shared_users.py: {why}")
