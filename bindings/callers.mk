@@ -10,8 +10,8 @@
 #   make rust      tests the crate of bindings/rust, which needs cargo and no other crate, and checks its docs; with rustfmt
 #                  and clippy, where cargo has them, also its format and lints
 #   make python    tries the module of bindings/python over the shared library
-#   make install   PREFIX, LIBDIR, INCLUDEDIR, DOCDIR and DESTDIR as usual. DOCDIR also gets NOTICES, the notices of the
-#                  kit's code that the library contains, which need the kit
+#   make install   PREFIX, LIBDIR, INCLUDEDIR, DOCDIR and DESTDIR as usual. DOCDIR also gets pages, examples, and NOTICES,
+#                  the notices of the kit's code that the library contains, which need the kit
 #   make dist      what `install` installs, into build/fe2o3_sasl-VERSION-CPU.tar.gz, whose bytes depend only on the files
 PREFIX ?= /usr/local
 LIBDIR ?= $(PREFIX)/lib
@@ -28,6 +28,7 @@ PROVED_ARCHIVE ?= crates/sasl_c/out/libsasl_c.a
 LIBRARY = build/libfe2o3_sasl.a build/libfe2o3_sasl.so build/fe2o3_sasl.pc
 HEADER = bindings/c/fe2o3_sasl.h
 PC_PREFIX = $(PREFIX)
+CMAKE_FILES = build/cmake/fe2o3_sasl-config.cmake build/cmake/fe2o3_sasl-config-version.cmake
 DIST = fe2o3_sasl-$(VERSION)-$(CPU)
 
 # (`wiping` is bindings/wiping/heap.c)
@@ -43,7 +44,7 @@ PROGRAMS = fits scram steps connections channels threads random $(SALTED)
 SALTED := $(shell printf '\043include <openssl/evp.h>\n' | $(CC) -E -x c - > /dev/null 2>&1 && echo salted)
 KINDS = plain shared sanitized
 
-.PHONY: lib header header-check callers depths rust python install dist build/fe2o3_sasl.pc
+.PHONY: lib header header-check callers depths rust python install dist build/fe2o3_sasl.pc FORCE
 
 lib: kit
 	cd crates/sasl_c && rt lib --cpu $(CPU)
@@ -64,7 +65,7 @@ build/proved.o: $(PROVED_ARCHIVE)
 
 # Without optimization over files, by which a compiler could move the wiping of a stack into another frame.
 WIPING = $(HEADER) bindings/wiping/wipe.h bindings/wiping/depths.h
-COMPILED = $(CC) -std=c99 $(WARNINGS) -O2 -fPIC -fno-lto -c -o $@ $<
+COMPILED = $(CC) -std=c99 $(WARNINGS) -g -ffile-prefix-map=$(CURDIR)=. -O2 -fPIC -fno-lto -c -o $@ $<
 build/wiping/%.o: bindings/wiping/%.c $(WIPING)
 	@mkdir -p $(@D)
 	$(COMPILED)
@@ -72,7 +73,7 @@ build/wiping/%.o: bindings/wiping/%.c $(WIPING)
 # One object in which all but the exports is local, so that another library of the kit can be linked beside it.
 define ONE_OBJECT
 ld -r -o $@ --whole-archive $^
-objcopy --wildcard --keep-global-symbol='fe2o3_*' --strip-debug $@
+objcopy --wildcard --keep-global-symbol='fe2o3_*' $@
 endef
 build/fe2o3_sasl.o: build/proved.o build/wiping/exports.o build/wiping/wipe.o $(HEAP_$(HEAP))
 	$(ONE_OBJECT)
@@ -88,9 +89,13 @@ build/unwiped/fe2o3_sasl.o: build/proved.o build/unwiped/exports.o build/unwiped
 build/libfe2o3_sasl.a build/unwiped/libfe2o3_sasl.a: %/libfe2o3_sasl.a: %/fe2o3_sasl.o
 	rm -f $@
 	ar rcsD $@ $<
+	objcopy -D --strip-debug $@
 
+# The debug symbols, of the wrappers and the heap, are in a file of their own.
 build/libfe2o3_sasl.so: build/libfe2o3_sasl.a
-	$(CC) -shared -Wl,-soname,$(SONAME) -Wl,-z,defs -Wl,-z,now -o $@ build/fe2o3_sasl.o $(LDLIBS)
+	$(CC) -shared -Wl,-soname,$(SONAME) -Wl,-z,defs -Wl,-z,now -Wl,--build-id -o $@ build/fe2o3_sasl.o $(LDLIBS)
+	objcopy --only-keep-debug $@ $@.debug
+	objcopy --strip-debug $@
 	ln -sf $(@F) build/$(SONAME)
 
 # The notices of the kit's crates that a crate of crates.txt links.
@@ -105,7 +110,14 @@ build/fe2o3_sasl.pc:
 	@printf '%s\n' 'prefix=$(PC_PREFIX)' 'libdir=$(call in_prefix,$(LIBDIR))' \
 	    'includedir=$(call in_prefix,$(INCLUDEDIR))' '' 'Name: fe2o3_sasl' \
 	    'Description: SCRAM, and SASL as AMQP 1.0 has it' 'Version: $(VERSION)' \
-	    'Cflags: -I$${includedir}' 'Libs: -L$${libdir} -lfe2o3_sasl' > $@
+	    'Cflags: -I$${includedir}' 'Libs: -L$${libdir} $(PC_LINKS)-lfe2o3_sasl' > $@
+
+# What CMake's `find_package` reads.
+build/cmake/%.cmake: bindings/packages/%.cmake FORCE
+	@mkdir -p $(@D)
+	@sed -e 's|@VERSION@|$(VERSION:-dev=)|' -e 's|@SONAME@|$(SONAME)|g' \
+	    -e "s|@INCLUDE@|$$(realpath -ms --relative-to=$(LIBDIR) $(INCLUDEDIR))|" $< > $@
+FORCE:
 
 header:
 	tools/generate/header.py write
@@ -208,21 +220,24 @@ python: build/libfe2o3_sasl.so
 	    FE2O3_SASL_LIB=$(abspath build/libfe2o3_sasl.so) $(PYTHON_TEST) $$tests || exit 1; \
 	done
 
-install: $(LIBRARY) build/notices/sasl_c
-	install -d $(DESTDIR)$(LIBDIR)/pkgconfig $(DESTDIR)$(INCLUDEDIR) $(DESTDIR)$(DOCDIR)
+install: $(LIBRARY) build/notices/sasl_c $(CMAKE_FILES)
+	install -d $(DESTDIR)$(LIBDIR)/pkgconfig $(DESTDIR)$(LIBDIR)/cmake/fe2o3_sasl $(DESTDIR)$(INCLUDEDIR) $(DESTDIR)$(DOCDIR)
 	install -m 644 $(HEADER) $(DESTDIR)$(INCLUDEDIR)/
 	install -m 644 build/libfe2o3_sasl.a $(DESTDIR)$(LIBDIR)/
 	install -m 755 build/libfe2o3_sasl.so $(DESTDIR)$(LIBDIR)/$(SONAME)
 	ln -sf $(SONAME) $(DESTDIR)$(LIBDIR)/libfe2o3_sasl.so
 	install -m 644 build/fe2o3_sasl.pc $(DESTDIR)$(LIBDIR)/pkgconfig/
+	install -m 644 $(CMAKE_FILES) $(DESTDIR)$(LIBDIR)/cmake/fe2o3_sasl/
 	install -m 644 LICENSE-APACHE LICENSE-MIT $(DESTDIR)$(DOCDIR)/
 	install -m 644 build/notices/sasl_c $(DESTDIR)$(DOCDIR)/NOTICES
+	bindings/packages/pages.py write $(DESTDIR)$(DOCDIR)
 
-# pkg-config finds the folder from the place of its file, so the tar can be unpacked anywhere.
+# pkg-config finds the folder from the place of its file, so the tar can be unpacked anywhere, and a program that is linked
+# by what pkg-config says finds the shared library there.
 dist: $(LIBRARY)
 	rm -rf build/dist
 	$(MAKE) --no-print-directory install DESTDIR=build/dist/$(DIST) PREFIX= LIBDIR=/lib INCLUDEDIR=/include DOCDIR=/ \
-	    PC_PREFIX='$$$${pcfiledir}/../..'
+	    PC_PREFIX='$$$${pcfiledir}/../..' PC_LINKS='-Wl,-rpath,$$$${libdir} '
 	install -m 644 $(KIT)/KIT-ID build/dist/$(DIST)/
 	tar --sort=name --mtime='1980-01-01 00:00Z' --owner=0 --group=0 --numeric-owner --mode=u=rwX,go=rX \
 	    --format=ustar -C build/dist -cf build/$(DIST).tar $(DIST)

@@ -224,17 +224,23 @@ class PostgreSql(Peer):
     def start(self, folder: Path) -> None:
         """A server, which refuses to run as root."""
         self.folder, (shown, key), data = folder, certificate(folder), folder / "data"
-        who = unprivileged(folder, key)
+        self.who = unprivileged(folder, key)
         words = ["-D", data, "-U", "admin", "-E", "UTF8", "--locale=C", "--no-sync"]
         rules = ["--auth-local=trust", "--auth-host=scram-sha-256"]
-        quiet = {"stdout": subprocess.DEVNULL, "stderr": subprocess.DEVNULL, "cwd": folder, **who}
-        subprocess.run([self.programs / "initdb", *words, *rules], check=True, **quiet)
+        subprocess.run([self.programs / "initdb", *words, *rules], check=True, **self.quiet())
         self.port = free_port()
         settings = {"listen_addresses": "127.0.0.1", "port": self.port, "unix_socket_directories": folder,
                     "fsync": "off", "password_encryption": "scram-sha-256", "ssl": "on", "ssl_cert_file": shown,
                     "ssl_key_file": key}
-        options = [word for name, value in settings.items() for word in ("-c", f"{name}={value}")]
-        self.server = subprocess.Popen([self.programs / "postgres", "-D", data, *options], **quiet)
+        self.options = ["-D", data, *(word for name, value in settings.items() for word in ("-c", f"{name}={value}"))]
+        self.run()
+
+    def quiet(self) -> dict[str, object]:
+        return {"stdout": subprocess.DEVNULL, "stderr": subprocess.DEVNULL, "cwd": self.folder, **self.who}
+
+    def run(self) -> None:
+        """Runs the server that `start` has made."""
+        self.server = subprocess.Popen([self.programs / "postgres", *self.options], **self.quiet())
         for _ in range(100):
             if self.sql("select 1", check=False) == "1":
                 return

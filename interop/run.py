@@ -34,6 +34,7 @@ from late import LateCyrus, LateGnu  # noqa: E402
 from postgresql import PostgreSql  # noqa: E402
 from qpid_proton import ProtonWithCyrus, QpidProton  # noqa: E402
 from rabbitmq import RabbitMq  # noqa: E402
+from shared_users import SharedUsers  # noqa: E402
 from sides import PYTHON, Side  # noqa: E402
 
 #: The head of a file of results.
@@ -42,7 +43,7 @@ HEAD = "# Logins to other programs and by them\n\nWritten by `interop/run.py --t
 
 def peers(built: Path, proton: Optional[Path]) -> list[Peer]:
     """The peers, in the order of the table."""
-    with_sasl_alone = [GnuSasl(), CyrusSasl(built), PostgreSql(), AttackedPostgreSql()]
+    with_sasl_alone = [GnuSasl(), CyrusSasl(built), PostgreSql(), AttackedPostgreSql(), SharedUsers()]
     proton_peers = [QpidProton(), ProtonWithCyrus(proton), ExampleBroker(proton)]
     return [*with_sasl_alone, *proton_peers, LateCyrus(built), LateGnu(), RabbitMq()]
 

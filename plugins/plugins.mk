@@ -5,7 +5,7 @@
 #   make plugin-test    logins through libsasl2 in one program, plain and under the sanitizers, either side also by
 #                       Cyrus SASL's own SCRAM, where Debian's libsasl2-modules has it
 #   make plugin-logins  logins of programs that use Cyrus SASL, each side ours and theirs, of Debian's sasl2-bin,
-#                       python3-qpid-proton, slapd and ldap-utils; it reports what is missing. PROTON is a folder with a
+#                       python3-qpid-proton, slapd, ldap-utils and openssl; it reports what is missing. PROTON is a folder with a
 #                       library of Proton that was built with Cyrus SASL, which Debian's own is not
 SASL_PLUGINS ?= $(shell pkg-config --variable=libdir libsasl2)/sasl2
 PLUGIN = plugins/cyrus/fe2o3_scram.c plugins/cyrus/prompts.c

@@ -3,9 +3,12 @@
 #
 #   try.sh tools                      fails if a tool is missing
 #   try.sh twice ARCHIVE MAKE..       makes the packages twice, and compares the bytes
-#   try.sh logins VERSION INSTALL     makes a first login with each package outside the repository, without the kit;
-#                                     INSTALL is yes or no: whether to install the Debian package and remove it again
+#   try.sh logins VERSION INSTALL ARCHIVE
+#                                     makes a first login with each package outside the repository, without the kit;
+#                                     INSTALL is yes or no: whether to install the Debian packages and remove them again
 #   try.sh ci ARCHIVE                 runs ci.sh without the kit
+#   try.sh judged ARCHIVE CRATE       runs lintian, twine and `cargo package` over the packages, names those of these
+#                                     tools that are not installed, and tests the links of all pages
 set -euo pipefail
 export LC_ALL=C
 PACKED=build/packages
@@ -29,7 +32,7 @@ path_without_kit() {
 tools() {
     local tool missing=()
     PATH=$(path_without_kit)
-    for tool in cc ar ld nm objcopy objdump pkg-config python3 cargo dpkg tar gzip md5sum sha256sum cmp; do
+    for tool in cc ar ld nm objcopy objdump readelf addr2line strip pkg-config python3 cargo dpkg tar gzip md5sum sha256sum cmp; do
         command -v "$tool" > /dev/null || missing+=("$tool")
     done
     ! command -v python3 > /dev/null || python3 -c 'import ensurepip, venv' 2> /dev/null ||
@@ -85,7 +88,7 @@ logins() {
     outside=$(mktemp -d "${TMPDIR:-/tmp}/fe2o3_packages.XXXXXX")
     # shellcheck disable=SC2064
     trap "rm -rf '$outside'" EXIT
-    cp -r "$PACKED" bindings/packages/first_login bindings/packages/try.sh "$outside"
+    cp -r "$PACKED" bindings/packages/first_login bindings/packages/try.sh "$3" "$outside"
     (cd "$outside" && hidden "$OLDPWD" bash "$outside/try.sh" outside "$@" "$OLDPWD")
 }
 
@@ -107,16 +110,29 @@ timed() {
 
 # Everything in the folder `packages` of the current one. Nothing of the repository.
 outside() {
-    local version=$1 install=$2 repository=$3
+    local version=$1 install=$2 repository=$4 package
     [ ! -e "$repository/Makefile" ] || echo "note: the repository can be read, but nothing names its folder" >&2
     ! command -v rt > /dev/null || fail "rt is on the PATH"
     unset LD_LIBRARY_PATH PYTHONPATH FE2O3_SASL_LIB
-    DEB=$(echo "$PWD"/packages/*.deb) WHEEL=$(echo "$PWD"/packages/*.whl)
-    CRATE=fe2o3-sasl-proved-$version
+    DEV=$(echo "$PWD"/packages/*-dev_*.deb) WHEEL=$(echo "$PWD"/packages/*.whl)
+    RUNTIME=$(echo "$PWD"/packages/*-sasl[0-9]_*.deb) SYMBOLS=$(echo "$PWD"/packages/*-dbgsym_*.deb)
+    VERSION=$version CRATE=fe2o3-sasl-proved-$version
+    UNPACKED=$PWD/anywhere
+    mkdir "$UNPACKED" prefix
+    tar -xf fe2o3_sasl-*.tar.gz -C "$UNPACKED" --strip-components=1
+    for package in "$RUNTIME" "$DEV" "$SYMBOLS"; do dpkg -x "$package" prefix; done
     notices
-    timed 'C, shared library of the Debian package' c_shared
-    timed 'C, static library of the Debian package' c_static
-    [ "$install" = no ] || timed 'C, Debian package installed by dpkg -i' c_installed
+    symbols
+    timed 'C, shared library of the Debian packages' c_shared
+    timed 'C, static library of the Debian packages' c_static
+    timed 'C, tar.gz where it is unpacked, by what pkg-config says' c_unpacked
+    if command -v cmake > /dev/null; then
+        timed 'C, tar.gz, by find_package of CMake' by_cmake "$UNPACKED"
+        timed 'C, Debian packages, by find_package of CMake' by_cmake "$PWD/prefix/usr"
+    else
+        echo 'not tried, since cmake is not installed: find_package'
+    fi
+    [ "$install" = no ] || timed 'C, Debian packages installed by dpkg -i' c_installed
     timed 'Python, wheel in a fresh venv' in_python
     timed 'Rust, crate with its archive' in_rust packed
     timed 'Rust, crate with the archive that pkg-config finds' in_rust pkg-config
@@ -125,19 +141,32 @@ outside() {
 
 # Each package has the notices of the kit's code that it contains; this name is in those of a crate that each links.
 notices() {
-    local name='Copyright (c) 2018 Carl Lerche'
-    dpkg --fsys-tarfile "$DEB" | tar -xO ./usr/share/doc/libfe2o3-sasl/copyright > deb_notices
+    local name='Copyright (c) 2018 Carl Lerche' package
     python3 -m zipfile -e "$WHEEL" unzipped
     tar -xOf "packages/$CRATE.tar.gz" "$CRATE/NOTICES" > crate_notices
-    grep -qF "$name" deb_notices || fail "$DEB has no notices"
+    for package in "${RUNTIME##*/}" "${DEV##*/}"; do
+        grep -qF "$name" "prefix/usr/share/doc/${package%%_*}/copyright" || fail "$package has no notices"
+    done
     grep -qF "$name" unzipped/*.dist-info/NOTICES || fail "$WHEEL has no notices"
     grep -qF "$name" crate_notices || fail "the crate has no notices"
     echo "the packages have the notices of the kit's code"
 }
 
-# The Debian package, unpacked into a prefix.
+# The package of debug symbols has those of the library, by its build ID: the names of its functions, and the lines of the
+# wrappers.
+symbols() {
+    local id file at
+    id=$(readelf -n prefix/usr/lib/x86_64-linux-gnu/libfe2o3_sasl.so | sed -n 's/^ *Build ID: //p')
+    file=prefix/usr/lib/debug/.build-id/${id:0:2}/${id:2}.debug
+    nm "$file" > names
+    grep -q ' t proved_fe2o3_version$' names || fail "$SYMBOLS has no names of the library's functions"
+    at=$(sed -n 's/ T fe2o3_version$//p' names)
+    [[ $(addr2line -e "$file" "$at") = *exports.c:* ]] || fail "$SYMBOLS has no lines of the wrappers"
+    echo "the debug symbols are those of the library"
+}
+
+# What pkg-config says of the Debian packages, unpacked into a prefix.
 unpacked() {
-    dpkg -x "$DEB" prefix
     export PKG_CONFIG_SYSROOT_DIR=$PWD/prefix PKG_CONFIG_PATH=$PWD/prefix/usr/lib/x86_64-linux-gnu/pkgconfig
     LIBRARIES=$PWD/prefix/usr/lib/x86_64-linux-gnu
     # (so that the folders below it are not left out like those of the system)
@@ -158,9 +187,28 @@ c_static() {
     ./login_c
 }
 
+# Also each example in C of the tar.gz.
+c_unpacked() {
+    local example
+    export PKG_CONFIG_PATH=$UNPACKED/lib/pkgconfig
+    for example in first_login/login.c "$UNPACKED"/examples/*.c; do
+        # shellcheck disable=SC2046
+        cc -pthread -o "$(basename "$example" .c)_unpacked" "$example" $(pkg-config --cflags --libs fe2o3_sasl)
+    done
+    ./login_unpacked
+}
+
+# Both libraries of the folder $1, of the version that it has, the shared one last.
+by_cmake() {
+    cmake -S first_login -B "${1}_cmake" -DCMAKE_PREFIX_PATH="$1" -DWANTED="${VERSION%-dev}" >&2
+    cmake --build "${1}_cmake" >&2
+    "${1}_cmake/login_static" >&2
+    "${1}_cmake/login_shared"
+}
+
 c_installed() {
-    trap 'dpkg -r libfe2o3-sasl >&2' EXIT
-    dpkg -i "$DEB" >&2
+    trap 'dpkg -r libfe2o3-sasl-dev "$(basename "$RUNTIME" | cut -d _ -f 1)" >&2' EXIT
+    dpkg -i "$RUNTIME" "$DEV" >&2
     # shellcheck disable=SC2046
     cc -o login_c first_login/login.c $(pkg-config --cflags --libs fe2o3_sasl)
     ./login_c
@@ -170,6 +218,8 @@ in_python() {
     python3 -m venv venv >&2
     venv/bin/pip --disable-pip-version-check install --no-index "$WHEEL" >&2
     venv/bin/python -c 'import fe2o3_sasl, sys; sys.exit(not fe2o3_sasl._library._name.startswith(sys.prefix))'
+    # (the examples are where the wheel puts them)
+    (cd venv/share/doc/fe2o3_sasl/examples && ../../../../bin/python -B -c 'import broker, channel, client, login')
     venv/bin/python first_login/login.py
 }
 
@@ -207,6 +257,35 @@ rust_without_archive() {
 
 ci() {
     hidden '' bindings/packages/ci.sh "$1"
+}
+
+# `judge WHAT TOOL ARGUMENTS..`: runs a tool over packages, if it is installed. Fails if it finds a fault.
+judge() {
+    local what=$1 tool=$2
+    shift
+    if ! command -v "$tool" > /dev/null; then
+        echo "not judged, since $tool is not installed: $what"
+    elif "$@"; then
+        echo "$tool finds no fault: $what"
+    else
+        fail "$tool finds a fault: $what"
+    fi
+}
+
+judged() {
+    local outside
+    outside=$(mktemp -d "${TMPDIR:-/tmp}/fe2o3_packages.XXXXXX")
+    # shellcheck disable=SC2064
+    trap "rm -rf '$outside'" EXIT
+    judge 'the Debian packages' lintian --allow-root --fail-on error,warning "$PACKED"/*.deb
+    judge 'the wheel' twine check --strict "$PACKED"/*.whl
+    mkdir "$outside/tar" "$outside/crate"
+    tar -xf "$1" -C "$outside/tar"
+    tar -xf "$2" -C "$outside/crate"
+    judge 'the crate' cargo package --quiet --offline --allow-dirty --target-dir "$outside/target" \
+        --manifest-path "$outside/crate/$(basename "$2" .tar.gz)/Cargo.toml"
+    judge 'the pages of the repository, the tar.gz and the crate' \
+        bindings/packages/pages.py check . "$outside"/tar/* "$outside"/crate/*
 }
 
 [ $# -gt 0 ] || { sed -n 's/^# \{0,1\}//p' "$0" >&2; exit 2; }

@@ -5,14 +5,15 @@
 
 The wheel has the package `fe2o3_sasl`: the text of bindings/python/fe2o3_sasl.py, which loads the library beside it in
 place of the system's, and LIBRARY under the name SONAME. Beside it is the module `fe2o3_sasl_asyncio`. The file NOTICES
-goes beside the licences. The tag names the newest version of glibc that a symbol of the library needs. Times and the order
-of the files are fixed.
+goes beside the licences. Pages and examples go to share/doc/fe2o3_sasl of the environment. The tag names the newest version
+of glibc that a symbol of the library needs. Times and the order of the files are fixed.
 """
 import base64
 import hashlib
 import re
 import subprocess
 import sys
+import tempfile
 import zipfile
 from pathlib import Path
 
@@ -85,6 +86,14 @@ def written(archive, name, data):
     return f"{name},sha256={digest},{len(data)}\n"
 
 
+def documents(at):
+    """The pages and examples, as they are in a package, below this place of the wheel."""
+    with tempfile.TemporaryDirectory() as folder:
+        subprocess.run([Path(__file__).with_name("pages.py"), "write", folder], check=True)
+        files = sorted(path for path in Path(folder).rglob("*") if path.is_file())
+        return {f"{at}/{path.relative_to(folder)}": path.read_bytes() for path in files}
+
+
 def main():
     if len(sys.argv) != 6:
         sys.exit(__doc__)
@@ -99,6 +108,7 @@ def main():
         f"fe2o3_sasl/{soname}": Path(library).read_bytes(),
         "fe2o3_sasl/py.typed": b"",
         "fe2o3_sasl_asyncio.py": MODULE.with_name("fe2o3_sasl_asyncio.py").read_bytes(),
+        **documents(f"fe2o3_sasl-{number}.data/data/share/doc/fe2o3_sasl"),
         f"{info}/LICENSE-APACHE": (ROOT / "LICENSE-APACHE").read_bytes(),
         f"{info}/LICENSE-MIT": (ROOT / "LICENSE-MIT").read_bytes(),
         f"{info}/NOTICES": Path(notices).read_bytes(),

@@ -138,28 +138,50 @@ static int complete(sasl_out_params_t *result, sasl_cbinding_disp_t channel, con
     return SASL_OK;
 }
 
-/* The kind of a channel with this registered name, or 0 if there is none. */
-static uint32_t kind_of(const char *name)
+/* A channel under its registered name: its kind, or 0 if it is not known, and its data. */
+struct channel {
+    const char *name;
+    uint32_t kind;
+    const char *data;
+    size_t len;
+};
+
+/* The application's channel. OpenLDAP gives every channel the name `ldap`, and puts the registered name and a colon before
+ * its data. */
+static struct channel channel_of(const sasl_channel_binding_t *binding)
 {
-    if (strcmp(name, "tls-unique") == 0)
-        return FE2O3_TLS_UNIQUE;
-    if (strcmp(name, "tls-server-end-point") == 0)
-        return FE2O3_TLS_SERVER_END_POINT;
-    return strcmp(name, "tls-exporter") == 0 ? FE2O3_TLS_EXPORTER : 0;
+    static const struct channel known[] = {{"tls-unique", FE2O3_TLS_UNIQUE, NULL, 0},
+        {"tls-server-end-point", FE2O3_TLS_SERVER_END_POINT, NULL, 0}, {"tls-exporter", FE2O3_TLS_EXPORTER, NULL, 0}};
+    struct channel found = {binding->name, 0, (const char *)binding->data, binding->len};
+    const char *name = found.name, *colon = NULL;
+    size_t len = strlen(name);
+    if (strcmp(name, "ldap") == 0 && found.len > 0)
+        colon = memchr(found.data, ':', found.len);
+    if (colon) {
+        name = found.data;
+        len = (size_t)(colon - name);
+        found.data = colon + 1;
+        found.len -= len + 1;
+    }
+    for (size_t i = 0; i < sizeof known / sizeof known[0]; i++)
+        if (strlen(known[i].name) == len && memcmp(known[i].name, name, len) == 0) {
+            found.name = known[i].name;
+            found.kind = known[i].kind;
+        }
+    return found;
 }
 
-/* The kind of the application's channel, or 0 after an error: it is not known, or its data are too long. */
-static uint32_t known_kind(const struct exchange *one, const sasl_utils_t *utils, const sasl_channel_binding_t *binding)
+/* Reads the application's channel. Its kind is not known, or its data are too long: SASL_BADPARAM. */
+static int read_channel(const struct exchange *one, const sasl_utils_t *utils, const sasl_channel_binding_t *binding,
+    struct channel *channel)
 {
     static const struct fe2o3_login login;
-    uint32_t kind = binding ? kind_of(binding->name) : 0;
-    if (!kind)
-        refused(one, utils, SASL_BADPARAM, "this kind of channel binding is not known");
-    else if (binding->len == 0 || binding->len > sizeof login.channel_data)
-        refused(one, utils, SASL_BADPARAM, "the data of the channel are empty or have more than 64 bytes");
-    else
-        return kind;
-    return 0;
+    *channel = binding ? channel_of(binding) : (struct channel){0};
+    if (!channel->kind)
+        return refused(one, utils, SASL_BADPARAM, "this kind of channel binding is not known");
+    if (channel->len == 0 || channel->len > sizeof login.channel_data)
+        return refused(one, utils, SASL_BADPARAM, "the data of the channel are empty or have more than 64 bytes");
+    return SASL_OK;
 }
 
 /* The client. Passes the names to libsasl2, which makes them canonical. A client that is to act for another never acts for
@@ -207,17 +229,19 @@ static int identify(struct exchange *one, sasl_client_params_t *params, sasl_int
 /* Puts into the login what the client says of its channel, as libsasl2 has decided it by the server's mechanisms. */
 static int say_channel(const struct exchange *one, const sasl_client_params_t *params, struct fe2o3_login *login)
 {
-    const sasl_channel_binding_t *binding = params->cbinding;
+    struct channel channel;
+    int code;
     if (params->cbindingdisp == SASL_CB_DISP_WANT)
         login->channel_use = FE2O3_CHANNEL_NOT_OFFERED;
     if (params->cbindingdisp != SASL_CB_DISP_USED)
         return SASL_OK;
+    code = read_channel(one, params->utils, params->cbinding, &channel);
+    if (code != SASL_OK)
+        return code;
     login->channel_use = FE2O3_CHANNEL_BOUND;
-    login->channel_kind = known_kind(one, params->utils, binding);
-    if (!login->channel_kind)
-        return SASL_BADPARAM;
-    login->channel_data_len = (uint32_t)binding->len;
-    memcpy(login->channel_data, binding->data, binding->len);
+    login->channel_kind = channel.kind;
+    login->channel_data_len = (uint32_t)channel.len;
+    memcpy(login->channel_data, channel.data, channel.len);
     return SASL_OK;
 }
 
@@ -373,7 +397,9 @@ static const char *why_header(const struct exchange *one, const sasl_server_para
         return "the client assumes that the server supports no channel binding";
     if (one->channel == SASL_CB_DISP_USED && !params->cbinding)
         return "the server has no channel to bind";
-    if (one->channel == SASL_CB_DISP_USED && !binds_kind(in, in_len, params->cbinding->name))
+    if (one->channel == SASL_CB_DISP_USED && binds_kind(in, in_len, "ldap"))
+        return "the client binds its channel under OpenLDAP's name for it";
+    if (one->channel == SASL_CB_DISP_USED && !binds_kind(in, in_len, channel_of(params->cbinding).name))
         return "the client binds another kind of channel";
     if (comma && in + in_len - comma >= 3 && memcmp(comma, ",a=", 3) == 0)
         return "the authorization identity is empty, has a zero byte or a wrong escape";
@@ -386,25 +412,26 @@ static const char *why_header(const struct exchange *one, const sasl_server_para
 static int accept_channel(const struct exchange *one, const sasl_server_params_t *params, struct fe2o3_scram_rules *rules)
 {
     const sasl_channel_binding_t *binding = params->cbinding;
-    uint32_t kind;
+    struct channel channel;
+    int code;
     rules->reject_misplaced = binding != NULL;
     if (one->channel == SASL_CB_DISP_WANT)
         rules->accept_cbind_flag_y = !binding;
     if (one->channel != SASL_CB_DISP_USED || !binding)
         return SASL_OK;
-    kind = known_kind(one, params->utils, binding);
-    if (!kind)
-        return SASL_BADPARAM;
+    code = read_channel(one, params->utils, binding, &channel);
+    if (code != SASL_OK)
+        return code;
     rules->channels.binds_channel = 1;
-    if (kind == FE2O3_TLS_UNIQUE) {
-        rules->channels.tls_unique_len = (uint32_t)binding->len;
-        memcpy(rules->channels.tls_unique, binding->data, binding->len);
-    } else if (kind == FE2O3_TLS_SERVER_END_POINT) {
-        rules->channels.tls_server_end_point_len = (uint32_t)binding->len;
-        memcpy(rules->channels.tls_server_end_point, binding->data, binding->len);
+    if (channel.kind == FE2O3_TLS_UNIQUE) {
+        rules->channels.tls_unique_len = (uint32_t)channel.len;
+        memcpy(rules->channels.tls_unique, channel.data, channel.len);
+    } else if (channel.kind == FE2O3_TLS_SERVER_END_POINT) {
+        rules->channels.tls_server_end_point_len = (uint32_t)channel.len;
+        memcpy(rules->channels.tls_server_end_point, channel.data, channel.len);
     } else {
-        rules->channels.tls_exporter_len = (uint32_t)binding->len;
-        memcpy(rules->channels.tls_exporter, binding->data, binding->len);
+        rules->channels.tls_exporter_len = (uint32_t)channel.len;
+        memcpy(rules->channels.tls_exporter, channel.data, channel.len);
     }
     return SASL_OK;
 }

@@ -15,10 +15,12 @@ import pty
 import shutil
 import signal
 import socket
+import ssl
 import subprocess
 import sys
 import tempfile
 import termios
+import threading
 import time
 from pathlib import Path
 
@@ -128,7 +130,17 @@ class Sides:
             raise OSError(f"saslpasswd2 has not made the user {name}")
 
 
-class Sample:
+class Programs:
+    """A client and a server. Which of them log in, and what else is tried."""
+
+    more = ()
+
+    @staticmethod
+    def logs_in(client, server):
+        return True
+
+
+class Sample(Programs):
     """The sample programs of Cyrus SASL, which print what they send and read what comes; this carries it over."""
 
     name = "sasl-sample-client and -server"
@@ -200,7 +212,7 @@ class Sample:
         return REFUSED if "authentication failure" in said or "user not found" in said else f"{codes}: {heard}"
 
 
-class Proton:
+class Proton(Programs):
     """Qpid Proton over AMQP 1.0: a server and a client of its module for Python, and a message."""
 
     name = "Qpid Proton (AMQP 1.0)"
@@ -255,21 +267,21 @@ class Proton:
         return LOGGED_IN if who == f"{mechanism} {name}" else f"the server says {who}"
 
 
-class OpenLdap:
+class OpenLdap(Programs):
     """slapd and ldapwhoami, over users of slapd's own, one of whom may act for the other."""
 
-    name = "OpenLDAP"
+    name, scheme, folder = "OpenLDAP", "ldap", "slapd"
     acting, not_acting = (OWN_NAME, OTHER_NAME), (NOT_ALLOWED,)
 
-    def __init__(self, sides):
+    def __init__(self, sides, more=""):
         self.sides, self.has_records = sides, False
-        self.file = sides.at / "slapd.conf"
-        data = sides.at / "slapd"
+        self.file = sides.at / f"{self.folder}.conf"
+        data = sides.at / self.folder
         data.mkdir()
         self.file.write_text(
             "include /etc/ldap/schema/core.schema\ninclude /etc/ldap/schema/cosine.schema\n"
             "modulepath /usr/lib/ldap\nmoduleload back_mdb\n"
-            f"pidfile {sides.at}/slapd.pid\nsasl-host localhost\nsasl-secprops none\n"
+            f"pidfile {data}/slapd.pid\nsasl-host localhost\nsasl-secprops none\n{more}"
             "authz-regexp uid=([^,]*),cn=[^,]*,cn=auth uid=$1,dc=example\nauthz-policy to\n"
             f'database mdb\nsuffix "dc=example"\ndirectory {data}\n'
         )
@@ -297,7 +309,7 @@ class OpenLdap:
     @contextlib.contextmanager
     def server(self, side, mechanism):
         port = free_port()
-        words = [program("slapd"), "-f", str(self.file), "-h", f"ldap://127.0.0.1:{port}", "-d", "0"]
+        words = [program("slapd"), "-f", str(self.file), "-h", f"{self.scheme}://127.0.0.1:{port}", "-d", "0"]
         with started(words, self.sides.env(side), stdout=subprocess.DEVNULL, stderr=subprocess.DEVNULL) as process:
             for _ in range(200):
                 with contextlib.suppress(OSError), socket.create_connection(("127.0.0.1", port), 1):
@@ -307,16 +319,81 @@ class OpenLdap:
                 time.sleep(0.05)
             yield port, mechanism
 
-    def login(self, side, server, name, password, identity=""):
+    def login(self, side, server, name, password, identity="", more=()):
         port, mechanism = server
-        words = [program("ldapwhoami"), "-H", f"ldap://127.0.0.1:{port}", "-Q", "-Y", mechanism, "-U", name]
+        words = [program("ldapwhoami"), "-H", f"{self.scheme}://127.0.0.1:{port}", "-Q", "-Y", mechanism, "-U", name]
         words += ["-X", f"u:{identity}"] if identity else []
-        done = run([*words, "-w", password], self.sides.env(side))
+        done = run([*words, *more, "-w", password], self.sides.env(side))
         if done.returncode == 0 and done.stdout.lower() == f"dn:{self.entry(identity or name)}\n".lower():
             return LOGGED_IN
         # (LDAP_INVALID_CREDENTIALS, and LDAP_OTHER, which slapd answers to a name that it does not have; for an identity
         # that is not allowed LDAP_INSUFFICIENT_ACCESS)
         return REFUSED if done.returncode in ((50,) if identity else (49, 80)) else told(done)
+
+
+class BoundOpenLdap(OpenLdap):
+    """slapd and ldapwhoami over TLS, which bind the certificate. Only plugins of one kind log in: Cyrus SASL's own names
+    the channel as OpenLDAP does, ours as it is registered."""
+
+    name, scheme, folder = "OpenLDAP, sasl-cbinding", "ldaps", "slapd-tls"
+    acting, not_acting = (), ()
+    # (somebody who hands everything on is let in by those alone who do not bind)
+    more = ((("user", "pencil", "relayed"), REFUSED), (("user", "pencil", "relayed, unbound"), LOGGED_IN))
+
+    def __init__(self, sides):
+        self.certificates = [self.certificate(sides.at / name) for name in ("own", "other")]
+        shown, key = self.certificates[0]
+        lines = f"sasl-cbinding tls-endpoint\nTLSCertificateFile {shown}\nTLSCertificateKeyFile {key}\n"
+        super().__init__(sides, lines)
+
+    @staticmethod
+    def missing(sides):
+        # (with the sanitizer loaded before it, it hangs in what it loads for TLS as it exits, also without a plugin)
+        ends = [] if sides.kind == "plain" else ["ldapwhoami that ends under a sanitizer"]
+        return OpenLdap.missing(sides) + ([] if program("openssl") else ["openssl"]) + ends
+
+    @staticmethod
+    def certificate(at):
+        made = f"{at}.pem", f"{at}-key.pem"
+        words = "openssl req -x509 -nodes -days 2 -subj /CN=localhost -newkey rsa:2048 -out".split()
+        subprocess.run([*words, made[0], "-keyout", made[1]], stderr=subprocess.DEVNULL, check=True)
+        return made
+
+    @staticmethod
+    def logs_in(client, server):
+        return client == server
+
+    def login(self, side, server, name, password, way=""):
+        port, mechanism = server
+        more = ["-o", "TLS_REQCERT=never"]
+        if "unbound" not in way:
+            mechanism, more = f"{mechanism}-PLUS", [*more, "-o", "SASL_CBINDING=tls-endpoint"]
+        with relayed(port, self.certificates[1]) if way else contextlib.nullcontext(port) as at:
+            return super().login(side, (at, mechanism), name, password, more=more)
+
+
+@contextlib.contextmanager
+def relayed(port, certificate):
+    """The port of somebody on the way with another certificate, who hands on what the two sides of one connection send."""
+    shown, asking = ssl.SSLContext(ssl.PROTOCOL_TLS_SERVER), ssl.SSLContext(ssl.PROTOCOL_TLS_CLIENT)
+    shown.load_cert_chain(*certificate)
+    asking.check_hostname, asking.verify_mode = False, ssl.CERT_NONE
+
+    def carry(source, sink):
+        with contextlib.suppress(OSError), source, sink:
+            while data := source.recv(4096):
+                sink.sendall(data)
+
+    def relay(listener):
+        with contextlib.suppress(OSError):
+            client = shown.wrap_socket(listener.accept()[0], server_side=True)
+            server = asking.wrap_socket(socket.create_connection(("127.0.0.1", port)))
+            threading.Thread(target=carry, args=(client, server), daemon=True).start()
+            carry(server, client)
+
+    with socket.create_server(("127.0.0.1", 0)) as listener:
+        threading.Thread(target=relay, args=(listener,), daemon=True).start()
+        yield listener.getsockname()[1]
 
 
 def cell(one, client, server, mechanism):
@@ -327,8 +404,9 @@ def cell(one, client, server, mechanism):
     if one.has_records:
         users[recorded(mechanism)] = RECORDED
         strangers.append((recorded(mechanism), "pencil"))
-    tried = [(user, LOGGED_IN) for user in users.items() for _ in range(TIMES)]
-    tried += [(user, REFUSED) for user in strangers]
+    due = LOGGED_IN if one.logs_in(client, server) else REFUSED
+    tried = [(user, due) for user in users.items() for _ in range(TIMES)]
+    tried += [(user, REFUSED) for user in strangers] + list(one.more)
     for acting, due, times in ((one.acting, LOGGED_IN, TIMES), (one.not_acting, REFUSED, 1)):
         tried += [((name, USERS[name], identity), due) for name, identity in acting for _ in range(times)]
     with one.server(server, mechanism) as serving:
@@ -342,7 +420,7 @@ def cell(one, client, server, mechanism):
 def table(sides):
     """Prints the table, and answers how many lines are not as they should be."""
     differ = 0
-    for kind in (Sample, Proton, OpenLdap):
+    for kind in (Sample, Proton, OpenLdap, BoundOpenLdap):
         if missing := kind.missing(sides):
             print(f"{kind.name}: not tried, since there is no {', '.join(missing)}")
             continue

@@ -253,18 +253,28 @@ static int start_client(sasl_conn_t *conn, const char **out, unsigned *len, cons
     return sasl_client_start(conn, names, &prompts, out, len, chosen);
 }
 
+/* A channel of this kind, under the kind's name, or under OpenLDAP's with the kind before the data. */
+static sasl_channel_binding_t channel(char room[96], const char *kind, const char *data, size_t len, unsigned by_ldap)
+{
+    size_t before = by_ldap ? (size_t)snprintf(room, 96, "%s:", kind) : 0;
+    memcpy(room + before, data, len);
+    return (sasl_channel_binding_t){.name = by_ldap ? "ldap" : kind, .len = before + len, .data = (unsigned char *)room};
+}
+
 static void demand(sasl_conn_t *client, sasl_conn_t *server)
 {
-    static const unsigned char data[65] = "0123", other[] = "0124";
+    static char of_client[96], of_server[96];
     static sasl_channel_binding_t binding, must;
+    static const char data[65] = "0123";
     static sasl_http_request_t request = {.method = "GET", .uri = "/", .entity = (const unsigned char *)"", .elen = 0,
         .non_persist = 0};
     sasl_security_properties_t properties = {0, 0, 0, 0, NULL, NULL};
-    binding = (sasl_channel_binding_t){.critical = (now->flags & MUST_BIND) != 0,
-        .name = now->flags & UNKNOWN_KIND ? "ldap" : now->flags & OTHER_KIND ? "tls-exporter" : "tls-unique",
-        .len = now->flags & LONG_DATA ? sizeof data : 4, .data = now->flags & OTHER_DATA ? other : data};
-    must = (sasl_channel_binding_t){.name = "tls-unique", .critical = (now->flags & SERVER_BINDS) != 0, .len = 4,
-        .data = data};
+    const char *kind = now->flags & UNKNOWN_KIND ? "ldap" : now->flags & OTHER_KIND ? "tls-exporter" : "tls-unique";
+    binding = channel(of_client, kind, now->flags & OTHER_DATA ? "0124" : data,
+        now->flags & LONG_DATA ? sizeof data : 4, now->flags & LDAP_CLIENT);
+    must = channel(of_server, "tls-unique", data, 4, now->flags & LDAP_SERVER);
+    binding.critical = (now->flags & MUST_BIND) != 0;
+    must.critical = (now->flags & SERVER_BINDS) != 0;
     if (now->flags & (MAY_BIND | MUST_BIND))
         sasl_setprop(client, SASL_CHANNEL_BINDING, &binding);
     if (now->flags & (SERVER_BINDS | SERVER_HAS))

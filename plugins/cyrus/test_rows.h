@@ -26,7 +26,8 @@ enum {
     ALLOWS = 4194304, FORBIDS = 8388608, /* the server's policy lets the user act for the identity, or refuses it */
     ZERO = 16777216, /* what answers the prompt for the identity has a zero byte */
     SERVER_HAS = 33554432, /* the server has a channel, and does not ask for it */
-    MOVES = 67108864 /* somebody on the way moves text, so that the server reads `n,,` of a client that says `y,,` */
+    MOVES = 67108864, /* somebody on the way moves text, so that the server reads `n,,` of a client that says `y,,` */
+    LDAP_CLIENT = 134217728, LDAP_SERVER = 268435456 /* that side has its channel under OpenLDAP's name, `ldap` */
 };
 
 /* No code of libsasl2: the login is not tried where that side is so. */
@@ -207,6 +208,27 @@ static const struct login logins[] = {
         .flags = MUST_BIND | SERVER_BINDS | PLUS | UNKNOWN_KIND},
     {.what = "65 bytes of a channel", .name = "user", .password = "pencil", .side = CLIENT, .ours = SASL_BADPARAM,
         .theirs = SKIP, .says = "more than 64 bytes", .flags = MUST_BIND | SERVER_BINDS | PLUS | LONG_DATA},
+    {.what = "OpenLDAP's channel", .name = "user", .password = "pencil", .side = SERVER, .ours = SASL_OK,
+        .theirs = SASL_BADPROT, .flags = MUST_BIND | SERVER_BINDS | PLUS | LDAP_CLIENT | LDAP_SERVER | OUR_CLIENT},
+    {.what = "OpenLDAP's channel", .name = "user", .password = "pencil", .side = SERVER, .ours = SASL_BADPROT,
+        .theirs = SASL_OK, .says = "under OpenLDAP's name",
+        .flags = MUST_BIND | SERVER_BINDS | PLUS | LDAP_CLIENT | LDAP_SERVER | THEIR_CLIENT},
+    {.what = "OpenLDAP's channel at the client", .name = "user", .password = "pencil",
+        .flags = MUST_BIND | SERVER_BINDS | PLUS | LDAP_CLIENT | OUR_CLIENT},
+    {.what = "OpenLDAP's channel at the server", .name = "user", .password = "pencil",
+        .flags = MUST_BIND | SERVER_BINDS | PLUS | LDAP_SERVER | OUR_SERVER},
+    {.what = "another one of OpenLDAP's channels", .name = "user", .password = "pencil", .side = SERVER,
+        .ours = SASL_BADPROT, .theirs = SASL_BADPROT, .says = "Invalid channel binding",
+        .flags = MUST_BIND | SERVER_BINDS | PLUS | LDAP_CLIENT | LDAP_SERVER | OTHER_DATA | OUR_CLIENT},
+    {.what = "another kind of OpenLDAP's channels", .name = "user", .password = "pencil", .side = SERVER,
+        .ours = SASL_BADPROT, .theirs = SASL_BADPROT, .says = "another kind of channel",
+        .flags = MUST_BIND | SERVER_BINDS | PLUS | LDAP_CLIENT | LDAP_SERVER | OTHER_KIND | OUR_CLIENT},
+    {.what = "an unknown kind of OpenLDAP's channels", .name = "user", .password = "pencil", .side = CLIENT,
+        .ours = SASL_BADPARAM, .theirs = SKIP, .says = "is not known",
+        .flags = MUST_BIND | SERVER_BINDS | PLUS | LDAP_CLIENT | UNKNOWN_KIND},
+    {.what = "65 bytes of OpenLDAP's channel", .name = "user", .password = "pencil", .side = CLIENT,
+        .ours = SASL_BADPARAM, .theirs = SKIP, .says = "more than 64 bytes",
+        .flags = MUST_BIND | SERVER_BINDS | PLUS | LDAP_CLIENT | LONG_DATA},
     {.what = "-PLUS removed from what the server offers", .name = "user", .password = "pencil", .side = SERVER,
         .ours = SASL_BADPROT, .theirs = SASL_BADAUTH, .says = "the client assumes",
         .flags = MAY_BIND | SERVER_BINDS | TWO_NAMES},
