@@ -31,3 +31,4 @@ pub mod FieldLemmas
 pub mod SaltedLemmas
 pub mod PlainLemmas
 pub mod ExternalLemmas
+pub mod CallStageLemmas

@@ -1,0 +1,122 @@
+-- Several calls over one struct of a server, which are one connection of the library's server (AMQP 1.0, part 5, section
+-- 5.3.2). Each statement is the contract of a clause of `server_laws::server_calls`.
+use Rattle.std.specs.Prelude.{◌≡◌, ◌⊎◌, ◌↔◌, ◌++◌, ℕ, Bool, true, false, Option, None, List, [], ◌∷◌, take, drop, replicate}
+use Rattle.fe2o3_scram.specs.ActingRights.{may_act}
+use Rattle.fe2o3_scram.specs.Credentials.{record_at}
+use Rattle.fe2o3_scram.specs.Mixed.{MultiRecords, provider_for}
+use Rattle.fe2o3_scram.specs.Passwords.{PasswordText}
+use Rattle.fe2o3_scram.specs.declared.hmac.ScramVersion.{ScramVersion}
+use Rattle.fe2o3_sasl_core.specs.PlainServer.{MeetsUser}
+use Rattle.fe2o3_sasl_core.specs.SavedServers.{kept_stage}
+use Rattle.fe2o3_sasl_core.specs.Servers.{NotStarted, ServerAt, ServerSettings, is_offered_by, provider_by, sasl_machine, sasl_names}
+use Rattle.fe2o3_sasl_core.specs.declared.server.ways.Way.TheVariants as ways
+use Rattle.fe2o3_sasl_negotiation.specs.Connections.{fresh}
+use Rattle.fe2o3_sasl_negotiation.specs.Laws.{Call, Calls}
+use Rattle.fe2o3_sasl_negotiation.specs.Negotiations.{Side}
+use Rattle.sasl_c.specs.declared.sasl_server.SaslServerConfig.{SaslServerConfig as Config}
+use Rattle.sasl_c.specs.declared.sasl_server.SaslServer.{SaslServer as Struct}
+use Rattle.sasl_c.specs.Acting.{rights_for}
+use Rattle.sasl_c.specs.Connection.{Keeps, accepts_extended}
+use Rattle.sasl_c.specs.Rejections.{Logged}
+use Rattle.sasl_c.specs.Rules.{channels_of}
+use Rattle.sasl_c.specs.SaslServer.{AreSettings, HasRecords, IsServer, Named, Received, ServerTakes, ShowsProgress, version_of_first}
+use Rattle.sasl_c.specs.Server.{fresh_server_struct}
+
+-- ---- the calls
+
+-- a struct of zeros, whatever it says of extended headers
+abbrev pub IsZero : Struct → Type 0
+IsZero server = (server.connection ≡ record {
+  progress = 0;
+  why = 0;
+  expected = 0;
+  held_len = 0;
+  held = replicate 512 0;
+  extended_headers = server.connection.extended_headers;
+}) × (server.scram ≡ fresh_server_struct)
+
+-- a call over a struct and a stream: what it is passed, of the bytes that are left as many as `handed`, and whether it
+-- returned FE2O3_OK
+pub record StructCall : Type 0 where
+  pub config : Config
+  pub handed : ℕ
+  pub nonce : List ℕ
+  pub is_answered : Bool
+
+-- the calls that returned FE2O3_OK, as calls of a side
+abbrev pub where_answered : Bool → StructCall → List Call → List Call
+where_answered true call calls = record { handed = call.handed; nonce = call.nonce } ∷ calls
+where_answered false call calls = calls
+
+abbrev pub answered : List StructCall → List Call
+answered [] = []
+answered (call ∷ calls) = where_answered call.is_answered call (answered calls)
+
+-- calls over one struct and one stream, where each that returned FE2O3_OK was passed what `MayPass` allows for the struct and
+-- the bytes: what they send, the struct after them, and the bytes that are left. A call that returned an error has changed,
+-- taken and sent nothing, whatever it was passed
+abbrev pub CallsOver : (Struct → List ℕ → Config → Type 0) → Struct → List StructCall → List ℕ → List ℕ → Struct → List ℕ
+    → Type 0
+CallsOver MayPass before [] stream sent last rest = (sent ≡ []) × (last ≡ before) × (rest ≡ stream)
+CallsOver MayPass before (call ∷ calls) stream sent last rest =
+    ((call.is_answered ≡ true) × ((after : Struct) × (taken : ℕ) × (first later : List ℕ)
+    × MayPass before (take call.handed stream) call.config
+    × Received call.config (take call.handed stream) call.nonce before after taken first
+    × CallsOver MayPass after calls (drop taken stream) later last rest × (sent ≡ first ++ later)))
+    ⊎ ((call.is_answered ≡ false) × CallsOver MayPass before calls stream sent last rest)
+
+-- ---- one connection
+
+-- the library's server with these settings, before any init
+abbrev pub server_with : ServerSettings → ServerAt
+server_with settings = record { settings = settings; stage = NotStarted; last = None }
+
+-- the names that a server offers
+abbrev pub offer_of : ServerAt → List (List ℕ)
+offer_of server = sasl_names server.settings
+
+-- the struct is that of this side: it has its progress, with the reason if it failed, what is expected, and the bytes that are
+-- held; and it shows how far the login has come, with the user who has logged in and the identity that it acts for
+pub record StandsFor (accepts : Bool) (server : Struct) (side : Side ServerAt) : Type 0 where
+  pub extended : accepts_extended server.connection ≡ accepts
+  pub keeps : Keeps server.connection side.progress side.expected side.held
+  pub limit : side.limit ≡ 512
+  pub login : ShowsProgress server.scram side.progress (kept_stage side.state.stage)
+
+-- the calls that returned FE2O3_OK are a connection of the library's server with these settings, from its beginning: each takes
+-- the same bytes and sends the same, and the struct after them is that of its side
+abbrev pub AreOneConnection : ServerSettings → Struct → List StructCall → List ℕ → List ℕ → Struct → List ℕ → Type 0
+AreOneConnection settings before calls stream sent last rest = let accepts = accepts_extended before.connection in
+    (side : Side ServerAt)
+    × Calls (ServerTakes accepts offer_of sasl_machine) (fresh 512 (server_with settings)) (answered calls) stream sent side
+    rest × StandsFor accepts last side
+
+-- ---- what a caller passes
+
+-- two configurations have the same values, but maybe for those of a user: its name, records and identities
+pub record OneConfiguration (base config : Config) : Type 0 where
+  pub mechanisms : config.mechanisms ≡ base.mechanisms
+  pub iterations : config.iterations ≡ base.iterations
+  pub external : config.external_authcid.now ≡ base.external_authcid.now
+  pub channels : channels_of config.channels ≡ channels_of base.channels
+  pub authzid : config.accept_authzid ≡ base.accept_authzid
+
+-- and those of a user too
+pub record SameUser (base config : Config) : Type 0 where
+  pub username : config.username.now ≡ base.username.now
+  pub records : config.records.now ≡ base.records.now
+  pub identities : config.identities.now ≡ base.identities.now
+
+-- ---- the laws
+
+-- a struct of zeros is that of a side of the library's server that has received nothing
+abbrev pub ZerosAreFresh : Type 0
+ZerosAreFresh = (config : Config) (settings : ServerSettings) (server : Struct) → AreSettings config settings
+    → IsZero server → IsServer config server (fresh 512 (record { server = server_with settings; rejection = None }))
+
+-- calls over one struct of zeros that are all passed one user and one configuration are one connection
+abbrev pub CallsWithOneUserConnect : Type 0
+CallsWithOneUserConnect = (config : Config) (settings : ServerSettings) (before last : Struct) (calls : List StructCall)
+    (stream sent rest : List ℕ) → AreSettings config settings → IsZero before
+    → CallsOver (λ server bytes passed. OneConfiguration config passed × SameUser config passed) before calls stream sent last
+    rest → AreOneConnection settings before calls stream sent last rest
