@@ -18,10 +18,12 @@ use Rattle.fe2o3_scram.specs.declared.scram_messages.error.ServerScramErrorKind.
 use Rattle.fe2o3_sasl_core.specs.LoginAttempts.{Attempt, ClaimIn, LateClaim, RecordsFrame, RecordsResponse, with_late}
 use Rattle.fe2o3_sasl_core.specs.MockChoices.{MockChoice}
 use Rattle.fe2o3_sasl_core.specs.PlainServer.{PlainParts}
+use Rattle.fe2o3_sasl_core.specs.SavedServers.{IsRestored}
 use Rattle.fe2o3_sasl_core.specs.Servers.{AsksForResponse, ClosesExchange, ConfirmsSignature, ExchangeOpen, InitAnswers, InitWhere, MessageLetsIn, NotStarted, OpensScram, ResponseAnswers, ResponseAsked, SendsSignature, ServerAt, ServerLogin, ServerSettings, ServerStage, SignatureShown, StageAnswers, StageRejects, UserAuthenticated, asked_way, exchange_server, is_response_asked, logged_in_at, provider_by, rules_by, sasl_machine}
 use Rattle.fe2o3_sasl_core.specs.declared.server.ways.Way.{Way}
 use Rattle.fe2o3_sasl_core.specs.declared.server.ways.Way.TheVariants as ways
 use Rattle.fe2o3_sasl_core.proofs.lemmas.machines.ClaimLemmas.{some_claim}
+use Rattle.fe2o3_sasl_core.proofs.lemmas.machines.SavedServerLemmas.{stage_goes}
 
 -- ---- the last claim
 
@@ -363,7 +365,7 @@ module _ (settings : ServerSettings) (records : MultiRecords) (rights : Rights) 
   abbrev pub IsOutcome : SaslFrame → Type 0
   IsOutcome reply = (code : SaslCode) × (more : Option (List ℕ)) × (reply ≡ frames.Outcome code more)
 
-  abbrev Quiet : SaslFrame → ServerStage → Type 0
+  abbrev pub Quiet : SaslFrame → ServerStage → Type 0
   Quiet reply next = IsOutcome reply ⊎ IsOut next
 
   out_so : (stage next : ServerStage) → next ≡ stage → IsOut stage → IsOut next
@@ -441,22 +443,30 @@ module _ (settings : ServerSettings) (records : MultiRecords) (rights : Rights) 
 
   -- ---- the machine
 
+  -- a server of the connection, and one that a struct of it restores
+  pub record Follows (server : ServerAt) (other : ServerAt) : Type 0 where
+    pub own : server.settings ≡ settings
+    pub looks : Looks server.stage other.stage
+    pub restored : IsRestored settings server.stage
+
   pub machine_answered : (server : ServerAt) (other next : ServerAt) (nonce : List ℕ) (frame reply : SaslFrame)
-      → server.settings ≡ settings → other.settings ≡ passed → Looks server.stage other.stage
+      → Follows server other → other.settings ≡ passed
       → FrameAlike server.stage other.stage frame → sasl_machine other nonce frame reply next
-      → (after : ServerAt) × sasl_machine server nonce frame reply after × (after.settings ≡ settings)
-      × Looks after.stage next.stage × Quiet reply after.stage
-  machine_answered server other next nonce frame reply own others looks alike (kept, answers, records) =
-      let step = stage_answered server.stage other.stage next.stage nonce frame reply looks alike
+      → (after : ServerAt) × sasl_machine server nonce frame reply after × Follows after next × Quiet reply after.stage
+  machine_answered server other next nonce frame reply follows others alike (kept, answers, records) =
+      let step = stage_answered server.stage other.stage next.stage nonce frame reply follows.looks alike
           (subst (λ (s : ServerSettings). StageAnswers s other.stage nonce frame reply next.stage) others answers) in
       let last = some_record frame server.last in (
         record { settings = server.settings; stage = step.0; last = last.0 },
         (
           refl,
-          subst (λ (s : ServerSettings). StageAnswers s server.stage nonce frame reply step.0) (sym own) step.1,
+          subst (λ (s : ServerSettings). StageAnswers s server.stage nonce frame reply step.0) (sym follows.own) step.1,
           last.1,
         ),
-        own,
-        step.2,
+        record {
+          own = follows.own;
+          looks = step.2;
+          restored = stage_goes settings server.stage step.0 nonce frame reply follows.restored step.1;
+        },
         stage_quiet server.stage step.0 nonce frame reply step.1,
       )

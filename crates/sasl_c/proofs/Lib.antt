@@ -32,3 +32,6 @@ pub mod SaltedLemmas
 pub mod PlainLemmas
 pub mod ExternalLemmas
 pub mod CallStageLemmas
+pub mod CallSideLemmas
+pub mod CallShownLemmas
+pub mod CallSettingLemmas

@@ -1,4 +1,6 @@
-use Rattle.sasl_c.proofs.CallStageLemmas.{machine_answered}
+use Rattle.sasl_c.proofs.CallSideLemmas.{call_answered}
+use Rattle.sasl_c.proofs.CallShownLemmas.{restored_looks}
+use Rattle.sasl_c.proofs.CallSettingLemmas.{of_base}
 use Rattle.sasl_c.proofs.server_laws.server_calls.Goals as goal
 
 pub returns-clause-fresh : goal.returns-clause-fresh
