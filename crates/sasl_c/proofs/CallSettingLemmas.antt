@@ -2,7 +2,7 @@
 use Rattle.std.proofs.Common.{arith, refl, sym, ap, subst, inl, inr, ◌∙◌, ◌≡◌, ◌≢◌, ◌⊎◌, ◌+◌, ◌*◌, ◌∷◌, ℕ, List, []}
 use Rattle.std.specs.Prelude.{Bool, true, false, Option, Some, None}
 use Rattle.fe2o3_scram.specs.ActingRights.{Rights}
-use Rattle.fe2o3_scram.specs.Credentials.{VersionedRecord}
+use Rattle.fe2o3_scram.specs.Credentials.{VersionedRecord, versioned}
 use Rattle.fe2o3_scram.specs.Mixed.{MultiRecords}
 use Rattle.fe2o3_scram.specs.declared.hmac.ScramVersion.{ScramVersion}
 use Rattle.fe2o3_scram.specs.declared.channel_binding.ChannelBindings.{ChannelBindings}
@@ -168,11 +168,7 @@ versioned_so kept shown other is too =
     by hash (is.2 ∙ (ap (λ (v : ScramVersion). stored_of v kept) hash ∙ sym too.2))
   where
     by : shown.version ≡ other.version → shown.stored ≡ other.stored → shown ≡ other
-    by hash same = ap (λ (v : ScramVersion). made v shown.stored) hash
-        ∙ ap (λ s. made other.version s) same
-      where
-        abbrev made : ScramVersion → _ → VersionedRecord
-        made version stored = record { version = version; stored = stored }
+    by hash same = ap (λ (v : ScramVersion). versioned v shown.stored) hash ∙ ap (versioned other.version) same
 
 pub one_records : (user : List ℕ) (kepts : List Kept) (records others : MultiRecords) → ShowRecords user kepts records
     → ShowRecords user kepts others → records ≡ others

@@ -57,6 +57,16 @@ goes_on (Failed faults.NotImplemented) turn answer same goes =
 goes_on (Failed faults.TooLarge) turn answer same goes =
     let ends : HasFailed _ ≡ InProgress = sym (ap (λ (a : SideOutput). a.progress) same) ∙ goes in absurd (cc)
 
+-- a side with another server
+abbrev pub at : Side Logged → ServerAt → Side ServerAt
+at side server = record {
+  progress = side.progress;
+  expected = side.expected;
+  limit = side.limit;
+  held = side.held;
+  state = server;
+}
+
 module _ (settings : ServerSettings) (records : MultiRecords) (rights : Rights) (mock : Option MockChoice)
     (plain : ScramVersion) where
   abbrev passed : ServerSettings
@@ -199,16 +209,6 @@ module _ (settings : ServerSettings) (records : MultiRecords) (rights : Rights) 
       unit_answered expected server other next nonce (unit_read true expected unit) answer follows others out alike is
 
   -- ---- a call
-
-  -- a side with another server
-  abbrev pub at : Side Logged → ServerAt → Side ServerAt
-  at side server = record {
-    progress = side.progress;
-    expected = side.expected;
-    limit = side.limit;
-    held = side.held;
-    state = server;
-  }
 
   -- the frame that these bytes complete is answered alike
   abbrev pub CallAlike : Bool → Side Logged → ServerAt → List ℕ → Type 0

@@ -35,3 +35,4 @@ pub mod CallStageLemmas
 pub mod CallSideLemmas
 pub mod CallShownLemmas
 pub mod CallSettingLemmas
+pub mod CallLemmas
