@@ -90,7 +90,7 @@ pub record IsOfSide (accepts : Bool) (settings : ServerSettings) (server : Struc
       × (IsOut settings settings.records settings.rights settings.mock settings.plain_version side.state.stage)
       × IsRestored settings side.state.stage
 
-shows_going : (scram : ScramStruct) (stands : Progress) (stage : KeptStage) → stands ≡ InProgress
+pub shows_going : (scram : ScramStruct) (stands : Progress) (stage : KeptStage) → stands ≡ InProgress
     → ShowsProgress scram stands stage → ShowsStage scram stage
 shows_going scram stands stage same shows = subst (λ (s : Progress). ShowsProgress scram s stage) same shows
 
@@ -156,7 +156,7 @@ module _ (accepts : Bool) (settings : ServerSettings) where
   }
 
   -- the side of a call is the side of the connection with another server
-  same_side : (config : Config) (before : Struct) (side : Side ServerAt) (other : Side Logged)
+  pub same_side : (config : Config) (before : Struct) (side : Side ServerAt) (other : Side Logged)
       → IsOfSide accepts settings before side → IsServer config before other → other.progress ≡ InProgress
       → side ≡ at other side.state
   unfolding IsServer ShowsSide
@@ -169,19 +169,19 @@ module _ (accepts : Bool) (settings : ServerSettings) where
       (own.held ∙ sym keeps.held)
       ∙ sym (at_so other side.state)
 
-  restores_of : (config : Config) (before : Struct) (other : Side Logged) → IsServer config before other
+  pub restores_of : (config : Config) (before : Struct) (other : Side Logged) → IsServer config before other
       → other.progress ≡ InProgress → RestoresStage before.scram other.state.server
   unfolding IsServer ShowsSide
   restores_of config before other is wants =
       subst (λ (s : Progress). ShowsState before.scram s other.state) wants is.0.1
 
-  settings_of : (config : Config) (before : Struct) (other : Side Logged) → IsServer config before other
+  pub settings_of : (config : Config) (before : Struct) (other : Side Logged) → IsServer config before other
       → other.progress ≡ InProgress → AreSettings config other.state.server.settings
   unfolding IsServer
   settings_of config before other is wants =
       subst (λ (s : Progress). ServerIsReached config s other.state) wants is.2
 
-  goes_on : (before : Struct) (side : Side ServerAt) (other : Side Logged) → side ≡ at other side.state
+  pub goes_on : (before : Struct) (side : Side ServerAt) (other : Side Logged) → side ≡ at other side.state
       → other.progress ≡ InProgress → side.progress ≡ InProgress
   goes_on before side other same wants = ap (λ (s : Side ServerAt). s.progress) same ∙ wants
 
@@ -291,7 +291,7 @@ nothing_restored : (settings : ServerSettings) → IsRestored settings NotStarte
 unfolding IsRestored
 nothing_restored settings = refl
 
-is_first : (settings : ServerSettings) (server : Struct) → IsZero server
+pub is_first : (settings : ServerSettings) (server : Struct) → IsZero server
     → IsOfSide (accepts_extended server.connection) settings server (fresh 512 (server_with settings))
 is_first settings server is = record {
   stands = record {
@@ -319,7 +319,7 @@ stored_where version plus binds exchange now true same =
 stored_where version plus binds exchange now false same = absurd (cc)
 
 -- the record of an exchange that is restored
-stored_now : (settings : ServerSettings) (version : ScramVersion) (plus : Bool) (exchange : OpenExchange)
+pub stored_now : (settings : ServerSettings) (version : ScramVersion) (plus : Bool) (exchange : OpenExchange)
     → IsRestored settings (ExchangeOpen version plus exchange)
     → exchange.stored ≡ record_now settings version (is_required exchange.challenge.header.flag) exchange.challenge.user
 unfolding IsRestored
@@ -377,7 +377,7 @@ module _ (settings : ServerSettings) where
         settings.mock,
         settings.plain_version,
         same,
-        λ looks frame whole spells. one_frame side.state.stage other.state.server.stage frame looks has.2 again,
+        λ looks turn frame due whole spells in_turn. one_frame side.state.stage other.state.server.stage frame looks has.2 again,
       )
 
 pub calls_with_one_user : CallsWithOneUserConnect

@@ -14,6 +14,7 @@ use Rattle.fe2o3_sasl_core.specs.Events.{Given, ServerSays, Challenged, Conclude
 use Rattle.fe2o3_sasl_core.specs.MockChoices.{MockChoice}
 use Rattle.fe2o3_sasl_core.specs.Runs.{AcceptorAnswers, AcceptorGives, SendsCanonical}
 use Rattle.fe2o3_sasl_core.specs.Servers.{ServerAt, ServerSettings, sasl_machine, sasl_names}
+use Rattle.fe2o3_sasl_core.proofs.lemmas.frames.SpellingLemmas.{one_spelled_frame}
 use Rattle.fe2o3_sasl_negotiation.specs.Framing.{unit_read, unit_size, IsWhole}
 use Rattle.fe2o3_sasl_negotiation.specs.Negotiations.{IsInTurn, Reading, ReceivesAt, Sends, Side, SideOutput}
 use Rattle.fe2o3_sasl_negotiation.specs.ServerNegotiation.{ServerOpens, ServerOutputs, ServerSideAnswers}
@@ -164,7 +165,8 @@ module _ (settings : ServerSettings) (records : MultiRecords) (rights : Rights) 
 
   unit_answered : (expected : Expected) (server : ServerAt) (other next : Logged) (nonce unit : List ℕ)
       (answer : SideOutput) → Follow server other → other.server.settings ≡ passed → Out server
-      → ((frame : SaslFrame) → SpellsBody (drop 4 unit) (Ok frame) → Alike server other frame)
+      → ((turn : FrameKind) (frame : SaslFrame) → expected ≡ Frame turn → SpellsBody (drop 4 unit) (Ok frame)
+      → IsInTurn turn frame → Alike server other frame)
       → ServerSideAnswers server_names server_machine expected other nonce unit answer next
       → (after : ServerAt) × ServerSideAnswers offer_of sasl_machine expected server nonce unit answer after
       × Then after next answer.progress
@@ -187,7 +189,10 @@ module _ (settings : ServerSettings) (records : MultiRecords) (rights : Rights) 
   unit_answered (Frame turn) server other next nonce unit answer follows others out alike
       (Ok frame, spells, inr (in_turn, (says, (spelled, is, gives), outputs))) =
       let step = gives_answered server other next (record { body = drop 4 unit; nonce = nonce }) spelled says follows others
-          out (λ sent same. alike sent (subst (λ (r : Result SaslFrame Error). SpellsBody (drop 4 unit) r) same is)) gives in (
+          out (λ sent same.
+          let read = subst (λ (r : Result SaslFrame Error). SpellsBody (drop 4 unit) r) same is in
+          let one = one_spelled_frame (drop 4 unit) frame sent spells read in
+          alike turn sent refl read (subst (λ (f : SaslFrame). IsInTurn turn f) one in_turn)) gives in (
         step.0,
         (Ok frame, spells, inr (in_turn, (says, (spelled, is, step.1), outputs))),
         (
@@ -198,7 +203,8 @@ module _ (settings : ServerSettings) (records : MultiRecords) (rights : Rights) 
 
   read_answered : (accepts : Bool) (expected : Expected) (server : ServerAt) (other next : Logged) (nonce unit : List ℕ)
       (answer : SideOutput) → Follow server other → other.server.settings ≡ passed → Out server
-      → ((frame : SaslFrame) → SpellsBody (drop 4 (unit_read accepts expected unit)) (Ok frame) → Alike server other frame)
+      → ((turn : FrameKind) (frame : SaslFrame) → expected ≡ Frame turn
+      → SpellsBody (drop 4 (unit_read accepts expected unit)) (Ok frame) → IsInTurn turn frame → Alike server other frame)
       → Reading accepts (ServerSideAnswers server_names server_machine) expected other nonce unit answer next
       → (after : ServerAt)
       × Reading accepts (ServerSideAnswers offer_of sasl_machine) expected server nonce unit answer after
@@ -213,9 +219,9 @@ module _ (settings : ServerSettings) (records : MultiRecords) (rights : Rights) 
   -- the frame that these bytes complete is answered alike
   abbrev pub CallAlike : Bool → Side Logged → ServerAt → List ℕ → Type 0
   CallAlike accepts side server bytes = let come = side.held ++ bytes in
-      (frame : SaslFrame) → IsWhole side.expected side.limit come
+      (turn : FrameKind) (frame : SaslFrame) → side.expected ≡ Frame turn → IsWhole side.expected side.limit come
       → SpellsBody (drop 4 (unit_read accepts side.expected (take (unit_size side.expected come) come))) (Ok frame)
-      → Alike server side.state frame
+      → IsInTurn turn frame → Alike server side.state frame
 
   pub call_answered : (accepts : Bool) (side next : Side Logged) (server : ServerAt) (bytes nonce : List ℕ) (taken : ℕ)
       (sent : List ℕ) → Follow server side.state → side.state.server.settings ≡ passed → Out server
@@ -240,7 +246,7 @@ module _ (settings : ServerSettings) (records : MultiRecords) (rights : Rights) 
   call_answered accepts side next server bytes nonce taken sent follows others out alike
       (inr (inr (answer, state, whole, answers, (all, is, same)))) =
       let step = read_answered accepts side.expected server side.state state nonce _ answer follows others out
-          (λ frame spells. alike frame whole spells) answers in (
+          (λ turn frame due spells in_turn. alike turn frame due whole spells in_turn) answers in (
         step.0,
         inr (inr (answer, step.0, whole, step.1, (all, is, ap (λ (s : Side Logged). at s step.0) same))),
         (

@@ -36,3 +36,4 @@ pub mod CallSideLemmas
 pub mod CallShownLemmas
 pub mod CallSettingLemmas
 pub mod CallLemmas
+pub mod CallStoreLemmas

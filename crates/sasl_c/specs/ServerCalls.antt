@@ -107,6 +107,38 @@ pub record SameUser (base config : Config) : Type 0 where
   pub records : config.records.now ≡ base.records.now
   pub identities : config.identities.now ≡ base.identities.now
 
+-- the settings are those of a configuration, but for what a store has of its users: the records of all users, the mock records
+-- of unknown ones, the rights, and the hash of the records by which PLAIN tests passwords
+abbrev pub AreStoreSettings : Config → ServerSettings → Type 0
+AreStoreSettings base settings = (own : ServerSettings) × AreSettings base own
+    × (settings ≡ record own {
+      records = settings.records;
+      rights = settings.rights;
+      mock = settings.mock;
+      plain_version = settings.plain_version;
+    })
+
+-- a configuration has what the store of these settings has of this user: its name; for each hash the record by which SCRAM
+-- answers it, which for an unknown user may be a mock record; its rights; and records by which PLAIN, if it is offered, lets
+-- it in by the passwords by which the store does. So it is if both have the same record first, of one hash; and of a user
+-- without a record, if no password meets the mock record
+pub record HasStoredUser (settings : ServerSettings) (config : Config) (user : List ℕ) : Type 0 where
+  pub username : config.username.now ≡ user
+  pub scram : (records : MultiRecords) (version : ScramVersion) → HasRecords config records
+      → record_at (provider_for version records).records user ≡ (provider_by settings version false).records user
+  pub plain : (records : MultiRecords) (password : PasswordText) → HasRecords config records
+      → is_offered_by settings ways.Plain ≡ true
+      → MeetsUser (provider_for (version_of_first records) records) user password
+      ↔ MeetsUser (provider_for settings.plain_version settings.records) user password
+  pub rights : (acts_for : Option (List ℕ)) → may_act (rights_for user config.identities.now) user acts_for
+      ≡ may_act settings.rights user acts_for
+
+-- whenever these bytes complete a frame that names a user, as `fe2o3_sasl_server_claimed_user` tells, by the claim of an init or
+-- by the challenge that the struct keeps, the configuration has what the store has of this user. Otherwise it may have any user,
+-- or none
+abbrev pub RecordsOfOneStore : ServerSettings → Struct → List ℕ → Config → Type 0
+RecordsOfOneStore settings server bytes config = (user : List ℕ) → Named server bytes user → HasStoredUser settings config user
+
 -- ---- the laws
 
 -- a struct of zeros is that of a side of the library's server that has received nothing
@@ -120,3 +152,11 @@ CallsWithOneUserConnect = (config : Config) (settings : ServerSettings) (before 
     (stream sent rest : List ℕ) → AreSettings config settings → IsZero before
     → CallsOver (λ server bytes passed. OneConfiguration config passed × SameUser config passed) before calls stream sent last
     rest → AreOneConnection settings before calls stream sent last rest
+
+-- calls over one struct of zeros that are passed one configuration, and of each user that is named what one store has of it, are
+-- one connection of the library's server with that store
+abbrev pub CallsWithOneStoreConnect : Type 0
+CallsWithOneStoreConnect = (base : Config) (settings : ServerSettings) (before last : Struct) (calls : List StructCall)
+    (stream sent rest : List ℕ) → AreStoreSettings base settings → IsZero before
+    → CallsOver (λ server bytes passed. OneConfiguration base passed × RecordsOfOneStore settings server bytes passed) before
+    calls stream sent last rest → AreOneConnection settings before calls stream sent last rest

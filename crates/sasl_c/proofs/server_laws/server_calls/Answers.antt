@@ -1,4 +1,5 @@
 use Rattle.sasl_c.proofs.CallLemmas.{calls_with_one_user, zeros_are_fresh}
+use Rattle.sasl_c.proofs.CallStoreLemmas.{calls_with_one_store}
 use Rattle.sasl_c.proofs.server_laws.server_calls.Goals as goal
 
 pub returns-clause-fresh : goal.returns-clause-fresh
@@ -6,3 +7,6 @@ returns-clause-fresh c = zeros_are_fresh
 
 pub returns-clause-one_user : goal.returns-clause-one_user
 returns-clause-one_user c = calls_with_one_user
+
+pub returns-clause-one_store : goal.returns-clause-one_store
+returns-clause-one_store c = calls_with_one_store
