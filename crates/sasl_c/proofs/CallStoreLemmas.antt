@@ -15,7 +15,7 @@ use Rattle.fe2o3_scram.specs.declared.hmac.ScramVersion.{ScramVersion}
 use Rattle.fe2o3_sasl_core.specs.Bodies.{SpellsBody}
 use Rattle.fe2o3_sasl_core.specs.LoginAttempts.{ClaimIn, ClaimsUser}
 use Rattle.fe2o3_sasl_core.specs.MockChoices.{MockChoice}
-use Rattle.fe2o3_sasl_core.specs.PlainServer.{IsTaken, MeetsUser, PlainParts, SpellsPlain}
+use Rattle.fe2o3_sasl_core.specs.PlainServer.{IsTaken, MeetsUser, PlainParts, SpellsPlain, TestedPassword}
 use Rattle.fe2o3_sasl_core.specs.SavedServers.{IsRestored, kept_stage, or_no_record, record_now, restored_stage}
 use Rattle.fe2o3_sasl_core.specs.Servers.{ExchangeOpen, MessageLetsIn, NotStarted, ResponseAsked, ServerAt, ServerSettings, ServerStage, asked_among, asked_way, has_hash, is_asked_by, is_offered_by, offer_order, provider_by, rules_by, way_name}
 use Rattle.fe2o3_sasl_core.specs.declared.server.ways.Way.{Way}
@@ -35,12 +35,12 @@ use Rattle.sasl_c.specs.declared.sasl_server.SaslServerConfig.{SaslServerConfig 
 use Rattle.sasl_c.specs.declared.sasl_server.SaslServer.{SaslServer as Struct}
 use Rattle.sasl_c.specs.declared.server.ScramServer.{ScramServer as ScramStruct}
 use Rattle.sasl_c.specs.Acting.{rights_for}
-use Rattle.sasl_c.specs.Connection.{Keeps, accepts_extended}
+use Rattle.sasl_c.specs.Connection.{IsSideOf, Keeps, accepts_extended}
 use Rattle.sasl_c.specs.Peeks.{AnySide}
 use Rattle.sasl_c.specs.Rejections.{Logged}
-use Rattle.sasl_c.specs.SaslServer.{AreSettings, FrameNames, IsServer, Named, ShowRecords, ShowsSide, version_of_first}
+use Rattle.sasl_c.specs.SaslServer.{AreSettings, FrameNames, IsServer, Named, ShowRecords, ShowsSide, read_by, version_of_first}
 use Rattle.sasl_c.specs.Server.{ShowsStage}
-use Rattle.sasl_c.specs.ServerCalls.{AreStoreSettings, CallsWithOneStoreConnect, HasStoredUser, OneConfiguration, RecordsOfOneStore, server_with}
+use Rattle.sasl_c.specs.ServerCalls.{AreStoreSettings, CallsWithOneStoreConnect, CarriesText, CompletesPlain, HasStoredUser, OneConfiguration, RecordsOfOneStore, server_with}
 use Rattle.sasl_c.proofs.CallLemmas.{IsAlike, IsOfSide, calls_connect, goes_on, is_first, restores_of, same_side, settings_of, shows_going, stored_now}
 use Rattle.sasl_c.proofs.CallSettingLemmas.{over_base}
 use Rattle.sasl_c.proofs.CallStageLemmas.{FrameAlike, InitAlike, Looks, PlainAlike, ResponseAlike, ScramAlike, over}
@@ -81,11 +81,12 @@ module _ (settings : ServerSettings) (records : MultiRecords) (rights : Rights) 
   abbrev passed : ServerSettings
   passed = over records rights None plain settings
 
-  -- both settings have the same of this user
-  record Agrees (user : List ℕ) : Type 0 where
+  -- both settings have the same of this user, for the texts that are said
+  record Agrees (Says : List ℕ → Type 0) (user : List ℕ) : Type 0 where
     scram : (version : ScramVersion) (plus : Bool)
         → (provider_by passed version plus).records user ≡ (provider_by settings version plus).records user
-    plain_meets : (password : PasswordText) → is_offered_by settings ways.Plain ≡ true
+    plain_meets : (text : List ℕ) (parts : PlainParts) (password : PasswordText) → Says text → SpellsPlain parts text
+        → is_offered_by settings ways.Plain ≡ true → TestedPassword settings.plain_passwords parts.password password
         → MeetsUser (provider_for plain records) user password
         ↔ MeetsUser (provider_for settings.plain_version settings.records) user password
     may : (acts_for : Option (List ℕ)) → may_act rights user acts_for ≡ may_act settings.rights user acts_for
@@ -93,42 +94,44 @@ module _ (settings : ServerSettings) (records : MultiRecords) (rights : Rights) 
   abbrev Init : Way → Option (List ℕ) → Type 0
   Init way response = InitAlike settings records rights None plain way response
 
-  init_alike : (way : Way) (name text : List ℕ) → name ≡ way_name way → is_offered_by settings way ≡ true
-      → ((user : List ℕ) → ClaimsUser name text user → Agrees user) → Init way (Some text)
-  init_alike (ways.Scram version plus) name text same offers claims = λ client reads.
+  init_alike : (Says : List ℕ → Type 0) (way : Way) (name text : List ℕ) → Says text → name ≡ way_name way
+      → is_offered_by settings way ≡ true → ((user : List ℕ) → ClaimsUser name text user → Agrees Says user)
+      → Init way (Some text)
+  init_alike Says (ways.Scram version plus) name text says same offers claims = λ client reads.
       let rules = rules_by plus settings.rules in
       let claim = claims_what_servers_read version rules text client reads in
       let own : mechanism_of version (is_some rules.channels) ≡ name =
           ap (mechanism_of version) (plus_of plus settings version offers) ∙ sym same in
       (claims client.user (subst (λ (n : List ℕ). ClaimsUser n text client.user) own claim)).scram version plus
-  init_alike ways.Plain name text same offers claims = λ parts. (
+  init_alike Says ways.Plain name text says same offers claims = λ parts. (
     λ lets. let agrees = named parts lets.0 lets.1 in
         (lets.0, lets.1, (
-          (lets.2.0.0, lets.2.0.1, (agrees.plain_meets lets.2.0.0 offers).0 lets.2.0.2),
+          (lets.2.0.0, lets.2.0.1, (agrees.plain_meets text parts lets.2.0.0 says lets.0 offers lets.2.0.1).0 lets.2.0.2),
           sym (agrees.may _) ∙ lets.2.1,
         )),
     λ lets. let agrees = named parts lets.0 lets.1 in
         (lets.0, lets.1, (
-          (lets.2.0.0, lets.2.0.1, (agrees.plain_meets lets.2.0.0 offers).1 lets.2.0.2),
+          (lets.2.0.0, lets.2.0.1, (agrees.plain_meets text parts lets.2.0.0 says lets.0 offers lets.2.0.1).1 lets.2.0.2),
           agrees.may _ ∙ lets.2.1,
         )),
   )
     where
       named : (parts : PlainParts) → SpellsPlain parts text → IsTaken settings.rules.accept_authzid parts
-          → Agrees parts.user
+          → Agrees Says parts.user
       named parts spells taken =
           claims parts.user (inr (same, (parts, spells, (tt, taken.1, taken.2, taken.3), refl)))
-  init_alike ways.Anonymous name text same offers claims = tt
-  init_alike ways.External name text same offers claims = tt
+  init_alike Says ways.Anonymous name text says same offers claims = tt
+  init_alike Says ways.External name text says same offers claims = tt
 
-  response_init : (way : Way) (name : List ℕ) (response : Option (List ℕ)) → name ≡ way_name way
-      → is_offered_by settings way ≡ true → ((user : List ℕ) → ClaimIn name response (Some user) → Agrees user)
-      → Init way response
-  response_init way name (Some text) same offers claims = init_alike way name text same offers claims
-  response_init (ways.Scram version plus) name None same offers claims = tt
-  response_init ways.Plain name None same offers claims = tt
-  response_init ways.Anonymous name None same offers claims = tt
-  response_init ways.External name None same offers claims = tt
+  response_init : (Says : List ℕ → Type 0) (way : Way) (name : List ℕ) (response : Option (List ℕ))
+      → ((text : List ℕ) → response ≡ Some text → Says text) → name ≡ way_name way → is_offered_by settings way ≡ true
+      → ((user : List ℕ) → ClaimIn name response (Some user) → Agrees Says user) → Init way response
+  response_init Says way name (Some text) says same offers claims =
+      init_alike Says way name text (says text refl) same offers claims
+  response_init Says (ways.Scram version plus) name None says same offers claims = tt
+  response_init Says ways.Plain name None says same offers claims = tt
+  response_init Says ways.Anonymous name None says same offers claims = tt
+  response_init Says ways.External name None says same offers claims = tt
 
   offered_so : (way : Way) (nonce : List ℕ) (is : Bool)
       → (if is then ResponseAsked way nonce else NotStarted) ≡ ResponseAsked way nonce → is ≡ true
@@ -141,16 +144,17 @@ module _ (settings : ServerSettings) (records : MultiRecords) (rights : Rights) 
   offered way nonce was = offered_so way nonce (is_offered_by settings way) was
 
   -- the record of a user is one
-  one_record : (version : ScramVersion) (plus : Bool) (user : List ℕ) → Agrees user
+  one_record : (Says : List ℕ → Type 0) (version : ScramVersion) (plus : Bool) (user : List ℕ) → Agrees Says user
       → record_now passed version plus user ≡ record_now settings version plus user
-  one_record version plus user agrees = ap or_no_record (agrees.scram version plus)
+  one_record Says version plus user agrees = ap or_no_record (agrees.scram version plus)
 
   response_alike : (scram : ScramStruct) (stage other : ServerStage) (text : List ℕ) → Looks stage other
       → IsRestored settings stage → IsRestored passed other → ShowsStage scram (kept_stage stage)
-      → ((user : List ℕ) → FrameNames scram turns.Response (frames.Response text) user → Agrees user)
+      → ((user : List ℕ) → FrameNames scram turns.Response (frames.Response text) user
+      → Agrees (CarriesText (frames.Response text)) user)
       → ResponseAlike settings records rights None plain stage other text
   response_alike scram (ResponseAsked way nonce) other text looks was is shows names =
-      init_alike way (way_name way) text refl (offered way nonce was)
+      init_alike (CarriesText (frames.Response text)) way (way_name way) text refl refl (offered way nonce was)
       (λ user claims. names user (inr (way, nonce, shows, claims)))
   response_alike scram (ExchangeOpen version plus exchange) (ExchangeOpen other_version other_plus other) text looks was is
       shows names =
@@ -160,19 +164,26 @@ module _ (settings : ServerSettings) (records : MultiRecords) (rights : Rights) 
             ∙ (ap (λ (v : ScramVersion). record_now passed v (is_required other.challenge.header.flag) other.challenge.user)
             looks.0
             ∙ (ap (λ (c : ServerChallenge). record_now passed version (is_required c.header.flag) c.user) looks.2
-            ∙ (one_record version (is_required challenge.header.flag) challenge.user agrees
+            ∙ (one_record (CarriesText (frames.Response text)) version (is_required challenge.header.flag) challenge.user agrees
             ∙ sym (stored_now settings version plus exchange was)))),
         agrees.may challenge.header.acts_for,
       )
   response_alike scram stage other text looks was is shows names = tt
 
+  carried_so : (name text : List ℕ) (response hostname : Option (List ℕ)) → response ≡ Some text
+      → CarriesText (frames.Init name response hostname) text
+  carried_so name text None hostname said = absurd (cc)
+  carried_so name text (Some own) hostname said = let one : text ≡ own = cc in one
+
   frame_alike : (scram : ScramStruct) (turn : FrameKind) (stage other : ServerStage) (frame : SaslFrame)
       → IsInTurn turn frame → Looks stage other → IsRestored settings stage → IsRestored passed other
-      → ShowsStage scram (kept_stage stage) → ((user : List ℕ) → FrameNames scram turn frame user → Agrees user)
+      → ShowsStage scram (kept_stage stage) → ((user : List ℕ) → FrameNames scram turn frame user
+      → Agrees (CarriesText frame) user)
       → FrameAlike settings records rights None plain stage other frame
   frame_alike scram turns.Init stage other (frames.Init name response hostname) in_turn looks was is shows names =
       λ way asks. let offers = asked_offers settings name way offer_order asks in
-      response_init way name response offers.0 offers.1 names
+      response_init (CarriesText (frames.Init name response hostname)) way name response
+      (λ text said. carried_so name text response hostname said) offers.0 offers.1 names
   frame_alike scram turns.Response stage other (frames.Response text) in_turn looks was is shows names =
       response_alike scram stage other text looks was is shows names
   frame_alike scram turns.Mechanisms stage other (frames.Init name response hostname) in_turn looks was is shows names =
@@ -203,14 +214,14 @@ read_so : (accepts : Bool) (turn : FrameKind) (come : List ℕ)
 read_so false turn come = refl
 read_so true turn come = body_of-framed (unextended (drop 4 (take (size_of come) come)))
 
-frame_named : (before : Struct) (other : Side Logged) (bytes user : List ℕ) (turn : FrameKind) (frame : SaslFrame)
+frame_completes : (before : Struct) (other : Side Logged) (bytes : List ℕ) (turn : FrameKind) (frame : SaslFrame)
     → Keeps before.connection other.progress other.expected other.held → other.limit ≡ 512 → other.progress ≡ InProgress
     → other.expected ≡ Frame turn → IsWhole other.expected other.limit (other.held ++ bytes)
     → SpellsBody (drop 4 (unit_read (accepts_extended before.connection) other.expected
     (take (unit_size other.expected (other.held ++ bytes)) (other.held ++ bytes)))) (Ok frame)
-    → FrameNames before.scram turn frame user → Named before bytes user
-unfolding Named
-frame_named before other bytes user turn frame keeps limit wants due whole spells names =
+    → (side : AnySide) × (body : List ℕ) × IsSideOf before.connection side × Completes side bytes turn body
+    × SpellsBody (read_by before body) (Ok frame)
+frame_completes before other bytes turn frame keeps limit wants due whole spells =
     let come = other.held ++ bytes in
     let accepts = accepts_extended before.connection in
     let side : AnySide = record {
@@ -223,12 +234,26 @@ frame_named before other bytes user turn frame keeps limit wants due whole spell
     let read = subst (λ (e : Expected). SpellsBody (drop 4 (unit_read accepts e (take (unit_size e come) come))) (Ok frame)) due
         spells in (
       side,
-      turn,
       drop 4 (take (size_of come) come),
       (keeps, limit),
       (wants, due, subst (λ (e : Expected). IsWhole e other.limit come) due whole, refl),
-      (frame, subst (λ (b : List ℕ). SpellsBody b (Ok frame)) (read_so accepts turn come) read, names),
+      subst (λ (b : List ℕ). SpellsBody b (Ok frame)) (read_so accepts turn come) read,
     )
+
+named_by : (before : Struct) (bytes user : List ℕ) (turn : FrameKind) (frame : SaslFrame)
+    → (side : AnySide) × (body : List ℕ) × IsSideOf before.connection side × Completes side bytes turn body
+    × SpellsBody (read_by before body) (Ok frame)
+    → FrameNames before.scram turn frame user → Named before bytes user
+unfolding Named
+named_by before bytes user turn frame (side, body, is, done, spells) names =
+    (side, turn, body, is, done, (frame, spells, names))
+
+plain_by : (before : Struct) (bytes text : List ℕ) (turn : FrameKind) (frame : SaslFrame) (parts : PlainParts)
+    → (side : AnySide) × (body : List ℕ) × IsSideOf before.connection side × Completes side bytes turn body
+    × SpellsBody (read_by before body) (Ok frame)
+    → CarriesText frame text → SpellsPlain parts text → CompletesPlain before bytes parts
+plain_by before bytes text turn frame parts (side, body, is, done, spells) carries parted =
+    (side, turn, body, is, done, (frame, text, spells, carries, parted))
 
 keeps_of : (config : Config) (before : Struct) (other : Side Logged) → IsServer config before other
     → Keeps before.connection other.progress other.expected other.held × (other.limit ≡ 512)
@@ -238,15 +263,18 @@ keeps_of config before other is = (is.0.0, is.1)
 -- ---- the law
 
 -- what a configuration has of a user agrees with what the store has
-agrees_so : (settings : ServerSettings) (config : Config) (user : List ℕ) (records : MultiRecords) (rights : Rights)
-    (plain : ScramVersion) → ShowRecords config.username.now config.records.now records
+agrees_so : (Says : List ℕ → Type 0) (settings : ServerSettings) (before : Struct) (bytes : List ℕ) (config : Config)
+    (user : List ℕ) (records : MultiRecords) (rights : Rights) (plain : ScramVersion)
+    → ((text : List ℕ) (parts : PlainParts) → Says text → SpellsPlain parts text → CompletesPlain before bytes parts)
+    → ShowRecords config.username.now config.records.now records
     → rights ≡ rights_for config.username.now config.identities.now → plain ≡ version_of_first records
-    → HasStoredUser settings config user → Agrees settings records rights plain user
-agrees_so settings config user records rights plain shows right first has = record {
+    → HasStoredUser settings before bytes config user → Agrees settings records rights plain Says user
+agrees_so Says settings before bytes config user records rights plain done shows right first has = record {
   scram = λ version plus. has.scram records version shows;
-  plain_meets = λ password offers. subst (λ (v : ScramVersion). MeetsUser (provider_for v records) user password
+  plain_meets = λ text parts password says spells offers tested.
+      subst (λ (v : ScramVersion). MeetsUser (provider_for v records) user password
       ↔ MeetsUser (provider_for settings.plain_version settings.records) user password) (sym first)
-      (has.plain records password shows offers);
+      (has.plain records parts password shows offers (done text parts says spells) tested);
   may = λ acts_for. ap (λ (r : Rights). may_act r user acts_for)
       (right ∙ ap (λ (u : List ℕ). rights_for u config.identities.now) has.username) ∙ has.rights acts_for;
 }
@@ -279,13 +307,15 @@ one_store base settings (own, are, same) accepts config before bytes side other 
       None,
       meant.2,
       now,
-      λ looks turn frame due whole spells in_turn. frame_alike settings meant.0 meant.1 meant.2 before.scram turn
-          side.state.stage other.state.server.stage frame in_turn looks has.2 again shown
-          (λ user names. agrees_so settings config user meant.0 meant.1 meant.2 meant.3 meant.4 meant.5
-          (passes.1 user (frame_named before other bytes user turn frame keeps.0 keeps.1 wants due whole
-          (subst (λ (b : Bool). SpellsBody (drop 4 (unit_read b other.expected
-          (take (unit_size other.expected (other.held ++ bytes)) (other.held ++ bytes)))) (Ok frame))
-          (sym of.stands.extended) spells) names))),
+      λ looks turn frame due whole spells in_turn.
+          let done = frame_completes before other bytes turn frame keeps.0 keeps.1 wants due whole
+              (subst (λ (b : Bool). SpellsBody (drop 4 (unit_read b other.expected
+              (take (unit_size other.expected (other.held ++ bytes)) (other.held ++ bytes)))) (Ok frame))
+              (sym of.stands.extended) spells) in
+          frame_alike settings meant.0 meant.1 meant.2 before.scram turn side.state.stage other.state.server.stage frame in_turn
+          looks has.2 again shown (λ user names. agrees_so (CarriesText frame) settings before bytes config user meant.0 meant.1
+          meant.2 (λ text parts says parted. plain_by before bytes text turn frame parts done says parted) meant.3 meant.4
+          meant.5 (passes.1 user (named_by before bytes user turn frame done names))),
     )
 
 pub calls_with_one_store : CallsWithOneStoreConnect

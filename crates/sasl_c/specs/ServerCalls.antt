@@ -1,25 +1,30 @@
 -- Several calls over one struct of a server, which are one connection of the library's server (AMQP 1.0, part 5, section
 -- 5.3.2). Each statement is the contract of a clause of `server_laws::server_calls`.
-use Rattle.std.specs.Prelude.{◌≡◌, ◌⊎◌, ◌↔◌, ◌++◌, ℕ, Bool, true, false, Option, None, List, [], ◌∷◌, take, drop, replicate}
+use Rattle.std.specs.Prelude.{◌≡◌, ◌⊎◌, ◌↔◌, ◌++◌, ℕ, Bool, true, false, Option, None, Some, List, [], ◌∷◌, take, drop, replicate, Ok}
+use Rattle.fe2o3_sasl_wire.specs.SaslFrames as frames
+use Rattle.fe2o3_sasl_wire.specs.SaslFrames.{SaslFrame}
 use Rattle.fe2o3_scram.specs.ActingRights.{may_act}
 use Rattle.fe2o3_scram.specs.Credentials.{record_at}
 use Rattle.fe2o3_scram.specs.Mixed.{MultiRecords, provider_for}
 use Rattle.fe2o3_scram.specs.Passwords.{PasswordText}
 use Rattle.fe2o3_scram.specs.declared.hmac.ScramVersion.{ScramVersion}
-use Rattle.fe2o3_sasl_core.specs.PlainServer.{MeetsUser}
+use Rattle.fe2o3_sasl_core.specs.Bodies.{SpellsBody}
+use Rattle.fe2o3_sasl_core.specs.PlainServer.{MeetsUser, PlainParts, SpellsPlain, TestedPassword}
 use Rattle.fe2o3_sasl_core.specs.SavedServers.{kept_stage}
 use Rattle.fe2o3_sasl_core.specs.Servers.{NotStarted, ServerAt, ServerSettings, is_offered_by, provider_by, sasl_machine, sasl_names}
 use Rattle.fe2o3_sasl_core.specs.declared.server.ways.Way.TheVariants as ways
 use Rattle.fe2o3_sasl_negotiation.specs.Connections.{fresh}
 use Rattle.fe2o3_sasl_negotiation.specs.Laws.{Call, Calls}
-use Rattle.fe2o3_sasl_negotiation.specs.Negotiations.{Side}
+use Rattle.fe2o3_sasl_negotiation.specs.Negotiations.{Completes, Side}
+use Rattle.fe2o3_sasl_negotiation.specs.declared.progress.FrameKind.{FrameKind}
 use Rattle.sasl_c.specs.declared.sasl_server.SaslServerConfig.{SaslServerConfig as Config}
 use Rattle.sasl_c.specs.declared.sasl_server.SaslServer.{SaslServer as Struct}
 use Rattle.sasl_c.specs.Acting.{rights_for}
-use Rattle.sasl_c.specs.Connection.{Keeps, accepts_extended}
+use Rattle.sasl_c.specs.Connection.{IsSideOf, Keeps, accepts_extended}
+use Rattle.sasl_c.specs.Peeks.{AnySide}
 use Rattle.sasl_c.specs.Rejections.{Logged}
 use Rattle.sasl_c.specs.Rules.{channels_of}
-use Rattle.sasl_c.specs.SaslServer.{AreSettings, HasRecords, IsServer, Named, Received, ServerTakes, ShowsProgress, version_of_first}
+use Rattle.sasl_c.specs.SaslServer.{AreSettings, HasRecords, IsServer, Named, Received, ServerTakes, ShowsProgress, read_by, version_of_first}
 use Rattle.sasl_c.specs.Server.{fresh_server_struct}
 
 -- ---- the calls
@@ -118,26 +123,41 @@ AreStoreSettings base settings = (own : ServerSettings) × AreSettings base own
       plain_version = settings.plain_version;
     })
 
+-- a frame carries this text for its mechanism
+abbrev pub CarriesText : SaslFrame → List ℕ → Type 0
+CarriesText (frames.Init mechanism (Some own) hostname) text = text ≡ own
+CarriesText (frames.Response own) text = text ≡ own
+CarriesText frame text = ⊥
+
+-- these bytes complete a frame with a message of PLAIN of these parts
+abbrev pub CompletesPlain : Struct → List ℕ → PlainParts → Type 0
+CompletesPlain server bytes parts = (side : AnySide) × (turn : FrameKind) × (body : List ℕ)
+    × IsSideOf server.connection side × Completes side bytes turn body
+    × ((frame : SaslFrame) × (text : List ℕ) × SpellsBody (read_by server body) (Ok frame) × CarriesText frame text
+    × SpellsPlain parts text)
+
 -- a configuration has what the store of these settings has of this user: its name; for each hash the record by which SCRAM
--- answers it, which for an unknown user may be a mock record; its rights; and records by which PLAIN, if it is offered, lets
--- it in by the passwords by which the store does. So it is if both have the same record first, of one hash; and of a user
--- without a record, if no password meets the mock record
-pub record HasStoredUser (settings : ServerSettings) (config : Config) (user : List ℕ) : Type 0 where
+-- answers it, which for an unknown user may be a mock record; its rights; and, where PLAIN is offered, records that the
+-- password of a message meets exactly if it meets the store's. So no such password meets the mock record of an unknown user
+pub record HasStoredUser (settings : ServerSettings) (server : Struct) (bytes : List ℕ) (config : Config) (user : List ℕ)
+    : Type 0 where
   pub username : config.username.now ≡ user
   pub scram : (records : MultiRecords) (version : ScramVersion) → HasRecords config records
       → record_at (provider_for version records).records user ≡ (provider_by settings version false).records user
-  pub plain : (records : MultiRecords) (password : PasswordText) → HasRecords config records
-      → is_offered_by settings ways.Plain ≡ true
+  pub plain : (records : MultiRecords) (parts : PlainParts) (password : PasswordText) → HasRecords config records
+      → is_offered_by settings ways.Plain ≡ true → CompletesPlain server bytes parts
+      → TestedPassword settings.plain_passwords parts.password password
       → MeetsUser (provider_for (version_of_first records) records) user password
       ↔ MeetsUser (provider_for settings.plain_version settings.records) user password
   pub rights : (acts_for : Option (List ℕ)) → may_act (rights_for user config.identities.now) user acts_for
       ≡ may_act settings.rights user acts_for
 
--- whenever these bytes complete a frame that names a user, as `fe2o3_sasl_server_claimed_user` tells, by the claim of an init or
--- by the challenge that the struct keeps, the configuration has what the store has of this user. Otherwise it may have any user,
--- or none
+-- whenever these bytes complete a frame that names a user, as `fe2o3_sasl_server_claimed_user` reports, by the claim of an init
+-- or by the challenge that the struct keeps, the configuration has what the store has of this user. Otherwise it may have any
+-- user, or none
 abbrev pub RecordsOfOneStore : ServerSettings → Struct → List ℕ → Config → Type 0
-RecordsOfOneStore settings server bytes config = (user : List ℕ) → Named server bytes user → HasStoredUser settings config user
+RecordsOfOneStore settings server bytes config =
+    (user : List ℕ) → Named server bytes user → HasStoredUser settings server bytes config user
 
 -- ---- the laws
 
