@@ -1,6 +1,6 @@
 -- Calls that are passed what one store has of each user are calls of one side: `calls_with_one_store`.
 use Rattle.std.proofs.Common.{refl, sym, ap, subst, inl, inr, ◌∙◌, ◌≡◌, ◌⊎◌, ◌↔◌, ◌++◌, ◌∷◌, ℕ, List, []}
-use Rattle.std.specs.Prelude.{Bool, true, false, not, is_some, ◌&&◌, ◌||◌, if◌then◌else◌, nat_eq, Option, Some, None, Ok, codes, drop, take}
+use Rattle.std.specs.Prelude.{Bool, true, false, not, is_some, ◌&&◌, ◌||◌, if◌then◌else◌, nat_eq, Option, Some, None, Ok, codes, drop, option_map, take}
 use Rattle.std.specs.Cmp.Lexicographic.{pointwise, same_text}
 use Rattle.fe2o3_sasl_wire.specs.SaslFrames as frames
 use Rattle.fe2o3_sasl_wire.specs.SaslFrames.{SaslFrame}
@@ -9,12 +9,13 @@ use Rattle.fe2o3_scram.specs.ChannelBinding.{is_required, mechanism_of}
 use Rattle.fe2o3_scram.specs.ClientFirst.{ClientFirst, ReadsClientFirst}
 use Rattle.fe2o3_scram.specs.Credentials.{Record, record_at}
 use Rattle.fe2o3_scram.specs.Mixed.{MultiRecords, provider_for}
+use Rattle.fe2o3_scram.specs.MockSettings.{mock_record, stored_or}
 use Rattle.fe2o3_scram.specs.Passwords.{PasswordText}
 use Rattle.fe2o3_scram.specs.ServerFirst.{OpenExchange, ServerChallenge}
 use Rattle.fe2o3_scram.specs.declared.hmac.ScramVersion.{ScramVersion}
 use Rattle.fe2o3_sasl_core.specs.Bodies.{SpellsBody}
 use Rattle.fe2o3_sasl_core.specs.LoginAttempts.{ClaimIn, ClaimsUser}
-use Rattle.fe2o3_sasl_core.specs.MockChoices.{MockChoice}
+use Rattle.fe2o3_sasl_core.specs.MockChoices.{MockChoice, mock_for}
 use Rattle.fe2o3_sasl_core.specs.PlainServer.{IsTaken, MeetsUser, PlainParts, SpellsPlain, TestedPassword}
 use Rattle.fe2o3_sasl_core.specs.SavedServers.{IsRestored, kept_stage, or_no_record, record_now, restored_stage}
 use Rattle.fe2o3_sasl_core.specs.Servers.{ExchangeOpen, MessageLetsIn, NotStarted, ResponseAsked, ServerAt, ServerSettings, ServerStage, asked_among, asked_way, has_hash, is_asked_by, is_offered_by, offer_order, provider_by, rules_by, way_name}
@@ -40,9 +41,9 @@ use Rattle.sasl_c.specs.Peeks.{AnySide}
 use Rattle.sasl_c.specs.Rejections.{Logged}
 use Rattle.sasl_c.specs.SaslServer.{AreSettings, FrameNames, IsServer, Named, ShowRecords, ShowsSide, read_by, version_of_first}
 use Rattle.sasl_c.specs.Server.{ShowsStage}
-use Rattle.sasl_c.specs.ServerCalls.{AreStoreSettings, CallsWithOneStoreConnect, CarriesText, CompletesPlain, HasStoredUser, OneConfiguration, RecordsOfOneStore, server_with}
+use Rattle.sasl_c.specs.ServerCalls.{AreStoreSettings, CallsWithOneStoreConnect, CarriesText, CompletesPlain, HasStoredUser, OneConfiguration, RecordsOfOneStore, StoredUsersAreHad, server_with}
 use Rattle.sasl_c.proofs.CallLemmas.{IsAlike, IsOfSide, calls_connect, goes_on, is_first, restores_of, same_side, settings_of, shows_going, stored_now}
-use Rattle.sasl_c.proofs.CallSettingLemmas.{over_base}
+use Rattle.sasl_c.proofs.CallSettingLemmas.{one_records, over_base}
 use Rattle.sasl_c.proofs.CallStageLemmas.{FrameAlike, InitAlike, Looks, PlainAlike, ResponseAlike, ScramAlike, over}
 use Rattle.sasl_c.proofs.ServerReplyLemmas.{restored_so}
 
@@ -327,3 +328,37 @@ calls_with_one_store base settings before last calls stream sent rest are is ove
         other passes of serves wants) before last (fresh 512 (server_with settings)) calls stream sent rest
         (is_first settings before is) over in
     (all.0, all.1, all.2.stands)
+
+-- ---- a user whom the store has
+
+stored_without : (settings : ServerSettings) (version : ScramVersion) (user : List ℕ) → settings.mock ≡ None
+    → record_at (provider_for version settings.records).records user ≡ (provider_by settings version false).records user
+stored_without settings version user none = sym (ap (λ (mock : Option MockChoice).
+    stored_or (option_map (λ m. mock_record m user) (option_map (mock_for version) mock))
+    (record_at (provider_for version settings.records).records user)) none)
+
+pub stored_users_are_had : StoredUsersAreHad
+stored_users_are_had settings server bytes config user records none named shows alike first may = record {
+  username = named;
+  scram = λ others version has. ap (λ (r : MultiRecords). record_at (provider_for version r).records user) (one others has)
+      ∙ (alike version ∙ stored_without settings version user none);
+  plain = λ others parts password has offers done tested. let hash = ap version_of_first (one others has) ∙ first in
+      let same = ap (λ (r : MultiRecords). record_at (provider_for settings.plain_version r).records user) (one others has)
+      ∙ alike settings.plain_version in
+      meets_alike others (version_of_first others) password hash same;
+  rights = may;
+}
+  where
+    one : (others : MultiRecords) → ShowRecords config.username.now config.records.now others → others ≡ records
+    one others has = one_records config.username.now config.records.now others records has shows
+    meets_alike : (others : MultiRecords) (version : ScramVersion) (password : PasswordText)
+        → version ≡ settings.plain_version
+        → record_at (provider_for settings.plain_version others).records user
+        ≡ record_at (provider_for settings.plain_version settings.records).records user
+        → MeetsUser (provider_for version others) user password
+        ↔ MeetsUser (provider_for settings.plain_version settings.records) user password
+    meets_alike others version password hash same = subst (λ (v : ScramVersion). MeetsUser (provider_for v others) user password
+        ↔ MeetsUser (provider_for settings.plain_version settings.records) user password) (sym hash) (
+      (λ meets. (meets.0, sym same ∙ meets.1, meets.2)),
+      λ meets. (meets.0, same ∙ meets.1, meets.2),
+    )

@@ -37,3 +37,4 @@ pub mod CallShownLemmas
 pub mod CallSettingLemmas
 pub mod CallLemmas
 pub mod CallStoreLemmas
+pub mod CallNumberLemmas

@@ -1,6 +1,6 @@
 -- Several calls over one struct of a server, which are one connection of the library's server (AMQP 1.0, part 5, section
 -- 5.3.2). Each statement is the contract of a clause of `server_laws::server_calls`.
-use Rattle.std.specs.Prelude.{◌≡◌, ◌⊎◌, ◌↔◌, ◌++◌, ℕ, Bool, true, false, Option, None, Some, List, [], ◌∷◌, take, drop, replicate, Ok}
+use Rattle.std.specs.Prelude.{◌≡◌, ◌≢◌, ◌⊎◌, ◌↔◌, ◌++◌, ℕ, Bool, true, false, Option, None, Some, List, [], ◌∷◌, take, drop, replicate, length, OnErr, Ok}
 use Rattle.fe2o3_sasl_wire.specs.SaslFrames as frames
 use Rattle.fe2o3_sasl_wire.specs.SaslFrames.{SaslFrame}
 use Rattle.fe2o3_scram.specs.ActingRights.{may_act}
@@ -24,8 +24,9 @@ use Rattle.sasl_c.specs.Connection.{IsSideOf, Keeps, accepts_extended}
 use Rattle.sasl_c.specs.Peeks.{AnySide}
 use Rattle.sasl_c.specs.Rejections.{Logged}
 use Rattle.sasl_c.specs.Rules.{channels_of}
-use Rattle.sasl_c.specs.SaslServer.{AreSettings, HasRecords, IsServer, Named, Received, ServerTakes, ShowsProgress, read_by, version_of_first}
+use Rattle.sasl_c.specs.SaslServer.{AreSettings, HasRecords, IsServer, Named, Received, ReceivesAsServer, ServerTakes, ShowsProgress, read_by, version_of_first}
 use Rattle.sasl_c.specs.Server.{fresh_server_struct}
+use Rattle.sasl_c.specs.Status.{AnswersText, FillsWithin, Room, with_written}
 
 -- ---- the calls
 
@@ -69,6 +70,24 @@ CallsOver MayPass before (call ∷ calls) stream sent last rest =
     × Received call.config (take call.handed stream) call.nonce before after taken first
     × CallsOver MayPass after calls (drop taken stream) later last rest × (sent ≡ first ++ later)))
     ⊎ ((call.is_answered ≡ false) × CallsOver MayPass before calls stream sent last rest)
+
+-- a call of `fe2o3_sasl_server_receive` has written what it sends
+abbrev pub Sends : Config → List ℕ → List ℕ → Struct → Struct → ℕ → Room → Room → Type 0
+Sends config bytes nonce before after taken room left = (sent : List ℕ) × Received config bytes nonce before after taken sent
+    × (left.bytes ≡ with_written sent room.bytes) × (left.len ≡ length sent)
+
+-- or it has changed and taken nothing
+abbrev pub StaysAsBefore : Struct → Struct → ℕ → ℕ → Type 0
+StaysAsBefore before after taken_before taken = (after ≡ before) × (taken ≡ taken_before)
+
+-- the contract of `fe2o3_sasl_server_receive` says so by the number that it returns: 0, FE2O3_OK, or another
+abbrev pub ReturnsAreCalls : Type 0
+ReturnsAreCalls = (config : Config) (bytes nonce : List ℕ) (before after : Struct) (taken_before taken : ℕ)
+    (room left : Room) (number : ℕ) → AnswersText number (λ answer.
+    FillsWithin 520 (ReceivesAsServer config bytes nonce before after taken) room left answer
+    × OnErr answer ((after ≡ before) × (taken ≡ taken_before)))
+    → (number ≡ 0 → Sends config bytes nonce before after taken room left)
+    × (number ≢ 0 → StaysAsBefore before after taken_before taken)
 
 -- ---- one connection
 
@@ -180,3 +199,14 @@ CallsWithOneStoreConnect = (base : Config) (settings : ServerSettings) (before l
     (stream sent rest : List ℕ) → AreStoreSettings base settings → IsZero before
     → CallsOver (λ server bytes passed. OneConfiguration base passed × RecordsOfOneStore settings server bytes passed) before
     calls stream sent last rest → AreOneConnection settings before calls stream sent last rest
+
+-- a configuration has what a store without mock records has of a user: its first record for each hash, which is first of all one
+-- of the hash by which PLAIN tests passwords, and its rights
+abbrev pub StoredUsersAreHad : Type 0
+StoredUsersAreHad = (settings : ServerSettings) (server : Struct) (bytes : List ℕ) (config : Config) (user : List ℕ)
+    (records : MultiRecords) → settings.mock ≡ None → config.username.now ≡ user → HasRecords config records
+    → ((version : ScramVersion) → record_at (provider_for version records).records user
+    ≡ record_at (provider_for version settings.records).records user) → version_of_first records ≡ settings.plain_version
+    → ((acts_for : Option (List ℕ)) → may_act (rights_for user config.identities.now) user acts_for
+    ≡ may_act settings.rights user acts_for)
+    → HasStoredUser settings server bytes config user
