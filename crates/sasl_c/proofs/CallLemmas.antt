@@ -1,5 +1,5 @@
 -- Calls over one struct are calls of one side: `calls_with_one_user`.
-use Rattle.std.proofs.Common.{arith, refl, sym, ap, subst, inl, inr, ◌∙◌, ◌≡◌, ◌≢◌, ◌⊎◌, ◌≤◌, ◌∷◌, ◌++◌, ℕ, List, [], length}
+use Rattle.std.proofs.Common.{arith, refl, sym, ap, subst, inl, inr, ◌∙◌, ◌≡◌, ◌⊎◌, ◌∷◌, ℕ, List, []}
 use Rattle.std.specs.Prelude.{Bool, true, false, if◌then◌else◌, Option, Some, None, take, drop, replicate}
 use Rattle.fe2o3_scram.specs.ActingRights.{Rights}
 use Rattle.fe2o3_scram.specs.Mixed.{MultiRecords}
@@ -14,12 +14,11 @@ use Rattle.fe2o3_sasl_core.specs.Servers.{ExchangeOpen, NotStarted, ResponseAske
 use Rattle.fe2o3_sasl_core.specs.declared.server.ways.Way.{Way}
 use Rattle.fe2o3_sasl_core.specs.declared.server.ways.Way.TheVariants as ways
 use Rattle.fe2o3_sasl_negotiation.specs.Connections.{fresh}
-use Rattle.fe2o3_sasl_negotiation.specs.Laws.{Call, Calls}
+use Rattle.fe2o3_sasl_negotiation.specs.Laws.{Calls}
 use Rattle.fe2o3_sasl_negotiation.specs.Negotiations.{Reading, ReceivesAt, Side}
 use Rattle.fe2o3_sasl_negotiation.specs.ServerNegotiation.{ServerSideAnswers}
-use Rattle.fe2o3_sasl_negotiation.specs.declared.progress.CloseReason.{CloseReason}
 use Rattle.fe2o3_sasl_negotiation.specs.declared.progress.Expected.{Expected}
-use Rattle.fe2o3_sasl_negotiation.specs.declared.progress.Expected.TheVariants.{Header, Frame}
+use Rattle.fe2o3_sasl_negotiation.specs.declared.progress.Expected.TheVariants.{Header}
 use Rattle.fe2o3_sasl_negotiation.specs.declared.progress.Progress.{Progress}
 use Rattle.fe2o3_sasl_negotiation.specs.declared.progress.Progress.TheVariants.{InProgress, Authenticated, Failed}
 use Rattle.sasl_c.specs.declared.connection.Connection.{Connection}
@@ -27,15 +26,16 @@ use Rattle.sasl_c.specs.declared.sasl_server.SaslServerConfig.{SaslServerConfig 
 use Rattle.sasl_c.specs.declared.sasl_server.SaslServer.{SaslServer as Struct}
 use Rattle.sasl_c.specs.declared.server.ScramServer.{ScramServer as ScramStruct}
 use Rattle.sasl_c.specs.Client.{flag_number, is_set}
-use Rattle.sasl_c.specs.Connection.{Keeps, SaysProgress, accepts_extended}
+use Rattle.sasl_c.specs.Connection.{Keeps, accepts_extended}
 use Rattle.sasl_c.specs.Rejections.{Logged, server_machine, server_names}
 use Rattle.sasl_c.specs.SaslServer.{AreSettings, IsServer, Received, RestoresStage, ServerIsReached, ServerTakes, ShowsProgress, ShowsSide, ShowsState, side_struct, state_struct}
-use Rattle.sasl_c.specs.Server.{ShowsStage, fresh_server_struct, stage_struct}
-use Rattle.sasl_c.specs.ServerCalls.{AreOneConnection, CallsOver, CallsWithOneUserConnect, IsZero, OneConfiguration, SameUser, StandsFor, StructCall, ZerosAreFresh, answered, offer_of, server_with, where_answered}
+use Rattle.sasl_c.specs.Server.{ShowsStage, stage_struct}
+use Rattle.sasl_c.specs.ServerCalls.{CallsOverStruct, CallsWithOneUserConnect, IsZero, OneConfiguration, SameUser, StandsFor, StructCall, ZerosAreFresh, answered_calls, offer_of, server_with, where_answered}
 use Rattle.sasl_c.proofs.CallSettingLemmas.{of_base}
 use Rattle.sasl_c.proofs.CallShownLemmas.{restored_looks, shown_alike, written_alike}
-use Rattle.sasl_c.proofs.CallSideLemmas.{CallAlike, Then, at, call_answered}
-use Rattle.sasl_c.proofs.CallStageLemmas.{Follows, FrameAlike, InitAlike, IsOut, Looks, ResponseAlike, over}
+use Rattle.sasl_c.proofs.CallSideLemmas.{CallAlike, at, call_answered}
+use Rattle.sasl_c.proofs.CallLooksLemmas.{Looks}
+use Rattle.sasl_c.proofs.CallStageLemmas.{FrameAlike, InitAlike, IsOut, ResponseAlike, over}
 use Rattle.sasl_c.proofs.ExchangeLemmas.{keeps_nothing}
 use Rattle.sasl_c.proofs.SaslClientLemmas.{one_due}
 use Rattle.sasl_c.proofs.ServerReplyLemmas.{kept_by, restored_so}
@@ -212,13 +212,13 @@ module _ (accepts : Bool) (settings : ServerSettings) where
       let same = same_side config before side other of is wants in
       let has = of.goes (goes_on before side other same wants) in
       let mine = subst (λ (b : Bool). ServerTakes b server_names server_machine other bytes nonce taken sent next)
-          of.stands.extended takes in
+      of.stands.extended takes in
       let at_wait = subst (λ (s : Progress). ReceivesAt s (Reading accepts (ServerSideAnswers server_names server_machine))
-          other bytes nonce taken sent next) wants mine in
+      other bytes nonce taken sent next) wants mine in
       let step = call_answered settings meets.0 meets.1 meets.2 meets.3 accepts other next side.state bytes nonce taken sent
-          (record { own = of.own; looks = looks; restored = has.2 }) meets.4 has.1 (meets.5 looks) at_wait in
+      (record { own = of.own; looks = looks; restored = has.2 }) meets.4 has.1 (meets.5 looks) at_wait in
       let received = subst (λ (s : Progress). ReceivesAt s (Reading accepts (ServerSideAnswers offer_of sasl_machine))
-          (at other side.state) bytes nonce taken sent (at next step.0)) (sym wants) step.1 in (
+      (at other side.state) bytes nonce taken sent (at next step.0)) (sym wants) step.1 in (
         at next step.0,
         subst (λ (s : Side ServerAt). ServerTakes accepts offer_of sasl_machine s bytes nonce taken sent (at next step.0))
             (sym same) received,
@@ -234,9 +234,9 @@ module _ (accepts : Bool) (settings : ServerSettings) where
       → MayPass before bytes config → IsOfSide accepts settings before side → IsServer config before other
       → other.progress ≡ InProgress → IsAlike side other bytes)
       → (before last : Struct) (side : Side ServerAt) (calls : List StructCall) (stream sent rest : List ℕ)
-      → IsOfSide accepts settings before side → CallsOver MayPass before calls stream sent last rest
+      → IsOfSide accepts settings before side → CallsOverStruct MayPass before calls stream sent last rest
       → (end : Side ServerAt)
-      × Calls (ServerTakes accepts offer_of sasl_machine) side (answered calls) stream sent end rest
+      × Calls (ServerTakes accepts offer_of sasl_machine) side (answered_calls calls) stream sent end rest
       × IsOfSide accepts settings last end
   calls_connect MayPass alike before last side [] stream sent rest of (none, same, all) =
       (side, (none, refl, all), subst (λ (s : Struct). IsOfSide accepts settings s side) (sym same) of)
@@ -244,17 +244,17 @@ module _ (accepts : Bool) (settings : ServerSettings) where
       (inl (is, (after, taken, first, later, passes, received, more, all))) =
       let bytes = take call.handed stream in
       let step = call_step call.config before after bytes call.nonce taken first side of
-          (λ other serves wants. alike call.config before bytes side other passes of serves wants) received in
+      (λ other serves wants. alike call.config before bytes side other passes of serves wants) received in
       let rests = calls_connect MayPass alike after last step.0 calls (drop taken stream) later rest step.2 more in (
         rests.0,
-        subst (λ (b : Bool). Calls (ServerTakes accepts offer_of sasl_machine) side (where_answered b call (answered calls))
+        subst (λ (b : Bool). Calls (ServerTakes accepts offer_of sasl_machine) side (where_answered b call (answered_calls calls))
             stream sent rests.0 rest) (sym is) (taken, first, step.0, later, step.1, rests.1, all),
         rests.2,
       )
   calls_connect MayPass alike before last side (call ∷ calls) stream sent rest of (inr (is, more)) =
       let rests = calls_connect MayPass alike before last side calls stream sent rest of more in (
         rests.0,
-        subst (λ (b : Bool). Calls (ServerTakes accepts offer_of sasl_machine) side (where_answered b call (answered calls))
+        subst (λ (b : Bool). Calls (ServerTakes accepts offer_of sasl_machine) side (where_answered b call (answered_calls calls))
             stream sent rests.0 rest) (sym is) rests.1,
         rests.2,
       )
@@ -366,12 +366,12 @@ module _ (settings : ServerSettings) where
       → IsServer config before other → other.progress ≡ InProgress → IsAlike accepts settings side other bytes
   one_user base are accepts config before bytes side other passes of is wants =
       let same = of_base base config settings other.state.server.settings passes.0 passes.1 are
-          (settings_of accepts settings config before other is wants) in
+      (settings_of accepts settings config before other is wants) in
       let one = same_side accepts settings config before side other of is wants in
       let has = of.goes (goes_on accepts settings before side other one wants) in
       let restores = restores_of accepts settings config before other is wants in
       let again = restored_so settings other.state.server.stage restores.0
-          (restores.2 ∙ ap (λ (s : ServerSettings). restored_stage s restores.0) same) in (
+      (restores.2 ∙ ap (λ (s : ServerSettings). restored_stage s restores.0) same) in (
         settings.records,
         settings.rights,
         settings.mock,
@@ -384,7 +384,7 @@ pub calls_with_one_user : CallsWithOneUserConnect
 calls_with_one_user config settings before last calls stream sent rest are is over =
     let accepts = accepts_extended before.connection in
     let all = calls_connect accepts settings (λ server bytes passed. OneConfiguration config passed × SameUser config passed)
-        (λ passed server bytes side other passes of serves wants. one_user settings config are accepts passed server bytes side
-        other passes of serves wants) before last (fresh 512 (server_with settings)) calls stream sent rest
-        (is_first settings before is) over in
+    (λ passed server bytes side other passes of serves wants. one_user settings config are accepts passed server bytes side
+    other passes of serves wants) before last (fresh 512 (server_with settings)) calls stream sent rest
+    (is_first settings before is) over in
     (all.0, all.1, all.2.stands)

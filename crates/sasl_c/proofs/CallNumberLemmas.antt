@@ -1,21 +1,17 @@
 -- No error has the number of FE2O3_OK, so that a call's number says whether it is one of a side: `returns_are_calls`.
-use Rattle.std.proofs.Common.{arith, refl, sym, inl, inr, ◌∙◌, ◌≡◌, ◌≢◌, ◌⊎◌, ℕ, List, length}
-use Rattle.std.specs.Prelude.{OnErr, Option, None, Some, Result, Ok, Err, option_map}
+use Rattle.std.proofs.Common.{arith, sym, ◌∙◌, ◌≢◌}
+use Rattle.std.specs.Prelude.{Ok, Err}
 use Rattle.fe2o3_scram.specs.declared.credentials.record_text.RecordTextError.{RecordTextError}
 use Rattle.fe2o3_scram.specs.declared.credentials.record_text.RecordTextError.TheVariants as texts
 use Rattle.fe2o3_scram.specs.declared.scram_messages.error.ScramErrorKind.{ScramErrorKind}
 use Rattle.fe2o3_scram.specs.declared.scram_messages.error.ScramErrorKind.TheVariants as client
 use Rattle.fe2o3_scram.specs.declared.scram_messages.error.ServerScramErrorKind.{ServerScramErrorKind}
 use Rattle.fe2o3_scram.specs.declared.scram_messages.error.ServerScramErrorKind.TheVariants as server
-use Rattle.sasl_c.specs.declared.sasl_server.SaslServerConfig.{SaslServerConfig as Config}
-use Rattle.sasl_c.specs.declared.sasl_server.SaslServer.{SaslServer as Struct}
 use Rattle.sasl_c.specs.declared.status.Status.{Status}
 use Rattle.sasl_c.specs.declared.status.Status.TheVariants as statuses
-use Rattle.sasl_c.specs.declared.status.WriteError.{WriteError}
 use Rattle.sasl_c.specs.declared.status.WriteError.TheVariants.{RoomTooSmall, Other}
-use Rattle.sasl_c.specs.SaslServer.{ReceivesAsServer}
-use Rattle.sasl_c.specs.ServerCalls.{ReturnsAreCalls, Sends, StaysAsBefore}
-use Rattle.sasl_c.specs.Status.{FillsWithin, Room, client_number, record_text_number, server_number, status_number, text_answer_number}
+use Rattle.sasl_c.specs.ServerCalls.{ReturnsAreCalls}
+use Rattle.sasl_c.specs.Status.{client_number, record_text_number, server_number, status_number}
 
 text_not_zero : (why : RecordTextError) → record_text_number why ≢ 0
 text_not_zero texts.PartsMismatch same = absurd (omega (arith, same))

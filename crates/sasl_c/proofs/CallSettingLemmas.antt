@@ -1,5 +1,5 @@
 -- The settings of a configuration are one, and those of two configurations of the same values differ by their user.
-use Rattle.std.proofs.Common.{arith, refl, sym, ap, subst, inl, inr, ◌∙◌, ◌≡◌, ◌≢◌, ◌⊎◌, ◌+◌, ◌*◌, ◌∷◌, ℕ, List, []}
+use Rattle.std.proofs.Common.{arith, refl, sym, ap, subst, inl, inr, ◌∙◌, ◌≡◌, ◌+◌, ◌*◌, ◌∷◌, ℕ, List, []}
 use Rattle.std.specs.Prelude.{Bool, true, false, Option, Some, None}
 use Rattle.fe2o3_scram.specs.ActingRights.{Rights}
 use Rattle.fe2o3_scram.specs.Credentials.{VersionedRecord, versioned}
@@ -244,9 +244,9 @@ over_base base config settings other one (choice, records, sum, shows, is) (choi
     let rights = rights_for config.username.now config.identities.now in
     let plain = version_of_first records' in
     let made = meant_so config choice' records' ∙ by same (channels_of config.channels) (channels_of base.channels)
-        (is_set config.accept_authzid) (is_set base.accept_authzid) config.iterations base.iterations
-        config.external_authcid.now base.external_authcid.now rights plain one.channels (ap is_set one.authzid) one.iterations
-        one.external in
+    (is_set config.accept_authzid) (is_set base.accept_authzid) config.iterations base.iterations
+    config.external_authcid.now base.external_authcid.now rights plain one.channels (ap is_set one.authzid) one.iterations
+    one.external in
     let meets = is ∙ meant_so base choice records in (
       records',
       rights,
@@ -269,11 +269,11 @@ pub of_base : (base config : Config) (settings other : ServerSettings) → OneCo
 of_base base config settings other one user (choice, records, sum, shows, is) (choice', records', sum', shows', is') =
     let same : choice' ≡ choice = one_choice choice' choice (sum' ∙ (one.mechanisms ∙ sym sum)) in
     let moved = subst (λ (k : List Kept). ShowRecords base.username.now k records') user.records
-        (subst (λ (u : List ℕ). ShowRecords u config.records.now records') user.username shows') in
+    (subst (λ (u : List ℕ). ShowRecords u config.records.now records') user.username shows') in
     let all : records' ≡ records = one_records base.username.now base.records.now records' records moved shows in
     let rights : rights_for config.username.now config.identities.now ≡ rights_for base.username.now base.identities.now =
-        ap (λ (u : List ℕ). rights_for u config.identities.now) user.username
-        ∙ ap (rights_for base.username.now) user.identities in
+    ap (λ (u : List ℕ). rights_for u config.identities.now) user.username
+    ∙ ap (rights_for base.username.now) user.identities in
     is' ∙ (meant_so config choice' records' ∙ (by same (channels_of config.channels) (channels_of base.channels)
     (is_set config.accept_authzid) (is_set base.accept_authzid) config.iterations base.iterations
     config.external_authcid.now base.external_authcid.now (rights_for config.username.now config.identities.now)

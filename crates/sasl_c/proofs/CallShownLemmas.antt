@@ -1,6 +1,6 @@
 -- Which stages a struct shows alike, and the struct of a side.
-use Rattle.std.proofs.Common.{arith, refl, sym, ap, subst, inl, inr, ◌∙◌, ◌≡◌, ◌≢◌, ◌⊎◌, ℕ, List, []}
-use Rattle.std.specs.Prelude.{Bool, true, false, if◌then◌else◌, nat_eq, Option, Some, None, take}
+use Rattle.std.proofs.Common.{arith, refl, sym, ap, subst, ◌∙◌, ◌≡◌, ◌≢◌, ℕ, List}
+use Rattle.std.specs.Prelude.{Bool, true, false, if◌then◌else◌, nat_eq, Option, Some, None}
 use Rattle.std.specs.Cmp.Lexicographic.{pointwise}
 use Rattle.fe2o3_scram.specs.ActingRights.{Rights}
 use Rattle.fe2o3_scram.specs.ChannelBinding.{is_required}
@@ -13,12 +13,13 @@ use Rattle.fe2o3_scram.specs.declared.scram_messages.channel_binding_flag.Channe
 use Rattle.fe2o3_scram.specs.declared.scram_messages.channel_binding_flag.ChannelBindingFlag.TheVariants.{NotSupported, ClientSupports, Required}
 use Rattle.fe2o3_sasl_core.specs.MockChoices.{MockChoice}
 use Rattle.fe2o3_sasl_core.specs.SavedServers.{IsRestored, KeptStage, KeptNothing, KeptAsked, KeptOpen, KeptSignature, KeptLogin, challenge_way, exchange_now, kept_stage, restored_stage}
-use Rattle.fe2o3_sasl_core.specs.Servers.{ExchangeOpen, NotStarted, ResponseAsked, ServerLogin, ServerSettings, ServerStage, SignatureShown, UserAuthenticated, is_offered_by, logged_in_at, way_name}
+use Rattle.fe2o3_sasl_core.specs.Servers.{ExchangeOpen, NotStarted, ResponseAsked, ServerSettings, ServerStage, SignatureShown, UserAuthenticated, is_offered_by, logged_in_at, way_name}
 use Rattle.fe2o3_sasl_core.specs.declared.server.ways.Way.{Way}
 use Rattle.fe2o3_sasl_core.specs.declared.server.ways.Way.TheVariants as ways
 use Rattle.sasl_c.specs.declared.server.ScramServer.{ScramServer as ScramStruct}
-use Rattle.sasl_c.specs.Server.{HasAsked, HasSigned, HoldsIdentity, IsOpen, IsOpenBy, ShowsSigned, ShowsStage, ShowsUser, fresh_server_struct, open_number, stage_struct, struct_challenge, struct_where}
-use Rattle.sasl_c.proofs.CallStageLemmas.{Looks, looks_same, over}
+use Rattle.sasl_c.specs.Server.{HasSigned, HoldsIdentity, ShowsSigned, ShowsStage, ShowsUser, fresh_server_struct, open_number, stage_struct, struct_challenge, struct_where}
+use Rattle.sasl_c.proofs.CallLooksLemmas.{Looks}
+use Rattle.sasl_c.proofs.CallStageLemmas.{over}
 use Rattle.sasl_c.proofs.ExchangeLemmas.{keeps_nothing, never_zero}
 use Rattle.sasl_c.proofs.OpenLemmas.{flag_at_number, read_again}
 use Rattle.sasl_c.proofs.SaslServerLemmas.{one_number}
@@ -184,7 +185,8 @@ module _ (settings : ServerSettings) (records : MultiRecords) (rights : Rights) 
   restored_looks scram (ResponseAsked way nonce) other KeptNothing out was written shows too same =
       absurd (too.2 way nonce shows)
   restored_looks scram (ResponseAsked way nonce) other (KeptAsked other_way other_nonce) out was written shows too same =
-      restored_asked way other_way nonce other_nonce other (one_way other_way way (too.4 ∙ sym shows.4)) (too.2 ∙ sym shows.2) was same
+      restored_asked way other_way nonce other_nonce other (one_way other_way way (too.4 ∙ sym shows.4))
+      (too.2 ∙ sym shows.2) was same
   restored_looks scram (ResponseAsked way nonce) other (KeptOpen version challenge) out was written shows too same =
       absurd (not_five challenge.header.flag (sym too.1.0 ∙ shows.0))
   restored_looks scram (ResponseAsked way nonce) other (KeptSignature login) out was written shows too same =
@@ -201,9 +203,9 @@ module _ (settings : ServerSettings) (records : MultiRecords) (rights : Rights) 
   restored_looks scram (ExchangeOpen version plus exchange) other (KeptOpen other_version challenge) out was written shows too
       same =
       let flag : challenge.header.flag ≡ exchange.challenge.header.flag =
-          one_flag challenge.header.flag exchange.challenge.header.flag (sym too.1.0 ∙ shows.1.0) in
+      one_flag challenge.header.flag exchange.challenge.header.flag (sym too.1.0 ∙ shows.1.0) in
       let one : challenge ≡ exchange.challenge =
-          too.1.2 ∙ (ap (λ (f : ChannelBindingFlag). struct_challenge f scram) flag ∙ sym shows.1.2) in
+      too.1.2 ∙ (ap (λ (f : ChannelBindingFlag). struct_challenge f scram) flag ∙ sym shows.1.2) in
       exchange_looks version other_version plus exchange challenge other (one_number other_version version (too.0 ∙ sym shows.0))
       one was same
   restored_looks scram (ExchangeOpen version plus exchange) other (KeptSignature login) out was written shows too same =
@@ -259,11 +261,11 @@ shown_alike scram NotStarted (UserAuthenticated other) looks shows =
     keeps_nothing scram KeptNothing refl (zero_state scram other.user other.acts_for looks shows)
 shown_alike scram (ResponseAsked way nonce) (ResponseAsked other_way other_nonce) looks shows =
     let one : KeptAsked other_way other_nonce ≡ KeptAsked way nonce =
-        ap (λ (w : Way). KeptAsked w other_nonce) looks.0 ∙ ap (KeptAsked way) looks.1 in
+    ap (λ (w : Way). KeptAsked w other_nonce) looks.0 ∙ ap (KeptAsked way) looks.1 in
     subst (ShowsStage scram) one shows
 shown_alike scram (ExchangeOpen version plus exchange) (ExchangeOpen other_version other_plus other) looks shows =
     let one : KeptOpen other_version other.challenge ≡ KeptOpen version exchange.challenge =
-        ap (λ (v : ScramVersion). KeptOpen v other.challenge) looks.0 ∙ ap (KeptOpen version) looks.2 in
+    ap (λ (v : ScramVersion). KeptOpen v other.challenge) looks.0 ∙ ap (KeptOpen version) looks.2 in
     subst (ShowsStage scram) one shows
 shown_alike scram (SignatureShown login) (SignatureShown other) looks shows =
     signed_where scram login.user other.user login.acts_for other.acts_for looks.0 looks.1 shows
@@ -295,11 +297,11 @@ written_alike NotStarted NotStarted looks = refl
 written_alike NotStarted (UserAuthenticated other) looks = fresh_where 2 other.user other.acts_for looks
 written_alike (ResponseAsked way nonce) (ResponseAsked other_way other_nonce) looks =
     let one : KeptAsked other_way other_nonce ≡ KeptAsked way nonce =
-        ap (λ (w : Way). KeptAsked w other_nonce) looks.0 ∙ ap (KeptAsked way) looks.1 in
+    ap (λ (w : Way). KeptAsked w other_nonce) looks.0 ∙ ap (KeptAsked way) looks.1 in
     ap stage_struct one
 written_alike (ExchangeOpen version plus exchange) (ExchangeOpen other_version other_plus other) looks =
     let one : KeptOpen other_version other.challenge ≡ KeptOpen version exchange.challenge =
-        ap (λ (v : ScramVersion). KeptOpen v other.challenge) looks.0 ∙ ap (KeptOpen version) looks.2 in
+    ap (λ (v : ScramVersion). KeptOpen v other.challenge) looks.0 ∙ ap (KeptOpen version) looks.2 in
     ap stage_struct one
 written_alike (SignatureShown login) (SignatureShown other) looks =
     ap (λ (u : Option (List ℕ)). struct_where 4 u other.acts_for) looks.0 ∙ ap (struct_where 4 login.user) looks.1

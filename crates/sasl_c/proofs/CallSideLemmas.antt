@@ -1,5 +1,5 @@
 -- A side of a connection, and one that a struct of it shows, which the next call takes up: they answer alike.
-use Rattle.std.proofs.Common.{refl, sym, ap, subst, inl, inr, ◌∙◌, ◌≡◌, ◌≢◌, ◌⊎◌, ◌++◌, ℕ, List, []}
+use Rattle.std.proofs.Common.{refl, sym, ap, subst, inl, inr, ◌∙◌, ◌≡◌, ◌≢◌, ◌++◌, ℕ, List}
 use Rattle.std.specs.Prelude.{Bool, true, false, Option, Some, None, Result, Ok, Err, drop, take}
 use Rattle.fe2o3_sasl_wire.specs.SaslFrames as frames
 use Rattle.fe2o3_sasl_wire.specs.SaslFrames.{SaslFrame, canonical}
@@ -22,10 +22,10 @@ use Rattle.fe2o3_sasl_negotiation.specs.declared.progress.Expected.{Expected}
 use Rattle.fe2o3_sasl_negotiation.specs.declared.progress.Expected.TheVariants.{Header, Frame}
 use Rattle.fe2o3_sasl_negotiation.specs.declared.progress.FrameKind.{FrameKind}
 use Rattle.fe2o3_sasl_negotiation.specs.declared.progress.Progress.{Progress}
-use Rattle.fe2o3_sasl_negotiation.specs.declared.progress.Progress.TheVariants.{InProgress, Authenticated, Failed as HasFailed}
+use Rattle.fe2o3_sasl_negotiation.specs.declared.progress.Progress.TheVariants.{InProgress, Failed as HasFailed}
 use Rattle.sasl_c.specs.Rejections.{Logged, server_machine, server_names}
 use Rattle.sasl_c.specs.ServerCalls.{offer_of}
-use Rattle.sasl_c.proofs.CallStageLemmas.{Follows, FrameAlike, IsOut, IsOutcome, Looks, Quiet, machine_answered, over}
+use Rattle.sasl_c.proofs.CallStageLemmas.{Follows, FrameAlike, IsOut, Quiet, machine_answered, over}
 
 -- ---- what is sent
 
@@ -124,7 +124,7 @@ module _ (settings : ServerSettings) (records : MultiRecords) (rights : Rights) 
       (server, inl (failed, refl), stays server other next says follows out kept)
   answers_answered server other next nonce frame says follows others out alike (inr (reply, moved, held, sends)) =
       let step = machine_answered settings records rights mock plain server other.server moved.server nonce frame reply
-          follows others alike held.0 in
+      follows others alike held.0 in
       let sent = sent_answered reply (canonical reply) server step.0 other moved next says follows out step.2 step.3 sends in
       (sent.0, inr (reply, step.0, step.1, sent.1), sent.2)
 
@@ -182,17 +182,17 @@ module _ (settings : ServerSettings) (records : MultiRecords) (rights : Rights) 
   )
   unit_answered (Frame turn) server other next nonce unit answer follows others out alike
       (Ok frame, spells, inl (not, same, kept)) = (
-    server,
-    (Ok frame, spells, inl (not, same, refl)),
-    remains server other next answer.progress follows out kept,
-  )
+        server,
+        (Ok frame, spells, inl (not, same, refl)),
+        remains server other next answer.progress follows out kept,
+      )
   unit_answered (Frame turn) server other next nonce unit answer follows others out alike
       (Ok frame, spells, inr (in_turn, (says, (spelled, is, gives), outputs))) =
       let step = gives_answered server other next (record { body = drop 4 unit; nonce = nonce }) spelled says follows others
-          out (λ sent same.
-          let read = subst (λ (r : Result SaslFrame Error). SpellsBody (drop 4 unit) r) same is in
-          let one = one_spelled_frame (drop 4 unit) frame sent spells read in
-          alike turn sent refl read (subst (λ (f : SaslFrame). IsInTurn turn f) one in_turn)) gives in (
+      out (λ sent same.
+      let read = subst (λ (r : Result SaslFrame Error). SpellsBody (drop 4 unit) r) same is in
+      let one = one_spelled_frame (drop 4 unit) frame sent spells read in
+      alike turn sent refl read (subst (λ (f : SaslFrame). IsInTurn turn f) one in_turn)) gives in (
         step.0,
         (Ok frame, spells, inr (in_turn, (says, (spelled, is, step.1), outputs))),
         (
@@ -239,14 +239,14 @@ module _ (settings : ServerSettings) (records : MultiRecords) (rights : Rights) 
   )
   call_answered accepts side next server bytes nonce taken sent follows others out alike
       (inr (inl (refused, (all, none, same)))) = (
-    server,
-    inr (inl (refused, (all, none, ap (λ (s : Side Logged). at s server) same))),
-    remains server side.state next.state next.progress follows out (ap (λ (s : Side Logged). s.state) same),
-  )
+        server,
+        inr (inl (refused, (all, none, ap (λ (s : Side Logged). at s server) same))),
+        remains server side.state next.state next.progress follows out (ap (λ (s : Side Logged). s.state) same),
+      )
   call_answered accepts side next server bytes nonce taken sent follows others out alike
       (inr (inr (answer, state, whole, answers, (all, is, same)))) =
       let step = read_answered accepts side.expected server side.state state nonce _ answer follows others out
-          (λ turn frame due spells in_turn. alike turn frame due whole spells in_turn) answers in (
+      (λ turn frame due spells in_turn. alike turn frame due whole spells in_turn) answers in (
         step.0,
         inr (inr (answer, step.0, whole, step.1, (all, is, ap (λ (s : Side Logged). at s step.0) same))),
         (

@@ -1,12 +1,12 @@
 -- What two servers answer that no struct tells apart, where one has the records of a store and the other those of a call.
-use Rattle.std.proofs.Common.{refl, sym, ap, subst, inl, inr, ◌∙◌, ◌≡◌, ◌≢◌, ◌⊎◌, ◌↔◌, ◌∷◌, ℕ, List, []}
-use Rattle.std.specs.Prelude.{Bool, true, false, Option, Some, None, MatchOption, Result, Ok, Err, codes}
+use Rattle.std.proofs.Common.{refl, sym, ap, subst, inl, inr, ◌∙◌, ◌≡◌, ◌⊎◌, ◌↔◌, ◌∷◌, ℕ, List, []}
+use Rattle.std.specs.Prelude.{Bool, true, false, Option, Some, None, MatchOption, Result, Ok, Err}
 use Rattle.fe2o3_sasl_wire.specs.SaslFrames as frames
 use Rattle.fe2o3_sasl_wire.specs.SaslFrames.{SaslFrame}
 use Rattle.fe2o3_sasl_wire.specs.declared.amqp_types.SaslCode.{SaslCode}
 use Rattle.fe2o3_scram.specs.ActingRights.{Rights, may_act}
 use Rattle.fe2o3_scram.specs.ChannelBinding.{expected_header, is_strict}
-use Rattle.fe2o3_scram.specs.ClientFinal.{Server, server_of}
+use Rattle.fe2o3_scram.specs.ClientFinal.{server_of}
 use Rattle.fe2o3_scram.specs.Credentials.{Record}
 use Rattle.fe2o3_scram.specs.ClientFirst.{ClientFirst, ReadsClientFirst}
 use Rattle.fe2o3_scram.specs.Mixed.{MultiRecords}
@@ -15,89 +15,14 @@ use Rattle.fe2o3_scram.specs.ServerFinal.{AnswersClientFinal}
 use Rattle.fe2o3_scram.specs.ServerFirst.{OpenExchange, ServerChallenge}
 use Rattle.fe2o3_scram.specs.declared.hmac.ScramVersion.{ScramVersion}
 use Rattle.fe2o3_scram.specs.declared.scram_messages.error.ServerScramErrorKind.{ServerScramErrorKind}
-use Rattle.fe2o3_sasl_core.specs.LoginAttempts.{Attempt, ClaimIn, LateClaim, RecordsFrame, RecordsResponse, with_late}
 use Rattle.fe2o3_sasl_core.specs.MockChoices.{MockChoice}
 use Rattle.fe2o3_sasl_core.specs.PlainServer.{PlainParts}
 use Rattle.fe2o3_sasl_core.specs.SavedServers.{IsRestored}
-use Rattle.fe2o3_sasl_core.specs.Servers.{AsksForResponse, ClosesExchange, ConfirmsSignature, ExchangeOpen, InitAnswers, InitWhere, MessageLetsIn, NotStarted, OpensScram, ResponseAnswers, ResponseAsked, SendsSignature, ServerAt, ServerLogin, ServerSettings, ServerStage, SignatureShown, StageAnswers, StageRejects, UserAuthenticated, asked_way, exchange_server, is_response_asked, logged_in_at, provider_by, rules_by, sasl_machine}
+use Rattle.fe2o3_sasl_core.specs.Servers.{AsksForResponse, ClosesExchange, ConfirmsSignature, ExchangeOpen, InitAnswers, InitWhere, MessageLetsIn, NotStarted, OpensScram, ResponseAnswers, ResponseAsked, SendsSignature, ServerAt, ServerLogin, ServerSettings, ServerStage, SignatureShown, StageAnswers, StageRejects, UserAuthenticated, asked_way, is_response_asked, logged_in_at, provider_by, rules_by, sasl_machine}
 use Rattle.fe2o3_sasl_core.specs.declared.server.ways.Way.{Way}
 use Rattle.fe2o3_sasl_core.specs.declared.server.ways.Way.TheVariants as ways
-use Rattle.fe2o3_sasl_core.proofs.lemmas.machines.ClaimLemmas.{some_claim}
 use Rattle.fe2o3_sasl_core.proofs.lemmas.machines.SavedServerLemmas.{stage_goes}
-
--- ---- the last claim
-
-some_claim_in : (mechanism : List ℕ) (response : Option (List ℕ)) → (user : Option (List ℕ)) × ClaimIn mechanism response user
-some_claim_in mechanism None = (None, refl)
-some_claim_in mechanism (Some text) = some_claim mechanism text
-
-some_late : (user : Option (List ℕ)) (mechanism text : List ℕ)
-    → (late : Option (List ℕ)) × LateClaim user mechanism text late
-some_late (Some user) mechanism text = (None, refl)
-some_late None mechanism text = some_claim mechanism text
-
-some_response : (text : List ℕ) (before : Option Attempt) → (after : Option Attempt) × RecordsResponse text before after
-some_response text None = (None, refl)
-some_response text (Some attempt) = let late = some_late attempt.user attempt.mechanism text in
-    (Some (with_late attempt late.0), (late.0, late.1, refl))
-
--- each frame has a last claim after it
-some_record : (frame : SaslFrame) (before : Option Attempt) → (after : Option Attempt) × RecordsFrame frame before after
-some_record (frames.Init mechanism response hostname) before = let claim = some_claim_in mechanism response in
-    let attempt : Attempt = record { mechanism = mechanism; user = claim.0; hostname = hostname } in
-    (Some attempt, (attempt, (refl, claim.1, refl), refl))
-some_record (frames.Response text) before = some_response text before
-some_record (frames.Mechanisms names) before = (before, refl)
-some_record (frames.Challenge text) before = (before, refl)
-some_record (frames.Outcome code more) before = (before, refl)
-
--- ---- two stages
-
--- the first stage, which is that of a connection, and the second, which a struct of it restores, are shown alike: of an open
--- exchange the records may differ
-abbrev pub Looks : ServerStage → ServerStage → Type 0
-Looks NotStarted NotStarted = Unit {0}
-Looks NotStarted (UserAuthenticated other) = other.user ≡ None
-Looks (ResponseAsked way nonce) (ResponseAsked other_way other_nonce) = (other_way ≡ way) × (other_nonce ≡ nonce)
-Looks (ExchangeOpen version plus exchange) (ExchangeOpen other_version other_plus other) =
-    (other_version ≡ version) × (other_plus ≡ plus) × (other.challenge ≡ exchange.challenge)
-Looks (SignatureShown login) (SignatureShown other) = (other.user ≡ login.user) × (other.acts_for ≡ login.acts_for)
-Looks (UserAuthenticated login) (UserAuthenticated other) = (other.user ≡ login.user) × (other.acts_for ≡ login.acts_for)
-Looks stage other = ⊥
-
-pub looks_same : (stage : ServerStage) → Looks stage stage
-looks_same NotStarted = tt
-looks_same (ResponseAsked way nonce) = (refl, refl)
-looks_same (ExchangeOpen version plus exchange) = (refl, refl, refl)
-looks_same (SignatureShown login) = (refl, refl)
-looks_same (UserAuthenticated login) = (refl, refl)
-
-one_asked : (stage other : ServerStage) → Looks stage other → is_response_asked other ≡ is_response_asked stage
-one_asked NotStarted NotStarted looks = refl
-one_asked NotStarted (UserAuthenticated other) looks = refl
-one_asked (ResponseAsked way nonce) (ResponseAsked other_way other_nonce) looks = refl
-one_asked (ExchangeOpen version plus exchange) (ExchangeOpen other_version other_plus other) looks = refl
-one_asked (SignatureShown login) (SignatureShown other) looks = refl
-one_asked (UserAuthenticated login) (UserAuthenticated other) looks = refl
-one_asked NotStarted (ResponseAsked way nonce) looks = absurd looks
-one_asked NotStarted (ExchangeOpen version plus exchange) looks = absurd looks
-one_asked NotStarted (SignatureShown login) looks = absurd looks
-one_asked (ResponseAsked way nonce) NotStarted looks = absurd looks
-one_asked (ResponseAsked way nonce) (ExchangeOpen version plus exchange) looks = absurd looks
-one_asked (ResponseAsked way nonce) (SignatureShown login) looks = absurd looks
-one_asked (ResponseAsked way nonce) (UserAuthenticated login) looks = absurd looks
-one_asked (ExchangeOpen version plus exchange) NotStarted looks = absurd looks
-one_asked (ExchangeOpen version plus exchange) (ResponseAsked way nonce) looks = absurd looks
-one_asked (ExchangeOpen version plus exchange) (SignatureShown login) looks = absurd looks
-one_asked (ExchangeOpen version plus exchange) (UserAuthenticated login) looks = absurd looks
-one_asked (SignatureShown login) NotStarted looks = absurd looks
-one_asked (SignatureShown login) (ResponseAsked way nonce) looks = absurd looks
-one_asked (SignatureShown login) (ExchangeOpen version plus exchange) looks = absurd looks
-one_asked (SignatureShown login) (UserAuthenticated other) looks = absurd looks
-one_asked (UserAuthenticated login) NotStarted looks = absurd looks
-one_asked (UserAuthenticated login) (ResponseAsked way nonce) looks = absurd looks
-one_asked (UserAuthenticated login) (ExchangeOpen version plus exchange) looks = absurd looks
-one_asked (UserAuthenticated login) (SignatureShown other) looks = absurd looks
+use Rattle.sasl_c.proofs.CallLooksLemmas.{Looks, looks_same, one_asked, some_record}
 
 -- ---- the settings of a store, and those of a call
 
@@ -317,11 +242,11 @@ module _ (settings : ServerSettings) (records : MultiRecords) (rights : Rights) 
   )
   response_answered (ExchangeOpen version plus exchange) (ExchangeOpen other_version other_plus other) next text reply looks
       alike is = (
-    next,
-    exchange_both version other_version plus other_plus exchange other next text reply looks.0 looks.1
-        (one_exchange exchange other looks.2 alike.0) alike.1 is,
-    looks_same next,
-  )
+        next,
+        exchange_both version other_version plus other_plus exchange other next text reply looks.0 looks.1
+            (one_exchange exchange other looks.2 alike.0) alike.1 is,
+        looks_same next,
+      )
   response_answered (SignatureShown login) (SignatureShown other) next text reply looks alike is =
       confirms_both login other next text reply looks is
   response_answered (UserAuthenticated login) (UserAuthenticated other) next text reply looks alike is =
@@ -455,7 +380,7 @@ module _ (settings : ServerSettings) (records : MultiRecords) (rights : Rights) 
       → (after : ServerAt) × sasl_machine server nonce frame reply after × Follows after next × Quiet reply after.stage
   machine_answered server other next nonce frame reply follows others alike (kept, answers, records) =
       let step = stage_answered server.stage other.stage next.stage nonce frame reply follows.looks alike
-          (subst (λ (s : ServerSettings). StageAnswers s other.stage nonce frame reply next.stage) others answers) in
+      (subst (λ (s : ServerSettings). StageAnswers s other.stage nonce frame reply next.stage) others answers) in
       let last = some_record frame server.last in (
         record { settings = server.settings; stage = step.0; last = last.0 },
         (

@@ -1,24 +1,23 @@
 -- Calls that are passed what one store has of each user are calls of one side: `calls_with_one_store`.
-use Rattle.std.proofs.Common.{refl, sym, ap, subst, inl, inr, ◌∙◌, ◌≡◌, ◌⊎◌, ◌↔◌, ◌++◌, ◌∷◌, ℕ, List, []}
-use Rattle.std.specs.Prelude.{Bool, true, false, not, is_some, ◌&&◌, ◌||◌, if◌then◌else◌, nat_eq, Option, Some, None, Ok, codes, drop, option_map, take}
+use Rattle.std.proofs.Common.{refl, sym, ap, subst, inl, inr, ◌∙◌, ◌≡◌, ◌↔◌, ◌++◌, ◌∷◌, ℕ, List, []}
+use Rattle.std.specs.Prelude.{Bool, true, false, not, is_some, ◌&&◌, ◌||◌, if◌then◌else◌, nat_eq, Option, Some, None, Ok, drop, option_map, take}
 use Rattle.std.specs.Cmp.Lexicographic.{pointwise, same_text}
 use Rattle.fe2o3_sasl_wire.specs.SaslFrames as frames
 use Rattle.fe2o3_sasl_wire.specs.SaslFrames.{SaslFrame}
 use Rattle.fe2o3_scram.specs.ActingRights.{Rights, may_act}
 use Rattle.fe2o3_scram.specs.ChannelBinding.{is_required, mechanism_of}
-use Rattle.fe2o3_scram.specs.ClientFirst.{ClientFirst, ReadsClientFirst}
-use Rattle.fe2o3_scram.specs.Credentials.{Record, record_at}
+use Rattle.fe2o3_scram.specs.Credentials.{record_at}
 use Rattle.fe2o3_scram.specs.Mixed.{MultiRecords, provider_for}
 use Rattle.fe2o3_scram.specs.MockSettings.{mock_record, stored_or}
 use Rattle.fe2o3_scram.specs.Passwords.{PasswordText}
-use Rattle.fe2o3_scram.specs.ServerFirst.{OpenExchange, ServerChallenge}
+use Rattle.fe2o3_scram.specs.ServerFirst.{ServerChallenge}
 use Rattle.fe2o3_scram.specs.declared.hmac.ScramVersion.{ScramVersion}
 use Rattle.fe2o3_sasl_core.specs.Bodies.{SpellsBody}
 use Rattle.fe2o3_sasl_core.specs.LoginAttempts.{ClaimIn, ClaimsUser}
 use Rattle.fe2o3_sasl_core.specs.MockChoices.{MockChoice, mock_for}
 use Rattle.fe2o3_sasl_core.specs.PlainServer.{IsTaken, MeetsUser, PlainParts, SpellsPlain, TestedPassword}
 use Rattle.fe2o3_sasl_core.specs.SavedServers.{IsRestored, kept_stage, or_no_record, record_now, restored_stage}
-use Rattle.fe2o3_sasl_core.specs.Servers.{ExchangeOpen, MessageLetsIn, NotStarted, ResponseAsked, ServerAt, ServerSettings, ServerStage, asked_among, asked_way, has_hash, is_asked_by, is_offered_by, offer_order, provider_by, rules_by, way_name}
+use Rattle.fe2o3_sasl_core.specs.Servers.{ExchangeOpen, NotStarted, ResponseAsked, ServerAt, ServerSettings, ServerStage, asked_among, has_hash, is_asked_by, is_offered_by, offer_order, provider_by, rules_by, way_name}
 use Rattle.fe2o3_sasl_core.specs.declared.server.ways.Way.{Way}
 use Rattle.fe2o3_sasl_core.specs.declared.server.ways.Way.TheVariants as ways
 use Rattle.fe2o3_sasl_core.proofs.lemmas.machines.ClaimLemmas.{claims_what_servers_read}
@@ -26,10 +25,9 @@ use Rattle.fe2o3_sasl_negotiation.specs.Connections.{fresh}
 use Rattle.fe2o3_sasl_negotiation.specs.Framing.{IsWhole, body_read, size_of, unextended, unit_read, unit_size}
 use Rattle.fe2o3_sasl_negotiation.specs.Negotiations.{Completes, IsInTurn, Side}
 use Rattle.fe2o3_sasl_negotiation.specs.declared.progress.Expected.{Expected}
-use Rattle.fe2o3_sasl_negotiation.specs.declared.progress.Expected.TheVariants.{Header, Frame}
+use Rattle.fe2o3_sasl_negotiation.specs.declared.progress.Expected.TheVariants.{Frame}
 use Rattle.fe2o3_sasl_negotiation.specs.declared.progress.FrameKind.{FrameKind}
 use Rattle.fe2o3_sasl_negotiation.specs.declared.progress.FrameKind.TheVariants as turns
-use Rattle.fe2o3_sasl_negotiation.specs.declared.progress.Progress.{Progress}
 use Rattle.fe2o3_sasl_negotiation.specs.declared.progress.Progress.TheVariants.{InProgress}
 use Rattle.fe2o3_sasl_negotiation.proofs.lemmas.UnitLemmas.{body_of-framed}
 use Rattle.sasl_c.specs.declared.sasl_server.SaslServerConfig.{SaslServerConfig as Config}
@@ -39,12 +37,13 @@ use Rattle.sasl_c.specs.Acting.{rights_for}
 use Rattle.sasl_c.specs.Connection.{IsSideOf, Keeps, accepts_extended}
 use Rattle.sasl_c.specs.Peeks.{AnySide}
 use Rattle.sasl_c.specs.Rejections.{Logged}
-use Rattle.sasl_c.specs.SaslServer.{AreSettings, FrameNames, IsServer, Named, ShowRecords, ShowsSide, read_by, version_of_first}
+use Rattle.sasl_c.specs.SaslServer.{FrameNames, IsServer, Named, ShowRecords, ShowsSide, read_by, version_of_first}
 use Rattle.sasl_c.specs.Server.{ShowsStage}
 use Rattle.sasl_c.specs.ServerCalls.{AreStoreSettings, CallsWithOneStoreConnect, CarriesText, CompletesPlain, HasStoredUser, OneConfiguration, RecordsOfOneStore, StoredUsersAreHad, server_with}
 use Rattle.sasl_c.proofs.CallLemmas.{IsAlike, IsOfSide, calls_connect, goes_on, is_first, restores_of, same_side, settings_of, shows_going, stored_now}
 use Rattle.sasl_c.proofs.CallSettingLemmas.{one_records, over_base}
-use Rattle.sasl_c.proofs.CallStageLemmas.{FrameAlike, InitAlike, Looks, PlainAlike, ResponseAlike, ScramAlike, over}
+use Rattle.sasl_c.proofs.CallLooksLemmas.{Looks}
+use Rattle.sasl_c.proofs.CallStageLemmas.{FrameAlike, InitAlike, ResponseAlike, over}
 use Rattle.sasl_c.proofs.ServerReplyLemmas.{restored_so}
 
 -- ---- what a name asks for
@@ -102,19 +101,25 @@ module _ (settings : ServerSettings) (records : MultiRecords) (rights : Rights) 
       let rules = rules_by plus settings.rules in
       let claim = claims_what_servers_read version rules text client reads in
       let own : mechanism_of version (is_some rules.channels) ≡ name =
-          ap (mechanism_of version) (plus_of plus settings version offers) ∙ sym same in
+      ap (mechanism_of version) (plus_of plus settings version offers) ∙ sym same in
       (claims client.user (subst (λ (n : List ℕ). ClaimsUser n text client.user) own claim)).scram version plus
   init_alike Says ways.Plain name text says same offers claims = λ parts. (
-    λ lets. let agrees = named parts lets.0 lets.1 in
-        (lets.0, lets.1, (
-          (lets.2.0.0, lets.2.0.1, (agrees.plain_meets text parts lets.2.0.0 says lets.0 offers lets.2.0.1).0 lets.2.0.2),
-          sym (agrees.may _) ∙ lets.2.1,
-        )),
-    λ lets. let agrees = named parts lets.0 lets.1 in
-        (lets.0, lets.1, (
-          (lets.2.0.0, lets.2.0.1, (agrees.plain_meets text parts lets.2.0.0 says lets.0 offers lets.2.0.1).1 lets.2.0.2),
-          agrees.may _ ∙ lets.2.1,
-        )),
+    λ lets. let agrees = named parts lets.0 lets.1 in (
+      lets.0,
+      lets.1,
+      (
+        (lets.2.0.0, lets.2.0.1, (agrees.plain_meets text parts lets.2.0.0 says lets.0 offers lets.2.0.1).0 lets.2.0.2),
+        sym (agrees.may _) ∙ lets.2.1,
+      ),
+    ),
+    λ lets. let agrees = named parts lets.0 lets.1 in (
+      lets.0,
+      lets.1,
+      (
+        (lets.2.0.0, lets.2.0.1, (agrees.plain_meets text parts lets.2.0.0 says lets.0 offers lets.2.0.1).1 lets.2.0.2),
+        agrees.may _ ∙ lets.2.1,
+      ),
+    ),
   )
     where
       named : (parts : PlainParts) → SpellsPlain parts text → IsTaken settings.rules.accept_authzid parts
@@ -233,7 +238,7 @@ frame_completes before other bytes turn frame keeps limit wants due whole spells
       state = tt;
     } in
     let read = subst (λ (e : Expected). SpellsBody (drop 4 (unit_read accepts e (take (unit_size e come) come))) (Ok frame)) due
-        spells in (
+    spells in (
       side,
       drop 4 (take (size_of come) come),
       (keeps, limit),
@@ -293,14 +298,14 @@ one_store : (base : Config) (settings : ServerSettings) → AreStoreSettings bas
     → IsAlike accepts settings side other bytes
 one_store base settings (own, are, same) accepts config before bytes side other passes of is wants =
     let meant = over_base base config own other.state.server.settings passes.0 are
-        (settings_of accepts settings config before other is wants) in
+    (settings_of accepts settings config before other is wants) in
     let now = meant.6 ∙ over_store own settings meant.0 meant.1 meant.2 same in
     let one = same_side accepts settings config before side other of is wants in
     let going = goes_on accepts settings before side other one wants in
     let has = of.goes going in
     let restores = restores_of accepts settings config before other is wants in
     let again = restored_so (over meant.0 meant.1 None meant.2 settings) other.state.server.stage restores.0
-        (restores.2 ∙ ap (λ (s : ServerSettings). restored_stage s restores.0) now) in
+    (restores.2 ∙ ap (λ (s : ServerSettings). restored_stage s restores.0) now) in
     let keeps = keeps_of config before other is in
     let shown = shows_going before.scram side.progress (kept_stage side.state.stage) going of.stands.login in (
       meant.0,
@@ -310,9 +315,9 @@ one_store base settings (own, are, same) accepts config before bytes side other 
       now,
       λ looks turn frame due whole spells in_turn.
           let done = frame_completes before other bytes turn frame keeps.0 keeps.1 wants due whole
-              (subst (λ (b : Bool). SpellsBody (drop 4 (unit_read b other.expected
-              (take (unit_size other.expected (other.held ++ bytes)) (other.held ++ bytes)))) (Ok frame))
-              (sym of.stands.extended) spells) in
+          (subst (λ (b : Bool). SpellsBody (drop 4 (unit_read b other.expected
+          (take (unit_size other.expected (other.held ++ bytes)) (other.held ++ bytes)))) (Ok frame))
+          (sym of.stands.extended) spells) in
           frame_alike settings meant.0 meant.1 meant.2 before.scram turn side.state.stage other.state.server.stage frame in_turn
           looks has.2 again shown (λ user names. agrees_so (CarriesText frame) settings before bytes config user meant.0 meant.1
           meant.2 (λ text parts says parted. plain_by before bytes text turn frame parts done says parted) meant.3 meant.4
@@ -323,10 +328,10 @@ pub calls_with_one_store : CallsWithOneStoreConnect
 calls_with_one_store base settings before last calls stream sent rest are is over =
     let accepts = accepts_extended before.connection in
     let all = calls_connect accepts settings
-        (λ server bytes passed. OneConfiguration base passed × RecordsOfOneStore settings server bytes passed)
-        (λ passed server bytes side other passes of serves wants. one_store base settings are accepts passed server bytes side
-        other passes of serves wants) before last (fresh 512 (server_with settings)) calls stream sent rest
-        (is_first settings before is) over in
+    (λ server bytes passed. OneConfiguration base passed × RecordsOfOneStore settings server bytes passed)
+    (λ passed server bytes side other passes of serves wants. one_store base settings are accepts passed server bytes side
+    other passes of serves wants) before last (fresh 512 (server_with settings)) calls stream sent rest
+    (is_first settings before is) over in
     (all.0, all.1, all.2.stands)
 
 -- ---- a user whom the store has
@@ -351,6 +356,7 @@ stored_users_are_had settings server bytes config user records none named shows 
   where
     one : (others : MultiRecords) → ShowRecords config.username.now config.records.now others → others ≡ records
     one others has = one_records config.username.now config.records.now others records has shows
+
     meets_alike : (others : MultiRecords) (version : ScramVersion) (password : PasswordText)
         → version ≡ settings.plain_version
         → record_at (provider_for settings.plain_version others).records user
@@ -359,6 +365,6 @@ stored_users_are_had settings server bytes config user records none named shows 
         ↔ MeetsUser (provider_for settings.plain_version settings.records) user password
     meets_alike others version password hash same = subst (λ (v : ScramVersion). MeetsUser (provider_for v others) user password
         ↔ MeetsUser (provider_for settings.plain_version settings.records) user password) (sym hash) (
-      (λ meets. (meets.0, sym same ∙ meets.1, meets.2)),
-      λ meets. (meets.0, same ∙ meets.1, meets.2),
-    )
+          (λ meets. (meets.0, sym same ∙ meets.1, meets.2)),
+          λ meets. (meets.0, same ∙ meets.1, meets.2),
+        )

@@ -31,6 +31,7 @@ pub mod FieldLemmas
 pub mod SaltedLemmas
 pub mod PlainLemmas
 pub mod ExternalLemmas
+pub mod CallLooksLemmas
 pub mod CallStageLemmas
 pub mod CallSideLemmas
 pub mod CallShownLemmas

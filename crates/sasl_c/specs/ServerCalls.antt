@@ -22,7 +22,6 @@ use Rattle.sasl_c.specs.declared.sasl_server.SaslServer.{SaslServer as Struct}
 use Rattle.sasl_c.specs.Acting.{rights_for}
 use Rattle.sasl_c.specs.Connection.{IsSideOf, Keeps, accepts_extended}
 use Rattle.sasl_c.specs.Peeks.{AnySide}
-use Rattle.sasl_c.specs.Rejections.{Logged}
 use Rattle.sasl_c.specs.Rules.{channels_of}
 use Rattle.sasl_c.specs.SaslServer.{AreSettings, HasRecords, IsServer, Named, Received, ReceivesAsServer, ServerTakes, ShowsProgress, read_by, version_of_first}
 use Rattle.sasl_c.specs.Server.{fresh_server_struct}
@@ -54,26 +53,26 @@ abbrev pub where_answered : Bool → StructCall → List Call → List Call
 where_answered true call calls = record { handed = call.handed; nonce = call.nonce } ∷ calls
 where_answered false call calls = calls
 
-abbrev pub answered : List StructCall → List Call
-answered [] = []
-answered (call ∷ calls) = where_answered call.is_answered call (answered calls)
+abbrev pub answered_calls : List StructCall → List Call
+answered_calls [] = []
+answered_calls (call ∷ calls) = where_answered call.is_answered call (answered_calls calls)
 
 -- calls over one struct and one stream, where each that returned FE2O3_OK was passed what `MayPass` allows for the struct and
 -- the bytes: what they send, the struct after them, and the bytes that are left. A call that returned an error has changed,
 -- taken and sent nothing, whatever it was passed
-abbrev pub CallsOver : (Struct → List ℕ → Config → Type 0) → Struct → List StructCall → List ℕ → List ℕ → Struct → List ℕ
+abbrev pub CallsOverStruct : (Struct → List ℕ → Config → Type 0) → Struct → List StructCall → List ℕ → List ℕ → Struct → List ℕ
     → Type 0
-CallsOver MayPass before [] stream sent last rest = (sent ≡ []) × (last ≡ before) × (rest ≡ stream)
-CallsOver MayPass before (call ∷ calls) stream sent last rest =
+CallsOverStruct MayPass before [] stream sent last rest = (sent ≡ []) × (last ≡ before) × (rest ≡ stream)
+CallsOverStruct MayPass before (call ∷ calls) stream sent last rest =
     ((call.is_answered ≡ true) × ((after : Struct) × (taken : ℕ) × (first later : List ℕ)
     × MayPass before (take call.handed stream) call.config
     × Received call.config (take call.handed stream) call.nonce before after taken first
-    × CallsOver MayPass after calls (drop taken stream) later last rest × (sent ≡ first ++ later)))
-    ⊎ ((call.is_answered ≡ false) × CallsOver MayPass before calls stream sent last rest)
+    × CallsOverStruct MayPass after calls (drop taken stream) later last rest × (sent ≡ first ++ later)))
+    ⊎ ((call.is_answered ≡ false) × CallsOverStruct MayPass before calls stream sent last rest)
 
 -- a call of `fe2o3_sasl_server_receive` has written what it sends
-abbrev pub Sends : Config → List ℕ → List ℕ → Struct → Struct → ℕ → Room → Room → Type 0
-Sends config bytes nonce before after taken room left = (sent : List ℕ) × Received config bytes nonce before after taken sent
+abbrev pub WritesSent : Config → List ℕ → List ℕ → Struct → Struct → ℕ → Room → Room → Type 0
+WritesSent config bytes nonce before after taken room left = (sent : List ℕ) × Received config bytes nonce before after taken sent
     × (left.bytes ≡ with_written sent room.bytes) × (left.len ≡ length sent)
 
 -- or it has changed and taken nothing
@@ -86,7 +85,7 @@ ReturnsAreCalls = (config : Config) (bytes nonce : List ℕ) (before after : Str
     (room left : Room) (number : ℕ) → AnswersText number (λ answer.
     FillsWithin 520 (ReceivesAsServer config bytes nonce before after taken) room left answer
     × OnErr answer ((after ≡ before) × (taken ≡ taken_before)))
-    → (number ≡ 0 → Sends config bytes nonce before after taken room left)
+    → (number ≡ 0 → WritesSent config bytes nonce before after taken room left)
     × (number ≢ 0 → StaysAsBefore before after taken_before taken)
 
 -- ---- one connection
@@ -112,7 +111,7 @@ pub record StandsFor (accepts : Bool) (server : Struct) (side : Side ServerAt) :
 abbrev pub AreOneConnection : ServerSettings → Struct → List StructCall → List ℕ → List ℕ → Struct → List ℕ → Type 0
 AreOneConnection settings before calls stream sent last rest = let accepts = accepts_extended before.connection in
     (side : Side ServerAt)
-    × Calls (ServerTakes accepts offer_of sasl_machine) (fresh 512 (server_with settings)) (answered calls) stream sent side
+    × Calls (ServerTakes accepts offer_of sasl_machine) (fresh 512 (server_with settings)) (answered_calls calls) stream sent side
     rest × StandsFor accepts last side
 
 -- ---- what a caller passes
@@ -189,7 +188,7 @@ ZerosAreFresh = (config : Config) (settings : ServerSettings) (server : Struct) 
 abbrev pub CallsWithOneUserConnect : Type 0
 CallsWithOneUserConnect = (config : Config) (settings : ServerSettings) (before last : Struct) (calls : List StructCall)
     (stream sent rest : List ℕ) → AreSettings config settings → IsZero before
-    → CallsOver (λ server bytes passed. OneConfiguration config passed × SameUser config passed) before calls stream sent last
+    → CallsOverStruct (λ server bytes passed. OneConfiguration config passed × SameUser config passed) before calls stream sent last
     rest → AreOneConnection settings before calls stream sent last rest
 
 -- calls over one struct of zeros that are passed one configuration, and of each user that is named what one store has of it, are
@@ -197,7 +196,7 @@ CallsWithOneUserConnect = (config : Config) (settings : ServerSettings) (before 
 abbrev pub CallsWithOneStoreConnect : Type 0
 CallsWithOneStoreConnect = (base : Config) (settings : ServerSettings) (before last : Struct) (calls : List StructCall)
     (stream sent rest : List ℕ) → AreStoreSettings base settings → IsZero before
-    → CallsOver (λ server bytes passed. OneConfiguration base passed × RecordsOfOneStore settings server bytes passed) before
+    → CallsOverStruct (λ server bytes passed. OneConfiguration base passed × RecordsOfOneStore settings server bytes passed) before
     calls stream sent last rest → AreOneConnection settings before calls stream sent last rest
 
 -- a configuration has what a store without mock records has of a user: its first record for each hash, which is first of all one
