@@ -10,13 +10,13 @@ use Rattle.fe2o3_scram.specs.Credentials.{record_at}
 use Rattle.fe2o3_scram.specs.Mixed.{MultiRecords, provider_for}
 use Rattle.fe2o3_scram.specs.MockSettings.{mock_record, stored_or}
 use Rattle.fe2o3_scram.specs.Passwords.{PasswordText}
-use Rattle.fe2o3_scram.specs.ServerFirst.{ServerChallenge}
+use Rattle.fe2o3_scram.specs.ServerFirst.{OpenExchange, ServerChallenge}
 use Rattle.fe2o3_scram.specs.declared.hmac.ScramVersion.{ScramVersion}
 use Rattle.fe2o3_sasl_core.specs.Bodies.{SpellsBody}
 use Rattle.fe2o3_sasl_core.specs.LoginAttempts.{ClaimIn, ClaimsUser}
 use Rattle.fe2o3_sasl_core.specs.MockChoices.{MockChoice, mock_for}
 use Rattle.fe2o3_sasl_core.specs.PlainServer.{IsTaken, MeetsUser, PlainParts, SpellsPlain, TestedPassword}
-use Rattle.fe2o3_sasl_core.specs.SavedServers.{IsRestored, kept_stage, or_no_record, record_now, restored_stage}
+use Rattle.fe2o3_sasl_core.specs.SavedServers.{IsRestored, exchange_now, kept_stage, or_no_record, record_now, restored_stage}
 use Rattle.fe2o3_sasl_core.specs.Servers.{ExchangeOpen, NotStarted, ResponseAsked, ServerAt, ServerSettings, ServerStage, asked_among, has_hash, is_asked_by, is_offered_by, offer_order, provider_by, rules_by, way_name}
 use Rattle.fe2o3_sasl_core.specs.declared.server.ways.Way.{Way}
 use Rattle.fe2o3_sasl_core.specs.declared.server.ways.Way.TheVariants as ways
@@ -83,7 +83,7 @@ module _ (settings : ServerSettings) (records : MultiRecords) (rights : Rights) 
 
   -- both settings have the same of this user, for the texts that are said
   record Agrees (Says : List ℕ → Type 0) (user : List ℕ) : Type 0 where
-    scram : (version : ScramVersion) (plus : Bool)
+    scram : (version : ScramVersion) (plus : Bool) → is_offered_by settings (ways.Scram version plus) ≡ true
         → (provider_by passed version plus).records user ≡ (provider_by settings version plus).records user
     plain_meets : (text : List ℕ) (parts : PlainParts) (password : PasswordText) → Says text → SpellsPlain parts text
         → is_offered_by settings ways.Plain ≡ true → TestedPassword settings.plain_passwords parts.password password
@@ -102,7 +102,7 @@ module _ (settings : ServerSettings) (records : MultiRecords) (rights : Rights) 
       let claim = claims_what_servers_read version rules text client reads in
       let own : mechanism_of version (is_some rules.channels) ≡ name =
       ap (mechanism_of version) (plus_of plus settings version offers) ∙ sym same in
-      (claims client.user (subst (λ (n : List ℕ). ClaimsUser n text client.user) own claim)).scram version plus
+      (claims client.user (subst (λ (n : List ℕ). ClaimsUser n text client.user) own claim)).scram version plus offers
   init_alike Says ways.Plain name text says same offers claims = λ parts. (
     λ lets. let agrees = named parts lets.0 lets.1 in (
       lets.0,
@@ -150,9 +150,23 @@ module _ (settings : ServerSettings) (records : MultiRecords) (rights : Rights) 
   offered way nonce was = offered_so way nonce (is_offered_by settings way) was
 
   -- the record of a user is one
-  one_record : (Says : List ℕ → Type 0) (version : ScramVersion) (plus : Bool) (user : List ℕ) → Agrees Says user
+  one_record : (Says : List ℕ → Type 0) (version : ScramVersion) (plus : Bool) (user : List ℕ)
+      → is_offered_by settings (ways.Scram version plus) ≡ true → Agrees Says user
       → record_now passed version plus user ≡ record_now settings version plus user
-  one_record Says version plus user agrees = ap or_no_record (agrees.scram version plus)
+  one_record Says version plus user offers agrees = ap or_no_record (agrees.scram version plus offers)
+
+  opened_so : (version : ScramVersion) (plus binds : Bool) (exchange now : OpenExchange) (is : Bool)
+      → (if is then ExchangeOpen version binds now else NotStarted) ≡ ExchangeOpen version plus exchange → is ≡ true
+  opened_so version plus binds exchange now true same = refl
+  opened_so version plus binds exchange now false same = absurd (cc)
+
+  opened : (version : ScramVersion) (plus : Bool) (exchange : OpenExchange)
+      → IsRestored settings (ExchangeOpen version plus exchange)
+      → is_offered_by settings (ways.Scram version (is_required exchange.challenge.header.flag)) ≡ true
+  unfolding IsRestored
+  opened version plus exchange was = opened_so version plus (is_required exchange.challenge.header.flag) exchange
+      (exchange_now settings version exchange.challenge)
+      (is_offered_by settings (ways.Scram version (is_required exchange.challenge.header.flag))) was
 
   response_alike : (scram : ScramStruct) (stage other : ServerStage) (text : List ℕ) → Looks stage other
       → IsRestored settings stage → IsRestored passed other → ShowsStage scram (kept_stage stage)
@@ -170,7 +184,8 @@ module _ (settings : ServerSettings) (records : MultiRecords) (rights : Rights) 
             ∙ (ap (λ (v : ScramVersion). record_now passed v (is_required other.challenge.header.flag) other.challenge.user)
             looks.0
             ∙ (ap (λ (c : ServerChallenge). record_now passed version (is_required c.header.flag) c.user) looks.2
-            ∙ (one_record (CarriesText (frames.Response text)) version (is_required challenge.header.flag) challenge.user agrees
+            ∙ (one_record (CarriesText (frames.Response text)) version (is_required challenge.header.flag) challenge.user
+            (opened version plus exchange was) agrees
             ∙ sym (stored_now settings version plus exchange was)))),
         agrees.may challenge.header.acts_for,
       )
@@ -276,7 +291,7 @@ agrees_so : (Says : List ℕ → Type 0) (settings : ServerSettings) (before : S
     → rights ≡ rights_for config.username.now config.identities.now → plain ≡ version_of_first records
     → HasStoredUser settings before bytes config user → Agrees settings records rights plain Says user
 agrees_so Says settings before bytes config user records rights plain done shows right first has = record {
-  scram = λ version plus. has.scram records version shows;
+  scram = λ version plus offers. has.scram records version plus shows offers;
   plain_meets = λ text parts password says spells offers tested.
       subst (λ (v : ScramVersion). MeetsUser (provider_for v records) user password
       ↔ MeetsUser (provider_for settings.plain_version settings.records) user password) (sym first)
@@ -336,17 +351,17 @@ calls_with_one_store base settings before last calls stream sent rest are is ove
 
 -- ---- a user whom the store has
 
-stored_without : (settings : ServerSettings) (version : ScramVersion) (user : List ℕ) → settings.mock ≡ None
-    → record_at (provider_for version settings.records).records user ≡ (provider_by settings version false).records user
-stored_without settings version user none = sym (ap (λ (mock : Option MockChoice).
+stored_without : (settings : ServerSettings) (version : ScramVersion) (plus : Bool) (user : List ℕ) → settings.mock ≡ None
+    → record_at (provider_for version settings.records).records user ≡ (provider_by settings version plus).records user
+stored_without settings version plus user none = sym (ap (λ (mock : Option MockChoice).
     stored_or (option_map (λ m. mock_record m user) (option_map (mock_for version) mock))
     (record_at (provider_for version settings.records).records user)) none)
 
 pub stored_users_are_had : StoredUsersAreHad
 stored_users_are_had settings server bytes config user records none named shows alike first may = record {
   username = named;
-  scram = λ others version has. ap (λ (r : MultiRecords). record_at (provider_for version r).records user) (one others has)
-      ∙ (alike version ∙ stored_without settings version user none);
+  scram = λ others version plus has offers. ap (λ (r : MultiRecords). record_at (provider_for version r).records user)
+      (one others has) ∙ (alike version ∙ stored_without settings version plus user none);
   plain = λ others parts password has offers done tested. let hash = ap version_of_first (one others has) ∙ first in
       let same = ap (λ (r : MultiRecords). record_at (provider_for settings.plain_version r).records user) (one others has)
       ∙ alike settings.plain_version in

@@ -154,14 +154,15 @@ CompletesPlain server bytes parts = (side : AnySide) × (turn : FrameKind) × (b
     × ((frame : SaslFrame) × (text : List ℕ) × SpellsBody (read_by server body) (Ok frame) × CarriesText frame text
     × SpellsPlain parts text)
 
--- a configuration has what the store of these settings has of this user: its name; for each hash the record by which SCRAM
--- answers it, which for an unknown user may be a mock record; its rights; and, where PLAIN is offered, records that the
--- password of a message meets exactly if it meets the store's. So no such password meets the mock record of an unknown user
+-- a configuration has what the store of these settings has of this user: its name; for each hash that is offered the record by
+-- which SCRAM answers it, which for an unknown user may be a mock record; its rights; and, where PLAIN is offered, records that
+-- the password of a message meets exactly if it meets the store's. So no such password meets the mock record of an unknown user
 pub record HasStoredUser (settings : ServerSettings) (server : Struct) (bytes : List ℕ) (config : Config) (user : List ℕ)
     : Type 0 where
   pub username : config.username.now ≡ user
-  pub scram : (records : MultiRecords) (version : ScramVersion) → HasRecords config records
-      → record_at (provider_for version records).records user ≡ (provider_by settings version false).records user
+  pub scram : (records : MultiRecords) (version : ScramVersion) (plus : Bool) → HasRecords config records
+      → is_offered_by settings (ways.Scram version plus) ≡ true
+      → record_at (provider_for version records).records user ≡ (provider_by settings version plus).records user
   pub plain : (records : MultiRecords) (parts : PlainParts) (password : PasswordText) → HasRecords config records
       → is_offered_by settings ways.Plain ≡ true → CompletesPlain server bytes parts
       → TestedPassword settings.plain_passwords parts.password password
@@ -177,6 +178,14 @@ abbrev pub RecordsOfOneStore : ServerSettings → Struct → List ℕ → Config
 RecordsOfOneStore settings server bytes config =
     (user : List ℕ) → Named server bytes user → HasStoredUser settings server bytes config user
 
+-- what the calls are passed: one user and one configuration; or one configuration and one store's users
+abbrev pub PassesOneUser : Config → Struct → List ℕ → Config → Type 0
+PassesOneUser base server bytes config = OneConfiguration base config × SameUser base config
+
+abbrev pub PassesOneStore : Config → ServerSettings → Struct → List ℕ → Config → Type 0
+PassesOneStore base settings server bytes config =
+    OneConfiguration base config × RecordsOfOneStore settings server bytes config
+
 -- ---- the laws
 
 -- a struct of zeros is that of a side of the library's server that has received nothing
@@ -188,16 +197,16 @@ ZerosAreFresh = (config : Config) (settings : ServerSettings) (server : Struct) 
 abbrev pub CallsWithOneUserConnect : Type 0
 CallsWithOneUserConnect = (config : Config) (settings : ServerSettings) (before last : Struct) (calls : List StructCall)
     (stream sent rest : List ℕ) → AreSettings config settings → IsZero before
-    → CallsOverStruct (λ server bytes passed. OneConfiguration config passed × SameUser config passed) before calls stream sent last
-    rest → AreOneConnection settings before calls stream sent last rest
+    → CallsOverStruct (PassesOneUser config) before calls stream sent last rest
+    → AreOneConnection settings before calls stream sent last rest
 
 -- calls over one struct of zeros that are passed one configuration, and of each user that is named what one store has of it, are
 -- one connection of the library's server with that store
 abbrev pub CallsWithOneStoreConnect : Type 0
 CallsWithOneStoreConnect = (base : Config) (settings : ServerSettings) (before last : Struct) (calls : List StructCall)
     (stream sent rest : List ℕ) → AreStoreSettings base settings → IsZero before
-    → CallsOverStruct (λ server bytes passed. OneConfiguration base passed × RecordsOfOneStore settings server bytes passed) before
-    calls stream sent last rest → AreOneConnection settings before calls stream sent last rest
+    → CallsOverStruct (PassesOneStore base settings) before calls stream sent last rest
+    → AreOneConnection settings before calls stream sent last rest
 
 -- a configuration has what a store without mock records has of a user: its first record for each hash, which is first of all one
 -- of the hash by which PLAIN tests passwords, and its rights
