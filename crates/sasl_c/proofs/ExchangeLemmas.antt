@@ -42,7 +42,7 @@ open_room scram challenge is = let lengths = is.1 in (
 )
 
 -- no number of an open challenge is 0
-never_zero : (header : ChannelBindingFlag) → 0 ≡ open_number header → ⊥
+pub never_zero : (header : ChannelBindingFlag) → 0 ≡ open_number header → ⊥
 never_zero NotSupported same = omega (arith, same)
 never_zero ClientSupports same = omega (arith, same)
 never_zero (Required TlsUnique) same = omega (arith, same)

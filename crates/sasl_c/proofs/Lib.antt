@@ -31,3 +31,11 @@ pub mod FieldLemmas
 pub mod SaltedLemmas
 pub mod PlainLemmas
 pub mod ExternalLemmas
+pub mod CallLooksLemmas
+pub mod CallStageLemmas
+pub mod CallSideLemmas
+pub mod CallShownLemmas
+pub mod CallSettingLemmas
+pub mod CallLemmas
+pub mod CallStoreLemmas
+pub mod CallNumberLemmas

@@ -21,14 +21,14 @@ no_header state one three seven eight nine (Required TlsServerEndPoint) same = e
 no_header state one three seven eight nine (Required TlsExporter) same = nine (sym same)
 
 -- the flag of a number
-flag_at_number : ℕ → Option ChannelBindingFlag
+pub flag_at_number : ℕ → Option ChannelBindingFlag
 flag_at_number state = if nat_eq state 1 then Some NotSupported else
     if nat_eq state 3 then Some ClientSupports else
     if nat_eq state 7 then Some (Required TlsUnique) else
     if nat_eq state 8 then Some (Required TlsServerEndPoint) else
     if nat_eq state 9 then Some (Required TlsExporter) else None
 
-read_again : (header : ChannelBindingFlag) → flag_at_number (open_number header) ≡ Some header
+pub read_again : (header : ChannelBindingFlag) → flag_at_number (open_number header) ≡ Some header
 unfolding flag_at_number
 read_again NotSupported = refl
 read_again ClientSupports = refl

@@ -163,7 +163,7 @@ shows_none kept statuses.ProhibitedCharacter shown wrong is = absurd wrong
 shows_none kept statuses.NoSuchChoice shown wrong is = absurd wrong
 
 -- a number is that of one version
-one_number : (version other : ScramVersion) → version_number version ≡ version_number other → version ≡ other
+pub one_number : (version other : ScramVersion) → version_number version ≡ version_number other → version ≡ other
 one_number versions.Sha1 versions.Sha1 same = refl
 one_number versions.Sha1 versions.Sha256 same = absurd (omega (arith, same))
 one_number versions.Sha1 versions.Sha512 same = absurd (omega (arith, same))

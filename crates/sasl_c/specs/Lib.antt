@@ -18,6 +18,7 @@ pub mod SaslClient
 pub mod Frames
 pub mod Lines
 pub mod SaslServer
+pub mod ServerCalls
 pub mod Peeks
 pub mod Steps
 pub mod Saslprep

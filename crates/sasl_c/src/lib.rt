@@ -45,6 +45,7 @@ mod server;
 mod server_calls;
 mod server_errors;
 mod server_identity;
+mod server_laws;
 mod server_steps;
 mod server_user;
 mod shows;

@@ -1,0 +1,385 @@
+-- Calls that are passed what one store has of each user are calls of one side: `calls_with_one_store`.
+use Rattle.std.proofs.Common.{refl, sym, ap, subst, inl, inr, ◌∙◌, ◌≡◌, ◌↔◌, ◌++◌, ◌∷◌, ℕ, List, []}
+use Rattle.std.specs.Prelude.{Bool, true, false, not, is_some, ◌&&◌, ◌||◌, if◌then◌else◌, nat_eq, Option, Some, None, Ok, drop, option_map, take}
+use Rattle.std.specs.Cmp.Lexicographic.{pointwise, same_text}
+use Rattle.fe2o3_sasl_wire.specs.SaslFrames as frames
+use Rattle.fe2o3_sasl_wire.specs.SaslFrames.{SaslFrame}
+use Rattle.fe2o3_scram.specs.ActingRights.{Rights, may_act}
+use Rattle.fe2o3_scram.specs.ChannelBinding.{is_required, mechanism_of}
+use Rattle.fe2o3_scram.specs.Credentials.{record_at}
+use Rattle.fe2o3_scram.specs.Mixed.{MultiRecords, provider_for}
+use Rattle.fe2o3_scram.specs.MockSettings.{mock_record, stored_or}
+use Rattle.fe2o3_scram.specs.Passwords.{PasswordText}
+use Rattle.fe2o3_scram.specs.ServerFirst.{OpenExchange, ServerChallenge}
+use Rattle.fe2o3_scram.specs.declared.hmac.ScramVersion.{ScramVersion}
+use Rattle.fe2o3_sasl_core.specs.Bodies.{SpellsBody}
+use Rattle.fe2o3_sasl_core.specs.LoginAttempts.{ClaimIn, ClaimsUser}
+use Rattle.fe2o3_sasl_core.specs.MockChoices.{MockChoice, mock_for}
+use Rattle.fe2o3_sasl_core.specs.PlainServer.{IsTaken, MeetsUser, PlainParts, SpellsPlain, TestedPassword}
+use Rattle.fe2o3_sasl_core.specs.SavedServers.{IsRestored, exchange_now, kept_stage, or_no_record, record_now, restored_stage}
+use Rattle.fe2o3_sasl_core.specs.Servers.{ExchangeOpen, NotStarted, ResponseAsked, ServerAt, ServerSettings, ServerStage, asked_among, has_hash, is_asked_by, is_offered_by, offer_order, provider_by, rules_by, way_name}
+use Rattle.fe2o3_sasl_core.specs.declared.server.ways.Way.{Way}
+use Rattle.fe2o3_sasl_core.specs.declared.server.ways.Way.TheVariants as ways
+use Rattle.fe2o3_sasl_core.proofs.lemmas.machines.ClaimLemmas.{claims_what_servers_read}
+use Rattle.fe2o3_sasl_negotiation.specs.Connections.{fresh}
+use Rattle.fe2o3_sasl_negotiation.specs.Framing.{IsWhole, body_read, size_of, unextended, unit_read, unit_size}
+use Rattle.fe2o3_sasl_negotiation.specs.Negotiations.{Completes, IsInTurn, Side}
+use Rattle.fe2o3_sasl_negotiation.specs.declared.progress.Expected.{Expected}
+use Rattle.fe2o3_sasl_negotiation.specs.declared.progress.Expected.TheVariants.{Frame}
+use Rattle.fe2o3_sasl_negotiation.specs.declared.progress.FrameKind.{FrameKind}
+use Rattle.fe2o3_sasl_negotiation.specs.declared.progress.FrameKind.TheVariants as turns
+use Rattle.fe2o3_sasl_negotiation.specs.declared.progress.Progress.TheVariants.{InProgress}
+use Rattle.fe2o3_sasl_negotiation.proofs.lemmas.UnitLemmas.{body_of-framed}
+use Rattle.sasl_c.specs.declared.sasl_server.SaslServerConfig.{SaslServerConfig as Config}
+use Rattle.sasl_c.specs.declared.sasl_server.SaslServer.{SaslServer as Struct}
+use Rattle.sasl_c.specs.declared.server.ScramServer.{ScramServer as ScramStruct}
+use Rattle.sasl_c.specs.Acting.{rights_for}
+use Rattle.sasl_c.specs.Connection.{IsSideOf, Keeps, accepts_extended}
+use Rattle.sasl_c.specs.Peeks.{AnySide}
+use Rattle.sasl_c.specs.Rejections.{Logged}
+use Rattle.sasl_c.specs.SaslServer.{FrameNames, IsServer, Named, ShowRecords, ShowsSide, read_by, version_of_first}
+use Rattle.sasl_c.specs.Server.{ShowsStage}
+use Rattle.sasl_c.specs.ServerCalls.{AreStoreSettings, CallsWithOneStoreConnect, CarriesText, CompletesPlain, HasStoredUser, OneConfiguration, RecordsOfOneStore, StoredUsersAreHad, server_with}
+use Rattle.sasl_c.proofs.CallLemmas.{IsAlike, IsOfSide, calls_connect, goes_on, is_first, restores_of, same_side, settings_of, shows_going, stored_now}
+use Rattle.sasl_c.proofs.CallSettingLemmas.{one_records, over_base}
+use Rattle.sasl_c.proofs.CallLooksLemmas.{Looks}
+use Rattle.sasl_c.proofs.CallStageLemmas.{FrameAlike, InitAlike, ResponseAlike, over}
+use Rattle.sasl_c.proofs.ServerReplyLemmas.{restored_so}
+
+-- ---- what a name asks for
+
+both_true : (one other : Bool) → (one && other) ≡ true → (one ≡ true) × (other ≡ true)
+both_true true other is = (refl, is)
+both_true false other is = absurd (cc)
+
+module _ (settings : ServerSettings) (name : List ℕ) (way : Way) where
+  abbrev IsOffered : Type 0
+  IsOffered = (name ≡ way_name way) × (is_offered_by settings way ≡ true)
+
+  asked_of : (first : Way) (rest : Option Way) (is : Bool) → is_asked_by settings name first ≡ is
+      → (if is then Some first else rest) ≡ Some way → (rest ≡ Some way → IsOffered) → IsOffered
+  asked_of first rest true asks same later =
+      let one : first ≡ way = cc in
+      let both = both_true (is_offered_by settings first) (pointwise nat_eq name (way_name first)) asks in
+      subst (λ (w : Way). (name ≡ way_name w) × (is_offered_by settings w ≡ true)) one
+      (same_text name (way_name first) (sym both.1), both.0)
+  asked_of first rest false asks same later = later same
+
+  asked_offers : (order : List Way) → asked_among settings name order ≡ Some way → IsOffered
+  asked_offers [] same = absurd (cc)
+  asked_offers (first ∷ others) same =
+      asked_of first (asked_among settings name others) _ refl same (asked_offers others)
+
+-- SCRAM with -PLUS is offered only with a channel
+plus_of : (plus : Bool) (settings : ServerSettings) (version : ScramVersion)
+    → is_offered_by settings (ways.Scram version plus) ≡ true → is_some (rules_by plus settings.rules).channels ≡ plus
+plus_of true settings version is =
+    (both_true (has_hash settings.mechanisms version) (not true || is_some settings.rules.channels) is).1
+plus_of false settings version is = refl
+
+module _ (settings : ServerSettings) (records : MultiRecords) (rights : Rights) (plain : ScramVersion) where
+  abbrev passed : ServerSettings
+  passed = over records rights None plain settings
+
+  -- both settings have the same of this user, for the texts that are said
+  record Agrees (Says : List ℕ → Type 0) (user : List ℕ) : Type 0 where
+    scram : (version : ScramVersion) (plus : Bool) → is_offered_by settings (ways.Scram version plus) ≡ true
+        → (provider_by passed version plus).records user ≡ (provider_by settings version plus).records user
+    plain_meets : (text : List ℕ) (parts : PlainParts) (password : PasswordText) → Says text → SpellsPlain parts text
+        → is_offered_by settings ways.Plain ≡ true → TestedPassword settings.plain_passwords parts.password password
+        → MeetsUser (provider_for plain records) user password
+        ↔ MeetsUser (provider_for settings.plain_version settings.records) user password
+    may : (acts_for : Option (List ℕ)) → may_act rights user acts_for ≡ may_act settings.rights user acts_for
+
+  abbrev Init : Way → Option (List ℕ) → Type 0
+  Init way response = InitAlike settings records rights None plain way response
+
+  init_alike : (Says : List ℕ → Type 0) (way : Way) (name text : List ℕ) → Says text → name ≡ way_name way
+      → is_offered_by settings way ≡ true → ((user : List ℕ) → ClaimsUser name text user → Agrees Says user)
+      → Init way (Some text)
+  init_alike Says (ways.Scram version plus) name text says same offers claims = λ client reads.
+      let rules = rules_by plus settings.rules in
+      let claim = claims_what_servers_read version rules text client reads in
+      let own : mechanism_of version (is_some rules.channels) ≡ name =
+      ap (mechanism_of version) (plus_of plus settings version offers) ∙ sym same in
+      (claims client.user (subst (λ (n : List ℕ). ClaimsUser n text client.user) own claim)).scram version plus offers
+  init_alike Says ways.Plain name text says same offers claims = λ parts. (
+    λ lets. let agrees = named parts lets.0 lets.1 in (
+      lets.0,
+      lets.1,
+      (
+        (lets.2.0.0, lets.2.0.1, (agrees.plain_meets text parts lets.2.0.0 says lets.0 offers lets.2.0.1).0 lets.2.0.2),
+        sym (agrees.may _) ∙ lets.2.1,
+      ),
+    ),
+    λ lets. let agrees = named parts lets.0 lets.1 in (
+      lets.0,
+      lets.1,
+      (
+        (lets.2.0.0, lets.2.0.1, (agrees.plain_meets text parts lets.2.0.0 says lets.0 offers lets.2.0.1).1 lets.2.0.2),
+        agrees.may _ ∙ lets.2.1,
+      ),
+    ),
+  )
+    where
+      named : (parts : PlainParts) → SpellsPlain parts text → IsTaken settings.rules.accept_authzid parts
+          → Agrees Says parts.user
+      named parts spells taken =
+          claims parts.user (inr (same, (parts, spells, (tt, taken.1, taken.2, taken.3), refl)))
+  init_alike Says ways.Anonymous name text says same offers claims = tt
+  init_alike Says ways.External name text says same offers claims = tt
+
+  response_init : (Says : List ℕ → Type 0) (way : Way) (name : List ℕ) (response : Option (List ℕ))
+      → ((text : List ℕ) → response ≡ Some text → Says text) → name ≡ way_name way → is_offered_by settings way ≡ true
+      → ((user : List ℕ) → ClaimIn name response (Some user) → Agrees Says user) → Init way response
+  response_init Says way name (Some text) says same offers claims =
+      init_alike Says way name text (says text refl) same offers claims
+  response_init Says (ways.Scram version plus) name None says same offers claims = tt
+  response_init Says ways.Plain name None says same offers claims = tt
+  response_init Says ways.Anonymous name None says same offers claims = tt
+  response_init Says ways.External name None says same offers claims = tt
+
+  offered_so : (way : Way) (nonce : List ℕ) (is : Bool)
+      → (if is then ResponseAsked way nonce else NotStarted) ≡ ResponseAsked way nonce → is ≡ true
+  offered_so way nonce true same = refl
+  offered_so way nonce false same = absurd (cc)
+
+  offered : (way : Way) (nonce : List ℕ) → IsRestored settings (ResponseAsked way nonce)
+      → is_offered_by settings way ≡ true
+  unfolding IsRestored
+  offered way nonce was = offered_so way nonce (is_offered_by settings way) was
+
+  -- the record of a user is one
+  one_record : (Says : List ℕ → Type 0) (version : ScramVersion) (plus : Bool) (user : List ℕ)
+      → is_offered_by settings (ways.Scram version plus) ≡ true → Agrees Says user
+      → record_now passed version plus user ≡ record_now settings version plus user
+  one_record Says version plus user offers agrees = ap or_no_record (agrees.scram version plus offers)
+
+  opened_so : (version : ScramVersion) (plus binds : Bool) (exchange now : OpenExchange) (is : Bool)
+      → (if is then ExchangeOpen version binds now else NotStarted) ≡ ExchangeOpen version plus exchange → is ≡ true
+  opened_so version plus binds exchange now true same = refl
+  opened_so version plus binds exchange now false same = absurd (cc)
+
+  opened : (version : ScramVersion) (plus : Bool) (exchange : OpenExchange)
+      → IsRestored settings (ExchangeOpen version plus exchange)
+      → is_offered_by settings (ways.Scram version (is_required exchange.challenge.header.flag)) ≡ true
+  unfolding IsRestored
+  opened version plus exchange was = opened_so version plus (is_required exchange.challenge.header.flag) exchange
+      (exchange_now settings version exchange.challenge)
+      (is_offered_by settings (ways.Scram version (is_required exchange.challenge.header.flag))) was
+
+  response_alike : (scram : ScramStruct) (stage other : ServerStage) (text : List ℕ) → Looks stage other
+      → IsRestored settings stage → IsRestored passed other → ShowsStage scram (kept_stage stage)
+      → ((user : List ℕ) → FrameNames scram turns.Response (frames.Response text) user
+      → Agrees (CarriesText (frames.Response text)) user)
+      → ResponseAlike settings records rights None plain stage other text
+  response_alike scram (ResponseAsked way nonce) other text looks was is shows names =
+      init_alike (CarriesText (frames.Response text)) way (way_name way) text refl refl (offered way nonce was)
+      (λ user claims. names user (inr (way, nonce, shows, claims)))
+  response_alike scram (ExchangeOpen version plus exchange) (ExchangeOpen other_version other_plus other) text looks was is
+      shows names =
+      let challenge = exchange.challenge in
+      let agrees = names challenge.user (inl (challenge, shows.1, refl)) in (
+        stored_now passed other_version other_plus other is
+            ∙ (ap (λ (v : ScramVersion). record_now passed v (is_required other.challenge.header.flag) other.challenge.user)
+            looks.0
+            ∙ (ap (λ (c : ServerChallenge). record_now passed version (is_required c.header.flag) c.user) looks.2
+            ∙ (one_record (CarriesText (frames.Response text)) version (is_required challenge.header.flag) challenge.user
+            (opened version plus exchange was) agrees
+            ∙ sym (stored_now settings version plus exchange was)))),
+        agrees.may challenge.header.acts_for,
+      )
+  response_alike scram stage other text looks was is shows names = tt
+
+  carried_so : (name text : List ℕ) (response hostname : Option (List ℕ)) → response ≡ Some text
+      → CarriesText (frames.Init name response hostname) text
+  carried_so name text None hostname said = absurd (cc)
+  carried_so name text (Some own) hostname said = let one : text ≡ own = cc in one
+
+  frame_alike : (scram : ScramStruct) (turn : FrameKind) (stage other : ServerStage) (frame : SaslFrame)
+      → IsInTurn turn frame → Looks stage other → IsRestored settings stage → IsRestored passed other
+      → ShowsStage scram (kept_stage stage) → ((user : List ℕ) → FrameNames scram turn frame user
+      → Agrees (CarriesText frame) user)
+      → FrameAlike settings records rights None plain stage other frame
+  frame_alike scram turns.Init stage other (frames.Init name response hostname) in_turn looks was is shows names =
+      λ way asks. let offers = asked_offers settings name way offer_order asks in
+      response_init (CarriesText (frames.Init name response hostname)) way name response
+      (λ text said. carried_so name text response hostname said) offers.0 offers.1 names
+  frame_alike scram turns.Response stage other (frames.Response text) in_turn looks was is shows names =
+      response_alike scram stage other text looks was is shows names
+  frame_alike scram turns.Mechanisms stage other (frames.Init name response hostname) in_turn looks was is shows names =
+      absurd in_turn
+  frame_alike scram turns.Challenge stage other (frames.Init name response hostname) in_turn looks was is shows names =
+      absurd in_turn
+  frame_alike scram turns.Response stage other (frames.Init name response hostname) in_turn looks was is shows names =
+      absurd in_turn
+  frame_alike scram turns.Outcome stage other (frames.Init name response hostname) in_turn looks was is shows names =
+      absurd in_turn
+  frame_alike scram turns.SignatureChallenge stage other (frames.Init name response hostname) in_turn looks was is shows
+      names = absurd in_turn
+  frame_alike scram turns.Mechanisms stage other (frames.Response text) in_turn looks was is shows names = absurd in_turn
+  frame_alike scram turns.Init stage other (frames.Response text) in_turn looks was is shows names = absurd in_turn
+  frame_alike scram turns.Challenge stage other (frames.Response text) in_turn looks was is shows names = absurd in_turn
+  frame_alike scram turns.Outcome stage other (frames.Response text) in_turn looks was is shows names = absurd in_turn
+  frame_alike scram turns.SignatureChallenge stage other (frames.Response text) in_turn looks was is shows names =
+      absurd in_turn
+  frame_alike scram turn stage other (frames.Mechanisms offers) in_turn looks was is shows names = tt
+  frame_alike scram turn stage other (frames.Challenge text) in_turn looks was is shows names = tt
+  frame_alike scram turn stage other (frames.Outcome code more) in_turn looks was is shows names = tt
+
+-- ---- what is named
+
+-- the body that is read
+read_so : (accepts : Bool) (turn : FrameKind) (come : List ℕ)
+    → drop 4 (unit_read accepts (Frame turn) (take (size_of come) come)) ≡ body_read accepts (drop 4 (take (size_of come) come))
+read_so false turn come = refl
+read_so true turn come = body_of-framed (unextended (drop 4 (take (size_of come) come)))
+
+frame_completes : (before : Struct) (other : Side Logged) (bytes : List ℕ) (turn : FrameKind) (frame : SaslFrame)
+    → Keeps before.connection other.progress other.expected other.held → other.limit ≡ 512 → other.progress ≡ InProgress
+    → other.expected ≡ Frame turn → IsWhole other.expected other.limit (other.held ++ bytes)
+    → SpellsBody (drop 4 (unit_read (accepts_extended before.connection) other.expected
+    (take (unit_size other.expected (other.held ++ bytes)) (other.held ++ bytes)))) (Ok frame)
+    → (side : AnySide) × (body : List ℕ) × IsSideOf before.connection side × Completes side bytes turn body
+    × SpellsBody (read_by before body) (Ok frame)
+frame_completes before other bytes turn frame keeps limit wants due whole spells =
+    let come = other.held ++ bytes in
+    let accepts = accepts_extended before.connection in
+    let side : AnySide = record {
+      progress = other.progress;
+      expected = other.expected;
+      limit = other.limit;
+      held = other.held;
+      state = tt;
+    } in
+    let read = subst (λ (e : Expected). SpellsBody (drop 4 (unit_read accepts e (take (unit_size e come) come))) (Ok frame)) due
+    spells in (
+      side,
+      drop 4 (take (size_of come) come),
+      (keeps, limit),
+      (wants, due, subst (λ (e : Expected). IsWhole e other.limit come) due whole, refl),
+      subst (λ (b : List ℕ). SpellsBody b (Ok frame)) (read_so accepts turn come) read,
+    )
+
+named_by : (before : Struct) (bytes user : List ℕ) (turn : FrameKind) (frame : SaslFrame)
+    → (side : AnySide) × (body : List ℕ) × IsSideOf before.connection side × Completes side bytes turn body
+    × SpellsBody (read_by before body) (Ok frame)
+    → FrameNames before.scram turn frame user → Named before bytes user
+unfolding Named
+named_by before bytes user turn frame (side, body, is, done, spells) names =
+    (side, turn, body, is, done, (frame, spells, names))
+
+plain_by : (before : Struct) (bytes text : List ℕ) (turn : FrameKind) (frame : SaslFrame) (parts : PlainParts)
+    → (side : AnySide) × (body : List ℕ) × IsSideOf before.connection side × Completes side bytes turn body
+    × SpellsBody (read_by before body) (Ok frame)
+    → CarriesText frame text → SpellsPlain parts text → CompletesPlain before bytes parts
+plain_by before bytes text turn frame parts (side, body, is, done, spells) carries parted =
+    (side, turn, body, is, done, (frame, text, spells, carries, parted))
+
+keeps_of : (config : Config) (before : Struct) (other : Side Logged) → IsServer config before other
+    → Keeps before.connection other.progress other.expected other.held × (other.limit ≡ 512)
+unfolding IsServer ShowsSide
+keeps_of config before other is = (is.0.0, is.1)
+
+-- ---- the law
+
+-- what a configuration has of a user agrees with what the store has
+agrees_so : (Says : List ℕ → Type 0) (settings : ServerSettings) (before : Struct) (bytes : List ℕ) (config : Config)
+    (user : List ℕ) (records : MultiRecords) (rights : Rights) (plain : ScramVersion)
+    → ((text : List ℕ) (parts : PlainParts) → Says text → SpellsPlain parts text → CompletesPlain before bytes parts)
+    → ShowRecords config.username.now config.records.now records
+    → rights ≡ rights_for config.username.now config.identities.now → plain ≡ version_of_first records
+    → HasStoredUser settings before bytes config user → Agrees settings records rights plain Says user
+agrees_so Says settings before bytes config user records rights plain done shows right first has = record {
+  scram = λ version plus offers. has.scram records version plus shows offers;
+  plain_meets = λ text parts password says spells offers tested.
+      subst (λ (v : ScramVersion). MeetsUser (provider_for v records) user password
+      ↔ MeetsUser (provider_for settings.plain_version settings.records) user password) (sym first)
+      (has.plain records parts password shows offers (done text parts says spells) tested);
+  may = λ acts_for. ap (λ (r : Rights). may_act r user acts_for)
+      (right ∙ ap (λ (u : List ℕ). rights_for u config.identities.now) has.username) ∙ has.rights acts_for;
+}
+
+-- settings with a store's
+over_store : (own settings : ServerSettings) (records : MultiRecords) (rights : Rights) (plain : ScramVersion)
+    → settings ≡ over settings.records settings.rights settings.mock settings.plain_version own
+    → over records rights None plain own ≡ over records rights None plain settings
+over_store own settings records rights plain same = sym (ap (over records rights None plain) same)
+
+one_store : (base : Config) (settings : ServerSettings) → AreStoreSettings base settings → (accepts : Bool) (config : Config)
+    (before : Struct) (bytes : List ℕ) (side : Side ServerAt) (other : Side Logged)
+    → OneConfiguration base config × RecordsOfOneStore settings before bytes config
+    → IsOfSide accepts settings before side → IsServer config before other → other.progress ≡ InProgress
+    → IsAlike accepts settings side other bytes
+one_store base settings (own, are, same) accepts config before bytes side other passes of is wants =
+    let meant = over_base base config own other.state.server.settings passes.0 are
+    (settings_of accepts settings config before other is wants) in
+    let now = meant.6 ∙ over_store own settings meant.0 meant.1 meant.2 same in
+    let one = same_side accepts settings config before side other of is wants in
+    let going = goes_on accepts settings before side other one wants in
+    let has = of.goes going in
+    let restores = restores_of accepts settings config before other is wants in
+    let again = restored_so (over meant.0 meant.1 None meant.2 settings) other.state.server.stage restores.0
+    (restores.2 ∙ ap (λ (s : ServerSettings). restored_stage s restores.0) now) in
+    let keeps = keeps_of config before other is in
+    let shown = shows_going before.scram side.progress (kept_stage side.state.stage) going of.stands.login in (
+      meant.0,
+      meant.1,
+      None,
+      meant.2,
+      now,
+      λ looks turn frame due whole spells in_turn.
+          let done = frame_completes before other bytes turn frame keeps.0 keeps.1 wants due whole
+          (subst (λ (b : Bool). SpellsBody (drop 4 (unit_read b other.expected
+          (take (unit_size other.expected (other.held ++ bytes)) (other.held ++ bytes)))) (Ok frame))
+          (sym of.stands.extended) spells) in
+          frame_alike settings meant.0 meant.1 meant.2 before.scram turn side.state.stage other.state.server.stage frame in_turn
+          looks has.2 again shown (λ user names. agrees_so (CarriesText frame) settings before bytes config user meant.0 meant.1
+          meant.2 (λ text parts says parted. plain_by before bytes text turn frame parts done says parted) meant.3 meant.4
+          meant.5 (passes.1 user (named_by before bytes user turn frame done names))),
+    )
+
+pub calls_with_one_store : CallsWithOneStoreConnect
+calls_with_one_store base settings before last calls stream sent rest are is over =
+    let accepts = accepts_extended before.connection in
+    let all = calls_connect accepts settings
+    (λ server bytes passed. OneConfiguration base passed × RecordsOfOneStore settings server bytes passed)
+    (λ passed server bytes side other passes of serves wants. one_store base settings are accepts passed server bytes side
+    other passes of serves wants) before last (fresh 512 (server_with settings)) calls stream sent rest
+    (is_first settings before is) over in
+    (all.0, all.1, all.2.stands)
+
+-- ---- a user whom the store has
+
+stored_without : (settings : ServerSettings) (version : ScramVersion) (plus : Bool) (user : List ℕ) → settings.mock ≡ None
+    → record_at (provider_for version settings.records).records user ≡ (provider_by settings version plus).records user
+stored_without settings version plus user none = sym (ap (λ (mock : Option MockChoice).
+    stored_or (option_map (λ m. mock_record m user) (option_map (mock_for version) mock))
+    (record_at (provider_for version settings.records).records user)) none)
+
+pub stored_users_are_had : StoredUsersAreHad
+stored_users_are_had settings server bytes config user records none named shows alike first may = record {
+  username = named;
+  scram = λ others version plus has offers. ap (λ (r : MultiRecords). record_at (provider_for version r).records user)
+      (one others has) ∙ (alike version ∙ stored_without settings version plus user none);
+  plain = λ others parts password has offers done tested. let hash = ap version_of_first (one others has) ∙ first in
+      let same = ap (λ (r : MultiRecords). record_at (provider_for settings.plain_version r).records user) (one others has)
+      ∙ alike settings.plain_version in
+      meets_alike others (version_of_first others) password hash same;
+  rights = may;
+}
+  where
+    one : (others : MultiRecords) → ShowRecords config.username.now config.records.now others → others ≡ records
+    one others has = one_records config.username.now config.records.now others records has shows
+
+    meets_alike : (others : MultiRecords) (version : ScramVersion) (password : PasswordText)
+        → version ≡ settings.plain_version
+        → record_at (provider_for settings.plain_version others).records user
+        ≡ record_at (provider_for settings.plain_version settings.records).records user
+        → MeetsUser (provider_for version others) user password
+        ↔ MeetsUser (provider_for settings.plain_version settings.records) user password
+    meets_alike others version password hash same = subst (λ (v : ScramVersion). MeetsUser (provider_for v others) user password
+        ↔ MeetsUser (provider_for settings.plain_version settings.records) user password) (sym hash) (
+          (λ meets. (meets.0, sym same ∙ meets.1, meets.2)),
+          λ meets. (meets.0, same ∙ meets.1, meets.2),
+        )
