@@ -64,7 +64,7 @@ static void need(uint32_t status, const char *what) {
 
 static void make_login(struct login *login, uint32_t version) {
     login->who = (struct fe2o3_login){version, 0, FE2O3_TYPED, 1, UINT32_MAX, TEXT("user"), FE2O3_NONE, TEXT("pencil"),
-        &login->keys, 0};
+        &login->keys, 0, 0, 0, 0, 0, {0}};
     need(fe2o3_scram_record_make(version, FE2O3_TYPED, TEXT("pencil"), salt, sizeof salt, 1, &login->record), "a record");
     need(fe2o3_scram_keys_make(version, FE2O3_TYPED, TEXT("pencil"), salt, sizeof salt, 1, &login->keys), "keys");
     need(fe2o3_scram_client_first(&login->who, &client, client_nonce, ROOM(login->client_first)), "client-first");

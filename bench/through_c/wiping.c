@@ -37,7 +37,7 @@ static double now(void) {
 
 int main(void) {
     struct fe2o3_login who = {FE2O3_SHA_256, FE2O3_BY_KEYS, FE2O3_TYPED, 1, 4096, TEXT("user"), FE2O3_NONE, FE2O3_NONE,
-        &keys, 0};
+        &keys, 0, 0, 0, 0, 0, {0}};
     double least = 0;
     uint32_t status = fe2o3_scram_record_make(FE2O3_SHA_256, FE2O3_TYPED, TEXT("pencil"), salt, 32, 1, &record);
     status |= fe2o3_scram_keys_make(FE2O3_SHA_256, FE2O3_TYPED, TEXT("pencil"), salt, 32, 1, &keys);

@@ -204,7 +204,7 @@ static void draw_server(struct fe2o3_scram_server *server)
 {
     fill(server, sizeof *server);
     if (below(2)) {
-        server->state = below(7);
+        server->state = below(10);
         server->user_len = below(5);
         memcpy(server->user, "user", 4);
         server->bare_len = below(1026);

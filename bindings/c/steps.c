@@ -634,6 +634,16 @@ static void initial_response_by_challenge(void)
     told("ANONYMOUS", "an init without an initial response is not asked for it",
         answers(&server, &config, TEXT("\2\1\0\0\0\x53\x41\xc0\14\1\xa3\11ANONYMOUS"), TEXT(BARE_OK),
             FE2O3_AUTHENTICATED));
+    server = asked();
+    server.state = 6;
+    told("SCRAM-SHA-256", "a state of before counts as the initial one",
+        answers(&server, &config, TEXT(LATE_FIRST), TEXT(BARE_AUTH), FE2O3_REFUSED_AUTH)
+            && rejects(&server, FE2O3_REJECTION_UNEXPECTED_RESPONSE));
+    server = asked();
+    config.mechanisms = FE2O3_OFFER_PLAIN | FE2O3_INITIAL_RESPONSE_BY_CHALLENGE;
+    told("SCRAM-SHA-256", "an init that was asked, at a server that does not offer its mechanism",
+        answers(&server, &config, TEXT(LATE_FIRST), TEXT(BARE_AUTH), FE2O3_REFUSED_AUTH)
+            && rejects(&server, FE2O3_REJECTION_UNEXPECTED_RESPONSE));
     config.mechanisms = FE2O3_INITIAL_RESPONSE_BY_CHALLENGE;
     told("nothing", "offered, but to ask for initial responses",
         fe2o3_sasl_server_offer(&config, ROOM(out)) == FE2O3_NO_SUCH_MECHANISM);

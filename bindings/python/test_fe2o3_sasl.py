@@ -1465,7 +1465,7 @@ class Connections(Case):
         init, refused = frame_of(INIT, short(0xA3, b"PLAIN"), NULL, short(0xA1, b"host")), frame_of(OUTCOME, b"\x50\1")
         saved = ServerConnection(known, mechanisms=offer)
         self.assertTrue(saved.receive(SASL_HEADER + init)[0].endswith(frame_of(CHALLENGE, short(0xA0, b""))))
-        self.assertEqual((saved.progress, saved._struct.scram.state), (Progress.IN_PROGRESS, 6))
+        self.assertEqual((saved.progress, saved._struct.scram.state), (Progress.IN_PROGRESS, 5))
         self.refused(Status.SERVER_ILLEGAL_AUTHENTICATOR_STATE, saved.authenticated_user)
         for frame, sent, why in (
             (frame_of(RESPONSE, short(0xA0, b"\0user\0pencil")), frame_of(OUTCOME, b"\x50\0"), None),
@@ -1977,8 +1977,8 @@ class Steps(Case):
             with nonces(init_nonce):
                 self.assertEqual((asked.on_frame(init), asked.progress, names), (empty, Progress.IN_PROGRESS, []))
             self.refused(Status.SERVER_ILLEGAL_AUTHENTICATOR_STATE, asked.authenticated_user)
-            saved = fe2o3_sasl._ScramServerStruct(state=6 if host else 5)
-            for field, text in (("first", mechanism.encode()), ("nonce", init_nonce), ("bare", host)):
+            saved = fe2o3_sasl._ScramServerStruct(state=5)
+            for field, text in (("first", mechanism.encode()), ("nonce", init_nonce)):
                 setattr(saved, field + "_len", len(text))
                 ctypes.memmove(getattr(saved, field), text, len(text))
             self.assertEqual(bytes(asked._struct), bytes(saved))
@@ -2235,15 +2235,13 @@ class Steps(Case):
             login.login.signature_by_challenge = bits.randrange(2)
             client, server = filled(fe2o3_sasl._ScramClientStruct), filled(fe2o3_sasl._ScramServerStruct)
             client.state, client.signature_len = bits.randrange(5), bits.choice((32, bits.randrange(66)))
-            server.state, server.user_len = bits.randrange(7), 1
+            server.state, server.user_len = bits.randrange(10), 1
             server.bare_len, server.nonce_len = bits.randrange(1026), bits.randrange(514)
             server.first_len, server.user[0] = bits.randrange(1026), ord("u")
-            if server.state in (5, 6) and bits.randrange(2):
+            if server.state == 5 and bits.randrange(2):
                 # (a server that has asked for the initial response of SCRAM)
-                server = fe2o3_sasl._ScramServerStruct(state=server.state, first_len=13, nonce_len=32)
+                server = fe2o3_sasl._ScramServerStruct(state=5, first_len=13, nonce_len=32)
                 ctypes.memmove(server.first, b"SCRAM-SHA-256", 13)
-                server.bare_len = 4 * (server.state - 5)
-                ctypes.memmove(server.bare, b"host", server.bare_len)
             any_bytes = bytes(bits.randrange(256) for _ in range(bits.randrange(20)))
             signature = base64_of(bytes(client.signature)[:32])
             asked("fe2o3_sasl_client_step", login, client, bits.choice((

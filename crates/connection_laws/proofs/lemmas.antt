@@ -62,3 +62,4 @@ pub mod PolicyBoundLemmas
 pub mod PolicyProfileLemmas
 pub mod PolicyChoiceLemmas
 pub mod PolicyDivisionLemmas
+pub mod PolicyUnalteredLemmas

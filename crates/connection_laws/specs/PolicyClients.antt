@@ -2,16 +2,22 @@
 -- (AMQP 1.0, part 5, sections 5.3.2 and 5.3.3.2; RFC 5802, sections 3 and 5). Each law is the contract of a clause in
 -- `policy_clients`.
 use Rattle.std.specs.Prelude.{◌≡◌, ◌≢◌, ◌⊎◌, ◌+◌, ◌*◌, ◌<◌, ◌≤◌, ◌^◌, ◌++◌, ℕ, false, Option, Some, None, List, [], length, Ok}
+use Rattle.std.specs.List.{AllByRecursion}
 use Rattle.std.specs.Str.{IsUtf8}
 use Rattle.fe2o3_sasl_wire.specs.SaslFrames as frames
 use Rattle.fe2o3_sasl_wire.specs.SaslFrames.{IsBytes}
 use Rattle.fe2o3_scram.specs.ChannelBinding.{HoldsHeaderBytes, authzid_text}
+use Rattle.fe2o3_scram.specs.Credentials.{Provider}
 use Rattle.fe2o3_scram.specs.ScramClient.{ClientSide, identity_named}
+use Rattle.fe2o3_scram.specs.ScramServer.{Initial}
 use Rattle.fe2o3_scram.specs.declared.scram_messages.client_channel.ClientChannel.TheVariants.{Absent}
 use Rattle.fe2o3_sasl_core.specs.Bodies.{SpellsBody}
 use Rattle.fe2o3_sasl_core.specs.ClientPolicy.{secret_for, unbound_channel, bound_channel}
 use Rattle.fe2o3_sasl_core.specs.Events.{IsLogin, IsSecret, Login}
 use Rattle.fe2o3_sasl_core.specs.Profiles.{Profile, ScramProfile, scram_profile}
+use Rattle.fe2o3_sasl_core.specs.SaslAcceptor.{Acceptor, ScramAcceptor, acceptor_machine, acceptor_names}
+use Rattle.fe2o3_sasl_core.specs.TwoSides.{sides_of}
+use Rattle.fe2o3_sasl_core.specs.UnalteredRuns.{HoldsLogin}
 use Rattle.fe2o3_sasl_core.specs.declared.sasl_profile.error.ProfileError.TheVariants.{NotImplemented}
 use Rattle.fe2o3_sasl_negotiation.specs.declared.progress.CloseReason.TheVariants.{Mechanism as ProfileRefused}
 use Rattle.fe2o3_sasl_negotiation.specs.declared.progress.Expected.TheVariants.{Frame}
@@ -27,8 +33,11 @@ use Rattle.fe2o3_sasl_negotiation.specs.PolicyClient.{IsSelected, NoneIsSelected
 use Rattle.fe2o3_sasl_negotiation.specs.PolicyLaws.{side_in_state}
 use Rattle.fe2o3_sasl_negotiation.specs.Retries.{RetriedCalls}
 use Rattle.fe2o3_sasl_negotiation.specs.ScramConnections.{ScramReports}
+use Rattle.fe2o3_sasl_negotiation.specs.ServerNegotiation.{ServerReceives}
 use Rattle.connection_laws.specs.Cuts.{CallsEndEqually, taken_pieces}
+use Rattle.connection_laws.specs.JoinedSides.{AreEnough}
 use Rattle.connection_laws.specs.Pairs.{ClientOf}
+use Rattle.connection_laws.specs.Unaltered.{BothLogIn, FitsFrames, HasNonce, Joined}
 
 -- ---- a client that has selected a profile
 
@@ -67,6 +76,15 @@ SelectedProfilesActAsClient = (selection : Selection) (limit : ℕ) (calls : Lis
     → ReadsOffer limit stream rest names → IsSelected selection names profile
     → Calls (ClientReceives selection.hostname) (fresh limit profile) calls stream sent last rest
     → Calls (PolicyReceives selection) (fresh limit None) calls stream sent (side_in_state last (Some last.state)) rest
+
+-- a new client that has read an offer from which a profile is selected has selected it, and acts as a client of it
+abbrev pub OfferedClientsSelect : Type 0
+OfferedClientsSelect = (selection : Selection) (limit : ℕ) (calls : List Call) (stream sent rest : List ℕ)
+    (last : Side (Option Profile)) (names : List (List ℕ)) (profile : Profile) → limit < 2 ^ 32 → IsBytes stream
+    → ReadsOffer limit stream rest names → IsSelected selection names profile
+    → Calls (PolicyReceives selection) (fresh limit None) calls stream sent last rest
+    → (now : Profile) × (last.state ≡ Some now)
+    × Calls (ClientReceives selection.hostname) (fresh limit profile) calls stream sent (side_in_state last now) rest
 
 -- an offer has one such profile at most, and none where the client selects none
 abbrev pub OneIsSelected : Type 0
@@ -131,8 +149,8 @@ pub record IsLoginOf (selection : Selection) (login : Login) : Type 0 where
   pub hostname : login.hostname ≡ selection.hostname
 
 -- the calls make a connection of a SCRAM client of a login, whose profile is selected from the offer that was read: its pieces
--- are the bytes that each call took, with its nonce. So the laws of `pairs` hold of it, and the headline theorem does
--- (`ScramReports`)
+-- are the bytes that each call took, with its nonce. So the laws of `pairs` and of `server_pairs` hold of it, and the headline
+-- theorem does (`ScramReports`)
 pub record IsScramClient (selection : Selection) (limit : ℕ) (calls : List Call) (stream sent rest : List ℕ)
     (last : Side Profile) : Type 0 where
   pub names : List (List ℕ)
@@ -171,12 +189,64 @@ pub record HoldsSelection (selection : Selection) : Type 0 where
   pub identity : IsUtf8 (authzid_text (identity_named selection.acts_for))
   pub hostname : (text : List ℕ) → selection.hostname ≡ Some text → IsUtf8 text
 
--- each login of a selection meets the premises of the laws of `pairs`: the code holds of it what they ask, and a client with a
--- channel has one, bound or not
+-- each login of a selection meets the premises of the laws of `pairs` and of `server_pairs`: the code holds of it what they ask,
+-- and a client with a channel has one, bound or not
 abbrev pub LoginsMeetPremises : Type 0
 LoginsMeetPremises = (selection : Selection) (login : Login) → IsLoginOf selection login
     → (HoldsSelection selection → IsLogin login × IsSecret login.secret)
     × (selection.policy.channel ≢ None → login.channel ≢ Absent)
+
+-- ---- where nothing is altered
+
+-- a client and a SCRAM server that are joined, as `Joined` says of a client of one profile: each receives what the other sends,
+-- the server after the client's header, in whatever calls, and in the end each has taken all of it
+pub record JoinedByPolicy (selection : Selection) (provider : Provider) (client : Side (Option Profile))
+    (server : Side Acceptor) : Type 0 where
+  pub client_limit : ℕ
+  pub server_limit : ℕ
+  pub client_calls : List Call
+  pub server_calls : List Call
+  pub client_sent : List ℕ
+  pub server_sent : List ℕ
+  pub client_takes : Calls (PolicyReceives selection) (fresh client_limit None) client_calls server_sent client_sent client []
+  pub server_takes : Calls (ServerReceives acceptor_names acceptor_machine)
+      (fresh server_limit (ScramAcceptor provider Initial)) server_calls (sasl_header ++ client_sent) server_sent
+      server []
+
+-- both sides take frames of 512 bytes, as AMQP requires, and no size of a frame has more than 32 bits; their nonces have 32 bytes
+pub record TakesPolicyFrames {selection : Selection} {provider : Provider} {client : Side (Option Profile)}
+    {server : Side Acceptor} (joined : JoinedByPolicy selection provider client server) : Type 0 where
+  pub client_limit : 512 ≤ joined.client_limit
+  pub server_limit : 512 ≤ joined.server_limit
+  pub client_size : joined.client_limit < 2 ^ 32
+  pub client_nonces : AllByRecursion HasNonce joined.client_calls
+  pub server_nonces : AllByRecursion HasNonce joined.server_calls
+
+-- a client and a SCRAM server that are joined both log in, if the client selects the profile of a login from the server's one
+-- mechanism, and that login meets the premises of `UnalteredSidesLogIn`. The client has selected that profile
+abbrev pub UnalteredPolicyClientsLogIn : Type 0
+UnalteredPolicyClientsLogIn = (selection : Selection) (login : Login) (provider : Provider) (password salt : List ℕ)
+    (count : ℕ) (client : Side (Option Profile)) (server : Side Acceptor)
+    (joined : JoinedByPolicy selection provider client server) → IsBytes joined.server_sent
+    → login.hostname ≡ selection.hostname
+    → IsSelected selection (acceptor_names (ScramAcceptor provider Initial)) (scram_profile login) → IsLogin login
+    → HoldsLogin (sides_of login [] [] provider [] []) password salt count → FitsFrames login salt
+    → TakesPolicyFrames joined
+    → (now : Profile) × (client.state ≡ Some now)
+    × ((both : Joined login provider (side_in_state client now) server) × BothLogIn both salt count)
+
+-- a client and a server that are joined exist, for all calls that are enough for the bytes of the login (`AreEnough`)
+abbrev pub JoinedPolicySidesExist : Type 0
+JoinedPolicySidesExist = (selection : Selection) (login : Login) (provider : Provider) (password salt : List ℕ)
+    (count client_limit server_limit : ℕ) (client_calls server_calls : List Call) → login.hostname ≡ selection.hostname
+    → IsSelected selection (acceptor_names (ScramAcceptor provider Initial)) (scram_profile login) → IsLogin login
+    → HoldsLogin (sides_of login [] [] provider [] []) password salt count → FitsFrames login salt
+    → 512 ≤ client_limit → 512 ≤ server_limit → client_limit < 2 ^ 32 → AllByRecursion HasNonce client_calls
+    → AllByRecursion HasNonce server_calls → AreEnough 1544 4 client_calls → AreEnough 1032 3 server_calls
+    → (client : Side (Option Profile)) × (server : Side Acceptor)
+    × ((joined : JoinedByPolicy selection provider client server) × TakesPolicyFrames joined
+    × (joined.client_calls ≡ client_calls) × (joined.server_calls ≡ server_calls)
+    × (client.progress ≡ Authenticated) × (server.progress ≡ Authenticated))
 
 -- ---- in any division
 

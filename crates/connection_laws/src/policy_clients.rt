@@ -1,7 +1,7 @@
 //! What the bytes of a connection say of a `PolicyClient`, which selects its mechanism from the server's offer: what it does
 //! before and after it has selected one, and what it costs.
 
-ghost use Rattle.connection_laws.specs.PolicyClients.{LoginsMeetPremises, OneIsSelected, PolicyCallsEndEqually, PolicyClientsAreBounded, PolicyClientsCost, PolicyClientsRetry, ScramClientsReportSelected, SelectedClientsActAsProfile, SelectedProfilesActAsClient, UnselectedClientsSendNothing};
+ghost use Rattle.connection_laws.specs.PolicyClients.{JoinedPolicySidesExist, LoginsMeetPremises, OfferedClientsSelect, OneIsSelected, PolicyCallsEndEqually, PolicyClientsAreBounded, PolicyClientsCost, PolicyClientsRetry, ScramClientsReportSelected, SelectedClientsActAsProfile, SelectedProfilesActAsClient, UnalteredPolicyClientsLogIn, UnselectedClientsSendNothing};
 
 /// States that a [`PolicyClient`](fe2o3_sasl_negotiation::PolicyClient) that has selected a profile is a client of this
 /// profile, over any bytes, in whatever calls they are passed.
@@ -12,12 +12,14 @@ ghost use Rattle.connection_laws.specs.PolicyClients.{LoginsMeetPremises, OneIsS
 ///   of mechanisms. The profile is selected from this list (`IsSelected`): that of the strongest mechanism that the policy
 ///   allows and for which the secret serves.
 /// - `reverse`: the calls of a fresh client of such a profile are calls of the policy client.
+/// - `offered`: a client that has read a list of mechanisms from which a profile is selected has selected it.
 /// - `one`: a list of mechanisms has one such profile at most.
 ///
 /// So all laws of clients hold of it.
 pub fn selected()
     ensures acts { SelectedClientsActAsProfile }
     ensures reverse { SelectedProfilesActAsClient }
+    ensures offered { OfferedClientsSelect }
     ensures one { OneIsSelected }
 {}
 
@@ -41,11 +43,24 @@ pub fn unselected()
 ///   call took, with its nonce. It reports Ok exactly on the signature of its open answered challenge. On each verifier that
 ///   it took and a server issued, both sides agree, or their own AuthMessages share one HMAC value. The login is that of the
 ///   selection (`IsLoginOf`).
-/// - `premises`: each login of a selection meets what the laws of [`pairs`](crate::pairs) ask of a login, of its secret and
-///   of its channel. So these laws hold of the client too.
+/// - `premises`: each login of a selection meets what the laws of [`pairs`](crate::pairs) and of
+///   [`server_pairs`](crate::server_pairs) ask of a login, of its secret and of its channel. So these laws hold of the client
+///   too.
 pub fn scram()
     ensures reports { ScramClientsReportSelected }
     ensures premises { LoginsMeetPremises }
+{}
+
+/// States that a [`PolicyClient`](fe2o3_sasl_negotiation::PolicyClient) and a SCRAM server that receive each other's bytes
+/// both log in, in whatever pieces their bytes arrive.
+///
+/// - `log_in`: the client selects the profile of a login from the server's mechanism. The other premises are those of
+///   [`unaltered`](crate::unaltered::unaltered) for that login, and that sizes of frames have 32 bits. Then the two sides are
+///   such as `unaltered` speaks of, so that they mean one login.
+/// - `exist`: such a client and such a server exist, for all calls that are enough for the bytes of the login.
+pub fn unaltered()
+    ensures log_in { UnalteredPolicyClientsLogIn }
+    ensures exist { JoinedPolicySidesExist }
 {}
 
 /// States for a [`PolicyClient`](fe2o3_sasl_negotiation::PolicyClient) what [`one_result`](crate::cuts::one_result) states

@@ -1,4 +1,5 @@
--- Two divisions of a stream into calls of a client that selects its mechanism: `policy_calls_end_equally`.
+-- Two divisions of a stream into calls of a client that selects its mechanism: `policy_calls_end_equally`. What the client
+-- has selected where an offer was read: `offered_clients_select`.
 use Rattle.std.proofs.Common.{◌≡◌, ◌≢◌, ◌⊎◌, ℕ, ◌+◌, ◌<◌, ◌^◌, Option, Some, None, List, [], ◌++◌, length, take, refl, sym, ◌∙◌, ap, subst, inl, inr, arith, append_assoc, Ok}
 use Rattle.std.proofs.lemmas.List.{append-nil}
 use Rattle.fe2o3_sasl_wire.specs.SaslFrames as frames
@@ -10,6 +11,7 @@ use Rattle.fe2o3_sasl_core.proofs.lemmas.frames.SpellingLemmas.{one_spelled_fram
 use Rattle.fe2o3_sasl_negotiation.specs.ClientNegotiation.{ClientReceives}
 use Rattle.fe2o3_sasl_negotiation.specs.Connections.{ClientConnection, LeftOver, Piece, PieceNonceAt, fresh}
 use Rattle.fe2o3_sasl_negotiation.specs.Framing.{Fits, framed, sasl_header}
+use Rattle.fe2o3_sasl_negotiation.specs.Laws.{Calls}
 use Rattle.fe2o3_sasl_negotiation.specs.Negotiations.{Side}
 use Rattle.fe2o3_sasl_negotiation.specs.PolicyClient.{IsSelected, PolicyReceives, PolicySideAnswers, Selection}
 use Rattle.fe2o3_sasl_negotiation.specs.PolicyLaws.{side_in_state}
@@ -21,16 +23,16 @@ use Rattle.fe2o3_sasl_negotiation.proofs.lemmas.ClientConnectionLemmas.{client_c
 use Rattle.fe2o3_sasl_negotiation.proofs.lemmas.ConnectionLemmas.{failed_is_not_in_progress}
 use Rattle.fe2o3_sasl_negotiation.proofs.lemmas.PolicyLawLemmas.{goes_on_by_profile, waiting}
 use Rattle.connection_laws.specs.Cuts.{EndEqually, HaveOneNonceEach}
-use Rattle.connection_laws.specs.PolicyClients.{HasNoOffer, IsUnselected, PolicyCallsEndEqually}
+use Rattle.connection_laws.specs.PolicyClients.{HasNoOffer, IsUnselected, OfferedClientsSelect, PolicyCallsEndEqually}
 use Rattle.connection_laws.proofs.lemmas.CutCallLemmas.{calls_end_equally}
 use Rattle.connection_laws.proofs.lemmas.CutConnectionLemmas.{clients_end_equally, other_is_not, part_is_short}
 use Rattle.connection_laws.proofs.lemmas.CutLemmas.{fits_small, no_frame_left, one_left_over}
-use Rattle.connection_laws.proofs.lemmas.FramesLemmas.{one_frame, without_header}
+use Rattle.connection_laws.proofs.lemmas.FramesLemmas.{one_frame, one_split, without_header}
 use Rattle.connection_laws.proofs.lemmas.PolicyByteLemmas.{unselected_more}
 use Rattle.connection_laws.proofs.lemmas.PolicyCallLemmas.{Stays, Takes, early_step, ended_rests}
 use Rattle.connection_laws.proofs.lemmas.PolicyChoiceLemmas.{one_is_selected}
 use Rattle.connection_laws.proofs.lemmas.PolicyProfileLemmas.{selected_side}
-use Rattle.connection_laws.proofs.lemmas.PolicySelectedLemmas.{offer_taken, unselected_is_early}
+use Rattle.connection_laws.proofs.lemmas.PolicySelectedLemmas.{NoneAfter, SomeAfter, new_calls, offer_taken, unselected_is_early}
 
 module _ (selection : Selection) (limit : ℕ) (small : limit < 2 ^ 32) where
   abbrev Connects : Profile → List Piece → List ℕ → List ℕ → Side Profile → Type 0
@@ -230,7 +232,7 @@ module _ (selection : Selection) (limit : ℕ) (small : limit < 2 ^ 32) where
       → names ≡ other
   names_of names other same = cc
 
-  one_offer : (taken body more other behind : List ℕ) (names again : List (List ℕ))
+  pub one_offer : (taken body more other behind : List ℕ) (names again : List (List ℕ))
       → taken ≡ sasl_header ++ (framed body ++ more) → taken ≡ sasl_header ++ (framed other ++ behind)
       → Fits limit (length body + 4) → Fits limit (length other + 4)
       → SpellsBody body (Ok (frames.Mechanisms names)) → SpellsBody other (Ok (frames.Mechanisms again)) → names ≡ again
@@ -241,20 +243,27 @@ module _ (selection : Selection) (limit : ℕ) (small : limit < 2 ^ 32) where
       names_of names again (one_spelled_frame other (frames.Mechanisms names) (frames.Mechanisms again)
       (subst (λ (b : List ℕ). SpellsBody b (Ok (frames.Mechanisms names))) bodies spells) spelt)
 
-  -- no client has selected a profile, and has not
+  -- a client that has selected no profile has read no offer from which one is selected
+  pub not_offered : {A : Type 0} (taken body more : List ℕ) (names : List (List ℕ)) (profile : Profile)
+      (end : Side (Option Profile)) → taken ≡ sasl_header ++ (framed body ++ more) → Fits limit (length body + 4)
+      → SpellsBody body (Ok (frames.Mechanisms names)) → IsSelected selection names profile
+      → IsUnselected selection limit taken end → A
+  not_offered taken body more names profile end carried fits spells selected (inl part) =
+      absurd (part_is_short limit None taken [] (framed body ++ more) end part carried)
+  not_offered taken body more names profile end carried fits spells selected (inr (inl other)) =
+      absurd (other_is_not None taken (framed body ++ more) end other carried)
+  not_offered taken body more names profile end carried fits spells selected (inr (inr (inl unread))) =
+      no_offer taken end end end body more names unread carried fits spells
+  not_offered taken body more names profile end carried fits spells selected (inr (inr (inr closed))) =
+      let same = one_offer taken body more closed.body [] names closed.names carried
+      (alone taken end end closed.body closed.carried) fits closed.fits spells closed.spells in
+      absurd ((one_is_selected selection closed.names profile
+      (subst (λ (n : List (List ℕ)). IsSelected selection n profile) same selected)).1 closed.none)
+
   not_both : {A : Type 0} (pieces : List Piece) (taken sent : List ℕ) (last end : Side (Option Profile))
       → IsSome pieces taken sent last → IsUnselected selection limit taken end → A
-  not_both pieces taken sent last end some (inl part) =
-      absurd (part_is_short limit None taken [] (framed some.body ++ some.more) end part some.carried)
-  not_both pieces taken sent last end some (inr (inl other)) =
-      absurd (other_is_not None taken (framed some.body ++ some.more) end other some.carried)
-  not_both pieces taken sent last end some (inr (inr (inl unread))) =
-      no_offer taken last end end some.body some.more some.names unread some.carried some.fits some.spells
-  not_both pieces taken sent last end some (inr (inr (inr closed))) =
-      let same = one_offer taken some.body some.more closed.body [] some.names closed.names some.carried
-      (alone taken last end closed.body closed.carried) some.fits closed.fits some.spells closed.spells in
-      absurd ((one_is_selected selection closed.names some.profile
-      (subst (λ (n : List (List ℕ)). IsSelected selection n some.profile) same some.selected)).1 closed.none)
+  not_both pieces taken sent last end some is = not_offered taken some.body some.more some.names some.profile end some.carried
+      some.fits some.spells some.selected is
 
   -- the side of a client that has selected a profile
   side_is : (side : Side (Option Profile)) (now : Profile) → side.state ≡ Some now
@@ -305,3 +314,31 @@ policy_calls_end_equally selection limit stream small are first second nonces =
     (λ pieces taken out side next bytes nonce more k is fine known receives.
     one_more selection limit small pieces taken out side next bytes nonce more k fine known receives is)
     (begins selection limit small) (ends_equally selection limit small) are first second nonces
+
+-- ---- where an offer was read
+
+pub offered_clients_select : OfferedClientsSelect
+offered_clients_select selection limit calls stream sent rest last names profile small are offer selected made =
+    go (new_calls selection limit calls [] (fresh limit None) last stream sent rest (inl (omega arith, refl, refl)) are made)
+  where
+    go : NoneAfter selection limit [] stream sent rest last
+        ⊎ SomeAfter selection limit [] (fresh limit None) calls stream sent rest last
+        → (now : Profile) × (last.state ≡ Some now)
+        × Calls (ClientReceives selection.hostname) (fresh limit profile) calls stream sent (side_in_state last now) rest
+    go (inl none) =
+        let front = (one_split none.more rest (sasl_header ++ (framed offer.body ++ offer.more)) rest
+        (sym none.covers ∙ (offer.carried ∙ (ap (λ l. sasl_header ++ l) (sym (append_assoc (framed offer.body) offer.more rest))
+        ∙ sym (append_assoc sasl_header (framed offer.body ++ offer.more) rest)))) refl).0 in
+        not_offered selection limit small none.more offer.body offer.more names profile last front offer.fits offer.spells
+        selected none.unselected
+    go (inr some) =
+        let same = one_offer selection limit small stream offer.body (offer.more ++ rest) some.offer.body
+        (some.offer.more ++ rest) names some.names offer.carried some.offer.carried offer.fits some.offer.fits offer.spells
+        some.offer.spells in
+        let one : some.profile ≡ profile = (one_is_selected selection some.names profile
+        (subst (λ (n : List (List ℕ)). IsSelected selection n profile) same selected)).0 some.profile some.selected in (
+          some.now,
+          some.state,
+          subst (λ (p : Profile). Calls (ClientReceives selection.hostname) (fresh limit p) calls stream sent
+              (side_in_state last some.now) rest) one some.made,
+        )

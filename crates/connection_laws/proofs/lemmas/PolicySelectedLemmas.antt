@@ -215,7 +215,7 @@ module _ (selection : Selection) (limit : ℕ) where
             ∙ append_assoc sasl_header (framed body) (more ++ rest))));
       }
 
-  new_calls : (calls : List Call) (taken : List ℕ) (side last : Side (Option Profile)) (stream sent rest : List ℕ)
+  pub new_calls : (calls : List Call) (taken : List ℕ) (side last : Side (Option Profile)) (stream sent rest : List ℕ)
       → IsUnselected selection limit taken side → IsBytes (taken ++ stream)
       → Calls (PolicyReceives selection) side calls stream sent last rest
       → NoneAfter taken stream sent rest last ⊎ SomeAfter taken side calls stream sent rest last

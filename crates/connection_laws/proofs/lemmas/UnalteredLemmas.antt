@@ -28,7 +28,7 @@ use Rattle.connection_laws.proofs.lemmas.UnalteredEndLemmas.{both_log_in}
 use Rattle.connection_laws.proofs.lemmas.UnalteredSideLemmas.{Case, client_takes}
 
 -- a stream that is taken whole
-taken_whole : {S : Type 0} (Answers : Expected → S → List ℕ → List ℕ → SideOutput → S → Type 0) (first last : Side S)
+pub taken_whole : {S : Type 0} (Answers : Expected → S → List ℕ → List ℕ → SideOutput → S → Type 0) (first last : Side S)
     (bytes taken sent : List ℕ) (nonces : List (List ℕ)) → bytes ≡ taken ++ []
     → Negotiates Answers first nonces taken sent last → Negotiates Answers first nonces bytes sent last
 taken_whole Answers first last bytes taken sent nonces same made =

@@ -1,3 +1,4 @@
+use Rattle.connection_laws.proofs.lemmas.PolicyDivisionLemmas.{offered_clients_select}
 use Rattle.connection_laws.proofs.lemmas.PolicyProfileLemmas.{selected_profiles_act_as_client}
 use Rattle.connection_laws.proofs.lemmas.PolicyChoiceLemmas.{one_is_selected}
 use Rattle.connection_laws.proofs.lemmas.PolicySelectedLemmas.{selected_clients_act_as_profile}
@@ -11,3 +12,6 @@ returns-clause-reverse c = selected_profiles_act_as_client
 
 pub returns-clause-one : goal.returns-clause-one
 returns-clause-one c = one_is_selected
+
+pub returns-clause-offered : goal.returns-clause-offered
+returns-clause-offered c = offered_clients_select

@@ -1,0 +1,169 @@
+-- A client that selects its mechanism and a SCRAM server that are joined log in: `unaltered_policy_clients_log_in`, and
+-- `joined_policy_sides_exist`.
+use Rattle.std.proofs.Common.{◌≡◌, ◌<◌, ◌≤◌, ◌^◌, ℕ, Option, Some, List, [], ◌∷◌, ◌++◌, length, sym, ◌∙◌, ap, subst, arith, Ok}
+use Rattle.std.proofs.lemmas.List.{append-nil}
+use Rattle.std.specs.List.{AllByRecursion}
+use Rattle.fe2o3_sasl_wire.specs.SaslFrames as frames
+use Rattle.fe2o3_sasl_wire.specs.SaslFrames.{SaslFrame, canonical}
+use Rattle.fe2o3_scram.specs.ChannelBinding.{is_bound}
+use Rattle.fe2o3_scram.specs.Credentials.{Provider}
+use Rattle.fe2o3_scram.specs.ScramServer.{Initial}
+use Rattle.fe2o3_sasl_core.specs.Bodies.{SpellsBody}
+use Rattle.fe2o3_sasl_core.specs.Events.{Login, login_mechanism}
+use Rattle.fe2o3_sasl_core.specs.Profiles.{Profile, scram_profile}
+use Rattle.fe2o3_sasl_core.specs.SaslAcceptor.{Acceptor, ScramAcceptor, acceptor_machine, acceptor_names}
+use Rattle.fe2o3_sasl_core.specs.TwoSides.{sides_of}
+use Rattle.fe2o3_sasl_core.specs.UnalteredRuns.{HoldsLogin}
+use Rattle.fe2o3_sasl_core.proofs.lemmas.frames.SpellingLemmas.{spells_mechanisms}
+use Rattle.fe2o3_sasl_core.proofs.lemmas.unaltered.UnalteredStepLemmas.{one_mechanism}
+use Rattle.fe2o3_sasl_negotiation.specs.ClientNegotiation.{ClientReceives}
+use Rattle.fe2o3_sasl_negotiation.specs.Connections.{fresh}
+use Rattle.fe2o3_sasl_negotiation.specs.Framing.{framed, sasl_header}
+use Rattle.fe2o3_sasl_negotiation.specs.Laws.{Call, Calls}
+use Rattle.fe2o3_sasl_negotiation.specs.Negotiations.{Side}
+use Rattle.fe2o3_sasl_negotiation.specs.PolicyLaws.{side_in_state}
+use Rattle.fe2o3_sasl_negotiation.specs.ServerNegotiation as of_server
+use Rattle.fe2o3_sasl_negotiation.specs.declared.progress.Expected.TheVariants.{Header}
+use Rattle.fe2o3_sasl_negotiation.specs.declared.progress.Progress.TheVariants.{Authenticated}
+use Rattle.fe2o3_sasl_negotiation.proofs.lemmas.CutLemmas.{cuts_do_not_matter, nothing_is_part}
+use Rattle.connection_laws.specs.JoinedSides.{JoinedSides}
+use Rattle.connection_laws.specs.PolicyClients.{JoinedByPolicy, JoinedPolicySidesExist, ReadsOffer, TakesPolicyFrames, UnalteredPolicyClientsLogIn}
+use Rattle.connection_laws.specs.Unaltered.{BothLogIn, HasNonce, Joined}
+use Rattle.connection_laws.proofs.lemmas.ExactSideLemmas.{Exact, ServerOffers, exact_calls, server_header}
+use Rattle.connection_laws.proofs.lemmas.PolicyDivisionLemmas.{offered_clients_select}
+use Rattle.connection_laws.proofs.lemmas.JoinedExistLemmas.{joined_sides_exist}
+use Rattle.connection_laws.proofs.lemmas.PolicyProfileLemmas.{selected_profiles_act_as_client, selected_side}
+use Rattle.connection_laws.proofs.lemmas.SmallReplyLemmas.{long_enough}
+use Rattle.connection_laws.proofs.lemmas.UnalteredLemmas.{taken_whole, unaltered_sides_log_in}
+
+-- what a SCRAM server sends to a client begins with its offer
+module _ (login : Login) (provider : Provider) (password salt : List ℕ) (count client_limit server_limit : ℕ)
+    (server_calls : List Call) (client_sent server_sent : List ℕ) (server : Side Acceptor)
+    (holds : HoldsLogin (sides_of login [] [] provider [] []) password salt count) (room : 512 ≤ client_limit)
+    (nonces_are : AllByRecursion HasNonce server_calls)
+    (takes : Calls (of_server.ServerReceives acceptor_names acceptor_machine)
+    (fresh server_limit (ScramAcceptor provider Initial)) server_calls (sasl_header ++ client_sent) server_sent server [])
+  where
+    offer : ServerOffers provider server_limit client_sent server_sent server
+    offer = let (taken, nonces, all, made) = cuts_do_not_matter
+        (Exact (of_server.ServerSideAnswers acceptor_names acceptor_machine))
+        (fresh server_limit (ScramAcceptor provider Initial)) server server_calls (sasl_header ++ client_sent) server_sent []
+        (nothing_is_part Header server_limit)
+        (exact_calls (of_server.ServerSideAnswers acceptor_names acceptor_machine) server_calls
+        (fresh server_limit (ScramAcceptor provider Initial)) (sasl_header ++ client_sent) server_sent server [] nonces_are
+        takes) in
+        server_header provider server_limit nonces client_sent server_sent server
+        (taken_whole (Exact (of_server.ServerSideAnswers acceptor_names acceptor_machine))
+        (fresh server_limit (ScramAcceptor provider Initial)) server (sasl_header ++ client_sent) taken server_sent nonces all
+        made)
+
+    mechanism : frames.Mechanisms (login_mechanism login ∷ [])
+        ≡ frames.Mechanisms (acceptor_names (ScramAcceptor provider Initial))
+    mechanism = ap (λ (name : List ℕ). frames.Mechanisms (name ∷ []))
+        (one_mechanism (sides_of login [] [] provider [] []) password salt count holds)
+
+    spells : SpellsBody offer.body (Ok (frames.Mechanisms (acceptor_names (ScramAcceptor provider Initial))))
+    spells = subst (λ (f : SaslFrame). SpellsBody offer.body (Ok f)) mechanism
+        (spells_mechanisms login.version (is_bound login.channel) offer.body (ap canonical mechanism ∙ offer.offer))
+
+    reads : ReadsOffer client_limit server_sent [] (acceptor_names (ScramAcceptor provider Initial))
+    reads = let least : 4 ≤ length offer.body =
+        long_enough (frames.Mechanisms (acceptor_names (ScramAcceptor provider Initial))) offer.body offer.offer in
+        let few = offer.small in
+        record {
+          body = offer.body;
+          more = offer.after;
+          fits = (omega (arith, least), omega (arith, few, room));
+          spells = spells;
+          carried = offer.all ∙ ap (λ l. sasl_header ++ (framed offer.body ++ l)) (sym (append-nil offer.after));
+        }
+
+pub unaltered_policy_clients_log_in : UnalteredPolicyClientsLogIn
+unaltered_policy_clients_log_in selection login provider password salt count client server joined are host selected is holds
+    fits wide = go (offered_clients_select selection joined.client_limit joined.client_calls joined.server_sent
+    joined.client_sent [] client (acceptor_names (ScramAcceptor provider Initial)) (scram_profile login) wide.client_size are
+    (reads login provider password salt count joined.client_limit joined.server_limit joined.server_calls
+    joined.client_sent joined.server_sent server holds wide.client_limit wide.server_nonces joined.server_takes) selected
+    joined.client_takes)
+  where
+    go : (now : Profile) × (client.state ≡ Some now)
+        × Calls (ClientReceives selection.hostname) (fresh joined.client_limit (scram_profile login)) joined.client_calls
+        joined.server_sent joined.client_sent (side_in_state client now) []
+        → (now : Profile) × (client.state ≡ Some now)
+        × ((both : Joined login provider (side_in_state client now) server) × BothLogIn both salt count)
+    go (now, at, made) =
+        let both : Joined login provider (side_in_state client now) server = record {
+          client_limit = joined.client_limit;
+          server_limit = joined.server_limit;
+          client_calls = joined.client_calls;
+          server_calls = joined.server_calls;
+          client_sent = joined.client_sent;
+          server_sent = joined.server_sent;
+          client_takes = subst (λ (h : Option (List ℕ)). Calls (ClientReceives h)
+              (fresh joined.client_limit (scram_profile login)) joined.client_calls joined.server_sent joined.client_sent
+              (side_in_state client now) []) (sym host) made;
+          server_takes = joined.server_takes;
+        } in (
+          now,
+          at,
+          (
+            both,
+            unaltered_sides_log_in login provider password salt count (side_in_state client now) server both is holds fits
+                (record {
+                  client_limit = wide.client_limit;
+                  server_limit = wide.server_limit;
+                  client_nonces = wide.client_nonces;
+                  server_nonces = wide.server_nonces;
+                }),
+          ),
+        )
+
+pub joined_policy_sides_exist : JoinedPolicySidesExist
+joined_policy_sides_exist selection login provider password salt count client_limit server_limit client_calls server_calls
+    host selected is holds fits room wide small client_nonces server_nonces client_enough server_enough =
+    go (joined_sides_exist login provider password salt count client_limit server_limit client_calls server_calls is holds
+    fits room wide client_nonces server_nonces client_enough server_enough)
+  where
+    go : JoinedSides login provider client_limit server_limit client_calls server_calls
+        → (client : Side (Option Profile)) × (server : Side Acceptor)
+        × ((joined : JoinedByPolicy selection provider client server) × TakesPolicyFrames joined
+        × (joined.client_calls ≡ client_calls) × (joined.server_calls ≡ server_calls)
+        × (client.progress ≡ Authenticated) × (server.progress ≡ Authenticated))
+    go sides =
+        let joined = sides.joined in
+        let size : joined.client_limit < 2 ^ 32 =
+        subst (λ (n : ℕ). n < 2 ^ 32) (sym sides.client_limited) small in (
+          selected_side sides.client,
+          sides.server,
+          (
+            record {
+              client_limit = joined.client_limit;
+              server_limit = joined.server_limit;
+              client_calls = joined.client_calls;
+              server_calls = joined.server_calls;
+              client_sent = joined.client_sent;
+              server_sent = joined.server_sent;
+              client_takes = selected_profiles_act_as_client selection joined.client_limit joined.client_calls
+                  joined.server_sent joined.client_sent [] sides.client (acceptor_names (ScramAcceptor provider Initial))
+                  (scram_profile login) size
+                  (reads login provider password salt count joined.client_limit joined.server_limit joined.server_calls
+                  joined.client_sent joined.server_sent sides.server holds sides.takes.client_limit
+                  sides.takes.server_nonces joined.server_takes) selected
+                  (subst (λ (h : Option (List ℕ)). Calls (ClientReceives h)
+                  (fresh joined.client_limit (scram_profile login)) joined.client_calls joined.server_sent
+                  joined.client_sent sides.client []) host joined.client_takes);
+              server_takes = joined.server_takes;
+            },
+            record {
+              client_limit = sides.takes.client_limit;
+              server_limit = sides.takes.server_limit;
+              client_size = size;
+              client_nonces = sides.takes.client_nonces;
+              server_nonces = sides.takes.server_nonces;
+            },
+            sides.client_called,
+            sides.server_called,
+            sides.client_progress,
+            sides.server_progress,
+          ),
+        )
