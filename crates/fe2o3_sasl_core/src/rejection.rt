@@ -37,7 +37,7 @@ pub enum Rejection {
     #[error("Unknown user")]
     UnknownUser,
 
-    /// The user has a record for another hash, and none for that of the exchange. `PasswordServer` returns it in place of
+    /// The user has a record for another hash, and none for that of the exchange. `Server` returns it in place of
     /// `UnknownUser`.
     #[error("No record for this hash")]
     NoRecordForHash,
