@@ -50,8 +50,9 @@ class AttackedPostgreSql(PostgreSql):
 
         def login(side: Side) -> Ending:
             tunnel, records = tls.Tunnel(self.authority), {"": side.record(MECHANISM, USER)}
-            return side.serve(MECHANISM, records, lambda ours: tunnel.between(ours, lambda end: from_psql(end, *words)),
-                              more=more)
+            return side.serve(
+                MECHANISM, records, lambda ours: tunnel.between(ours, lambda end: from_psql(end, *words)), more=more
+            )
 
         return login
 
@@ -78,7 +79,9 @@ class AttackedPostgreSql(PostgreSql):
         other_data = Ending("not logged in: Server: Invalid channel binding", False)
         no_channel = "at a server that offers no `-PLUS` and has no channel to protect"
 
-        def cell(mechanism: str, what: str, ends: Ending, attacker: Attacker, more: tuple[str, ...] = OFFERS_BOTH) -> Cell:
+        def cell(
+            mechanism: str, what: str, ends: Ending, attacker: Attacker, more: tuple[str, ...] = OFFERS_BOTH
+        ) -> Cell:
             return Cell("server", mechanism, what, self.attacked_server(mechanism, attacker, more), ends)
 
         yield cell(MECHANISM, f"{REMOVED}, and `y,,` sent on", header, ONLY_RELAYS)

@@ -117,8 +117,7 @@ static int may_act(sasl_conn_t *connection, void *context, const char *asked, un
 
 static const sasl_callback_t of_client[] = {{SASL_CB_GETPATH, CALL(get_path), NULL},
     {SASL_CB_LOG, CALL(say_nothing), NULL}, {SASL_CB_USER, CALL(get_name), NULL},
-    {SASL_CB_AUTHNAME, CALL(get_name), NULL}, {SASL_CB_PASS, CALL(get_password), NULL},
-    {SASL_CB_LIST_END, NULL, NULL}};
+    {SASL_CB_AUTHNAME, CALL(get_name), NULL}, {SASL_CB_PASS, CALL(get_password), NULL}, {SASL_CB_LIST_END, NULL, NULL}};
 static const sasl_callback_t of_server[] = {{SASL_CB_GETPATH, CALL(get_path), NULL},
     {SASL_CB_LOG, CALL(say_nothing), NULL}, {SASL_CB_GETOPT, CALL(get_option), NULL}, {SASL_CB_LIST_END, NULL, NULL}};
 static const sasl_callback_t with_policy[] = {{SASL_CB_PROXY_POLICY, CALL(may_act), NULL},
@@ -172,8 +171,7 @@ static int run_client(const char *how)
         status = sasl_setprop(connection, SASL_AUTH_EXTERNAL, words[4]);
     /* (without a place for it there is no initial response) */
     if (status == SASL_OK)
-        status = sasl_client_start(
-            connection, offered, NULL, late ? NULL : &out, late ? NULL : &len, &mechanism);
+        status = sasl_client_start(connection, offered, NULL, late ? NULL : &out, late ? NULL : &len, &mechanism);
     /* (a mechanism with one message is done by it) */
     if ((status == SASL_OK || status == SASL_CONTINUE)
         && (printf("%s%s\n", mechanism, channel.len > 0 ? "-PLUS" : "") < 0 || fflush(stdout) != 0))
@@ -193,8 +191,7 @@ static int run_server(const char *name)
     unsigned len = 0;
     int status = sasl_server_init(of_server, "interop");
     if (status == SASL_OK)
-        status = sasl_server_new(
-            "amqp", "localhost", "localhost", NULL, NULL, calls, SASL_SUCCESS_DATA, &connection);
+        status = sasl_server_new("amqp", "localhost", "localhost", NULL, NULL, calls, SASL_SUCCESS_DATA, &connection);
     if (status == SASL_OK && channel.len > 0)
         status = sasl_setprop(connection, SASL_CHANNEL_BINDING, &channel);
     else if (status == SASL_OK && *name != '\0')

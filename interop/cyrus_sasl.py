@@ -29,8 +29,12 @@ def make_user(file: Path, user: User, records: bool = False, realm: str = "local
     (settings / "saslpasswd.conf").write_text(f"scram_secret_generate: {'yes' if records else 'no'}\n")
     words = ["saslpasswd2", "-p", "-c", *(["-n"] if records else []), "-f", file, "-u", realm, user.name]
     subprocess.run(
-        words, input=user.password.encode(), env={**os.environ, "SASL_CONF_PATH": str(settings)}, check=True,
-        capture_output=True, timeout=PATIENCE,
+        words,
+        input=user.password.encode(),
+        env={**os.environ, "SASL_CONF_PATH": str(settings)},
+        check=True,
+        capture_output=True,
+        timeout=PATIENCE,
     )
 
 
@@ -57,8 +61,12 @@ class CyrusSasl(Peer):
 
     def run(self, channel: socket.socket, side: str, *words: str) -> bool:
         done = subprocess.run(
-            [self.program, side, self.plugins, *words], stdin=channel, stdout=channel, stderr=subprocess.DEVNULL,
-            timeout=PATIENCE, check=False,
+            [self.program, side, self.plugins, *words],
+            stdin=channel,
+            stdout=channel,
+            stderr=subprocess.DEVNULL,
+            timeout=PATIENCE,
+            check=False,
         )
         return done.returncode == 0
 
@@ -71,9 +79,7 @@ class CyrusSasl(Peer):
         words += [known.name] if client.mechanism == "EXTERNAL" else []
         return lambda side: side.log_in(client, lambda channel: self.run(channel, *words))
 
-    def log_in(
-        self, client: Client, count: int = 4096, users: Optional[Path] = None, mar=None, allowed: str = ""
-    ):
+    def log_in(self, client: Client, count: int = 4096, users: Optional[Path] = None, mar=None, allowed: str = ""):
         """A login of our client to a server of libsasl2, where the user may act for an identity, if it is not empty."""
 
         def login(side: Side) -> Ending:
@@ -84,8 +90,15 @@ class CyrusSasl(Peer):
         return login
 
     def serve(
-        self, mechanism: str, user: User, known: User = USER, binds: str = "", mar=None, unbound: bool = False,
-        identity: str = "", more: tuple[str, ...] = (),
+        self,
+        mechanism: str,
+        user: User,
+        known: User = USER,
+        binds: str = "",
+        mar=None,
+        unbound: bool = False,
+        identity: str = "",
+        more: tuple[str, ...] = (),
     ):
         """A login of a client of libsasl2 to our server, which knows one user, and has more words."""
         words = ["client", mechanism, user.name, user.password, *([binds] if binds else []), "as", identity]
@@ -97,15 +110,20 @@ class CyrusSasl(Peer):
 
         return login
 
-    def bound_server(
-        self, mechanism: str, password: str = USER.password, relayed: bool = False, identity: str = ""
-    ):
+    def bound_server(self, mechanism: str, password: str = USER.password, relayed: bool = False, identity: str = ""):
         """A login of our client to a server of libsasl2, with the channel of one connection under TLS, or each side with
         that of another, since somebody between them relays all messages. The user may act for the identity."""
 
         def login(side: Side) -> Ending:
             tunnel, other = tls.Tunnel(self.authority), tls.Tunnel(self.authority)
-            words = ["server", mechanism, str(self.passwords), "4096", "tls-unique", (other if relayed else tunnel).other()]
+            words = [
+                "server",
+                mechanism,
+                str(self.passwords),
+                "4096",
+                "tls-unique",
+                (other if relayed else tunnel).other(),
+            ]
             words += ["as", identity] if identity else []
             user, channel = USER._replace(password=password), tunnel.channel()
             of = Client(mechanism + "-PLUS", user, channel=channel, acts_for=identity)
@@ -113,9 +131,7 @@ class CyrusSasl(Peer):
 
         return login
 
-    def bound_client(
-        self, mechanism: str, password: str = USER.password, relayed: bool = False, identity: str = ""
-    ):
+    def bound_client(self, mechanism: str, password: str = USER.password, relayed: bool = False, identity: str = ""):
         """A login of a client of libsasl2 to our server, with the channel of one connection, or each with that of
         another. The user may act for the identity."""
         rights = identities.may_act(identity) if identity else ()
@@ -124,9 +140,12 @@ class CyrusSasl(Peer):
             tunnel, other = tls.Tunnel(self.authority), tls.Tunnel(self.authority)
             theirs = (other if relayed else tunnel).other()
             words = ["client", mechanism, USER.name, password, "tls-unique", theirs, "as", identity]
-            return side.serve(mechanism + "-PLUS", {USER.name: side.record(mechanism, USER)},
-                              lambda ours: tunnel.between(ours, lambda end: self.run(end, *words)),
-                              more=(*rights, tunnel.channel()))
+            return side.serve(
+                mechanism + "-PLUS",
+                {USER.name: side.record(mechanism, USER)},
+                lambda ours: tunnel.between(ours, lambda end: self.run(end, *words)),
+                more=(*rights, tunnel.channel()),
+            )
 
         return login
 
@@ -142,12 +161,24 @@ class CyrusSasl(Peer):
         yield cell("client", relayed, self.bound_server(mechanism, relayed=True), ENDED)
         yield cell("client", identities.ALLOWED, self.bound_server(mechanism, identity=identities.BOB), DONE)
         yield cell("server", "a login, `tls-unique`", self.bound_client(mechanism), Ending("logged in: user", True))
-        yield cell("server", "a wrong password", self.bound_client(mechanism, "pencils"),
-                   Ending("not logged in: Server: Authentication failed", False))
-        yield cell("server", relayed, self.bound_client(mechanism, relayed=True),
-                   Ending("not logged in: Server: Invalid channel binding", False))
-        yield cell("server", identities.ALLOWED, self.bound_client(mechanism, identity=identities.BOB),
-                   identities.acting(identities.BOB))
+        yield cell(
+            "server",
+            "a wrong password",
+            self.bound_client(mechanism, "pencils"),
+            Ending("not logged in: Server: Authentication failed", False),
+        )
+        yield cell(
+            "server",
+            relayed,
+            self.bound_client(mechanism, relayed=True),
+            Ending("not logged in: Server: Invalid channel binding", False),
+        )
+        yield cell(
+            "server",
+            identities.ALLOWED,
+            self.bound_client(mechanism, identity=identities.BOB),
+            identities.acting(identities.BOB),
+        )
 
     def cells(self) -> Iterator[Cell]:
         for mechanism in SCRAM:
@@ -178,8 +209,12 @@ class CyrusSasl(Peer):
             return of._replace(user=user._replace(prepared=True))
 
         yield cell("a login", self.log_in(of), done)
-        yield cell("a name with `,` and `=`", self.log_in(of._replace(user=COMMA)), done,
-                   COMMA if mechanism == "SCRAM-SHA-512" else None)
+        yield cell(
+            "a name with `,` and `=`",
+            self.log_in(of._replace(user=COMMA)),
+            done,
+            COMMA if mechanism == "SCRAM-SHA-512" else None,
+        )
         yield cell("wrong password", self.log_in(of._replace(user=User("user", "pencils"))), refused)
         yield cell("unknown user", self.log_in(of._replace(user=User("nobody", "pencil"))), refused)
         yield cell("count 1", self.log_in(of._replace(least=1), 1), done)
@@ -189,19 +224,39 @@ class CyrusSasl(Peer):
         yield cell("count above the limit", self.log_in(of._replace(most=99_999), 100_000), Ending(large, False))
         again = of._replace(again=True)
         if mechanism == "SCRAM-SHA-1":
-            yield cell("cached keys, of a record that it made", self.log_in(again, users=self.records),
-                       Ending("logged in: Done; logged in by keys: Done", True))
+            yield cell(
+                "cached keys, of a record that it made",
+                self.log_in(again, users=self.records),
+                Ending("logged in: Done; logged in by keys: Done", True),
+            )
         else:
-            yield none("client", mechanism, "cached keys, of a record that it made",
-                       "its file of users keeps one record of a user, that of SHA-1")
-        other = "logged in: Done; not logged in by keys: Client: The cached keys are for another salt or iteration count"
+            yield none(
+                "client",
+                mechanism,
+                "cached keys, of a record that it made",
+                "its file of users keeps one record of a user, that of SHA-1",
+            )
+        other = (
+            "logged in: Done; not logged in by keys: Client: The cached keys are for another salt or iteration count"
+        )
         yield cell("cached keys, where it has the password", self.log_in(again), Ending(other, False))
-        yield cell("its signature, altered on the way", self.log_in(of, mar=marred),
-                   Ending("not logged in: Client: Server signature mismatch", False))
-        yield cell("non-ASCII password, as typed", self.log_in(of._replace(user=PAST_USER)),
-                   Ending("not logged in: Client: Error normalizing password", False))
-        yield cell("non-ASCII password, prepared", self.log_in(prepared(PAST_USER)), done,
-                   PAST_USER if mechanism == "SCRAM-SHA-512" else None, "prepared")
+        yield cell(
+            "its signature, altered on the way",
+            self.log_in(of, mar=marred),
+            Ending("not logged in: Client: Server signature mismatch", False),
+        )
+        yield cell(
+            "non-ASCII password, as typed",
+            self.log_in(of._replace(user=PAST_USER)),
+            Ending("not logged in: Client: Error normalizing password", False),
+        )
+        yield cell(
+            "non-ASCII password, prepared",
+            self.log_in(prepared(PAST_USER)),
+            done,
+            PAST_USER if mechanism == "SCRAM-SHA-512" else None,
+            "prepared",
+        )
         yield cell("password with a soft hyphen, which it does not prepare", self.log_in(prepared(SOFT_USER)), refused)
         yield from self.clients_with_identities(mechanism)
 
@@ -212,8 +267,13 @@ class CyrusSasl(Peer):
             return self.log_in(client, allowed=allowed)
 
         yield from identities.our_clients(of_identity, mechanism)
-        yield Cell("client", mechanism, "an authorization identity, by its default policy",
-                   self.log_in(Client(mechanism, acts_for=identities.BOB)), ENDED)
+        yield Cell(
+            "client",
+            mechanism,
+            "an authorization identity, by its default policy",
+            self.log_in(Client(mechanism, acts_for=identities.BOB)),
+            ENDED,
+        )
 
     def our_servers(self, mechanism: str) -> Iterator[Cell]:
         done, refused = Ending("logged in: user", True), Ending("not logged in: Server: Authentication failed", False)
@@ -223,21 +283,39 @@ class CyrusSasl(Peer):
             return Cell("server", mechanism, what, login, ends, kept=kept, kept_as=kept_as)
 
         yield cell("a login", self.serve(mechanism, USER), done)
-        yield cell("a name with `,` and `=`", self.serve(mechanism, COMMA, COMMA), Ending("logged in: a,b=c", True),
-                   COMMA if mechanism == "SCRAM-SHA-512" else None)
+        yield cell(
+            "a name with `,` and `=`",
+            self.serve(mechanism, COMMA, COMMA),
+            Ending("logged in: a,b=c", True),
+            COMMA if mechanism == "SCRAM-SHA-512" else None,
+        )
         yield cell("wrong password", self.serve(mechanism, User("user", "pencils")), refused)
         yield cell("unknown user", self.serve(mechanism, User("nobody", "pencil")), refused)
         for count in (1, MOST):
             yield cell(f"count {count:,}", self.serve(mechanism, USER, USER._replace(count=count)), done)
         for count in (MOST + 1, 100_000):
-            yield cell(f"count {count:,}, above its limit", self.serve(mechanism, USER, USER._replace(count=count)),
-                       Ending("not logged in: the other side ended", False))
-        yield cell("our signature, altered on the way", self.serve(mechanism, USER, mar=marred),
-                   Ending("logged in: user", False))
-        yield cell("non-ASCII password, prepared", self.serve(mechanism, PAST, PAST._replace(prepared=True)), done,
-                   PAST if mechanism == "SCRAM-SHA-512" else None, "records")
-        yield cell("password with a soft hyphen, which it does not prepare",
-                   self.serve(mechanism, SOFT, SOFT._replace(prepared=True)), refused)
+            yield cell(
+                f"count {count:,}, above its limit",
+                self.serve(mechanism, USER, USER._replace(count=count)),
+                Ending("not logged in: the other side ended", False),
+            )
+        yield cell(
+            "our signature, altered on the way",
+            self.serve(mechanism, USER, mar=marred),
+            Ending("logged in: user", False),
+        )
+        yield cell(
+            "non-ASCII password, prepared",
+            self.serve(mechanism, PAST, PAST._replace(prepared=True)),
+            done,
+            PAST if mechanism == "SCRAM-SHA-512" else None,
+            "records",
+        )
+        yield cell(
+            "password with a soft hyphen, which it does not prepare",
+            self.serve(mechanism, SOFT, SOFT._replace(prepared=True)),
+            refused,
+        )
         yield from self.bindings(mechanism, cell, done, no_header)
 
         def of_identity(user: User, identity: str, more: tuple[str, ...]):
@@ -248,12 +326,26 @@ class CyrusSasl(Peer):
     def bindings(self, mechanism: str, cell, done: Ending, no_header: Ending) -> Iterator[Cell]:
         """Clients that have a binding of their channel, at our server, which has none."""
         yield cell("it may bind its channel, and sends `n,,`", self.serve(mechanism, USER, binds="may"), done)
-        yield cell("it may bind its channel and chooses, and sends `y,,`",
-                   self.serve(mechanism, USER, binds="choose", unbound=True), done,
-                   USER if mechanism == "SCRAM-SHA-512" else None, "cbind_flag_y")
-        yield cell("it may bind its channel and chooses, and sends `y,,`, which is not taken",
-                   self.serve(mechanism, USER, binds="choose"), no_header)
-        yield cell("it has to bind its channel, and sends `p=..,,`", self.serve(mechanism, USER, binds="must"),
-                   no_header, USER if mechanism == "SCRAM-SHA-256" else None)
-        yield cell("it has to bind its channel, where `y,,` is taken",
-                   self.serve(mechanism, USER, binds="must", unbound=True), no_header)
+        yield cell(
+            "it may bind its channel and chooses, and sends `y,,`",
+            self.serve(mechanism, USER, binds="choose", unbound=True),
+            done,
+            USER if mechanism == "SCRAM-SHA-512" else None,
+            "cbind_flag_y",
+        )
+        yield cell(
+            "it may bind its channel and chooses, and sends `y,,`, which is not taken",
+            self.serve(mechanism, USER, binds="choose"),
+            no_header,
+        )
+        yield cell(
+            "it has to bind its channel, and sends `p=..,,`",
+            self.serve(mechanism, USER, binds="must"),
+            no_header,
+            USER if mechanism == "SCRAM-SHA-256" else None,
+        )
+        yield cell(
+            "it has to bind its channel, where `y,,` is taken",
+            self.serve(mechanism, USER, binds="must", unbound=True),
+            no_header,
+        )

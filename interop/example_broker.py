@@ -161,8 +161,13 @@ class ExampleBroker(ProtonWithCyrus):
             words = [*side.frames_client, "localhost", str(self.told(self.worker())["port"]), user.name]
             words += [self.files(user.name)[name] for name in ("authority", "certificate", "key") if tls]
             done = subprocess.run(
-                words, input=user.password + "\n", env={**os.environ, "PYTHONPATH": str(PYTHON)}, capture_output=True,
-                text=True, timeout=PATIENCE, check=False,
+                words,
+                input=user.password + "\n",
+                env={**os.environ, "PYTHONPATH": str(PYTHON)},
+                capture_output=True,
+                text=True,
+                timeout=PATIENCE,
+                check=False,
             )
             return Ending(done.stdout.strip() or f"status {done.returncode}", self.told(self.worker())["in"])
 
@@ -172,10 +177,17 @@ class ExampleBroker(ProtonWithCyrus):
         has_tls = self.authority is not None
         for mechanism in SCRAM:
             yield from self.scram_servers(mechanism, has_tls)
-        yield Cell("server", "PLAIN", "over TCP: not offered", self.serve(Login("PLAIN")),
-                   Ending(f"not logged in: {CLIENT_ENDED}", False))
-        for what, user, ends in (("a login", USER, Ending("logged in: 'user'", True)),
-                                 ("wrong password", WRONG, refused("user"))):
+        yield Cell(
+            "server",
+            "PLAIN",
+            "over TCP: not offered",
+            self.serve(Login("PLAIN")),
+            Ending(f"not logged in: {CLIENT_ENDED}", False),
+        )
+        for what, user, ends in (
+            ("a login", USER, Ending("logged in: 'user'", True)),
+            ("wrong password", WRONG, refused("user")),
+        ):
             login = self.serve_unread("SCRAM-SHA-256", user, False)
             yield Cell("server", "SCRAM-SHA-256", f"over TCP, unread bytes (a client made here): {what}", login, ends)
         if not has_tls:

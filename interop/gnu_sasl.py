@@ -60,8 +60,12 @@ def client(
 def worker(channel: socket.socket, *words: str) -> bool:
     """Returns whether a login by the library ends well over a connection."""
     done = subprocess.run(
-        [sys.executable, "-B", str(WORKER), *words], stdin=channel, stdout=channel, stderr=subprocess.DEVNULL,
-        timeout=PATIENCE, check=False,
+        [sys.executable, "-B", str(WORKER), *words],
+        stdin=channel,
+        stdout=channel,
+        stderr=subprocess.DEVNULL,
+        timeout=PATIENCE,
+        check=False,
     )
     return done.returncode == 0
 
@@ -110,7 +114,14 @@ class GnuSasl(Peer):
 
         def login(side: Side) -> Ending:
             tunnel, other = tls.Tunnel(self.authority), tls.Tunnel(self.authority)
-            words = ("scram", "server", client.mechanism, password, client.acts_for, (other if relayed else tunnel).other())
+            words = (
+                "scram",
+                "server",
+                client.mechanism,
+                password,
+                client.acts_for,
+                (other if relayed else tunnel).other(),
+            )
             of = client._replace(channel=tunnel.channel())
             return side.log_in(of, lambda ours: tunnel.between(ours, lambda end: worker(end, *words)))
 
@@ -126,9 +137,12 @@ class GnuSasl(Peer):
             words = ("scram", "client", mechanism, user.name, user.password, identity, theirs)
             record = side.record(mechanism.removesuffix("-PLUS"), known)
             rights = identities.may_act(identity) if identity else ()
-            return side.serve(mechanism, {known.name: record},
-                              lambda ours: tunnel.between(ours, lambda end: worker(end, *words)),
-                              more=(*rights, tunnel.channel()))
+            return side.serve(
+                mechanism,
+                {known.name: record},
+                lambda ours: tunnel.between(ours, lambda end: worker(end, *words)),
+                more=(*rights, tunnel.channel()),
+            )
 
         return login
 
@@ -143,19 +157,40 @@ class GnuSasl(Peer):
 
         yield cell("client", "a login, `tls-unique`", self.bound_server(Client(plus), USER.password), done, kept)
         yield cell("client", "a wrong password", self.bound_server(Client(plus), "pencils"), ENDED)
-        yield cell("client", "all messages relayed between two connections under TLS",
-                   self.bound_server(Client(plus), USER.password, relayed=True), ENDED)
-        yield cell("client", identities.ALLOWED,
-                   self.bound_server(Client(plus, acts_for=identities.BOB), USER.password), done)
-        yield cell("server", "a login, `tls-unique`", self.bound_client(plus, USER, USER),
-                   Ending("logged in: user", True), kept)
-        yield cell("server", "a wrong password", self.bound_client(plus, User("user", "pencils"), USER),
-                   Ending("not logged in: Server: Authentication failed", False))
-        yield cell("server", "all messages relayed between two connections under TLS",
-                   self.bound_client(plus, USER, USER, relayed=True),
-                   Ending("not logged in: Server: Invalid channel binding", False))
-        yield cell("server", identities.ALLOWED, self.bound_client(plus, USER, USER, identity=identities.BOB),
-                   identities.acting(identities.BOB))
+        yield cell(
+            "client",
+            "all messages relayed between two connections under TLS",
+            self.bound_server(Client(plus), USER.password, relayed=True),
+            ENDED,
+        )
+        yield cell(
+            "client", identities.ALLOWED, self.bound_server(Client(plus, acts_for=identities.BOB), USER.password), done
+        )
+        yield cell(
+            "server",
+            "a login, `tls-unique`",
+            self.bound_client(plus, USER, USER),
+            Ending("logged in: user", True),
+            kept,
+        )
+        yield cell(
+            "server",
+            "a wrong password",
+            self.bound_client(plus, User("user", "pencils"), USER),
+            Ending("not logged in: Server: Authentication failed", False),
+        )
+        yield cell(
+            "server",
+            "all messages relayed between two connections under TLS",
+            self.bound_client(plus, USER, USER, relayed=True),
+            Ending("not logged in: Server: Invalid channel binding", False),
+        )
+        yield cell(
+            "server",
+            identities.ALLOWED,
+            self.bound_client(plus, USER, USER, identity=identities.BOB),
+            identities.acting(identities.BOB),
+        )
 
     def missing(self) -> bool:
         return shutil.which("gsasl") is None
@@ -205,17 +240,23 @@ class GnuSasl(Peer):
         small, large = ("not logged in: Client: Iteration count too " + size for size in ("small", "large"))
         yield cell("count below the minimum", server(of, "pencil", 4095), Ending(small, False))
         yield cell("count above the limit", server(of._replace(most=99_999), "pencil", 100_000), Ending(large, False))
-        yield cell("cached keys", server(of._replace(again=True), "pencil"),
-                   Ending("logged in: Done; logged in by keys: Done", True))
+        yield cell(
+            "cached keys",
+            server(of._replace(again=True), "pencil"),
+            Ending("logged in: Done; logged in by keys: Done", True),
+        )
         yield cell("its signature, altered on the way", server(of, "pencil", mar=marred), Ending(FORGED, False))
         refused = "not logged in: Client: Error normalizing password"
-        yield cell("non-ASCII password, as typed", server(of._replace(user=PAST), PAST.password),
-                   Ending(refused, False))
+        yield cell(
+            "non-ASCII password, as typed", server(of._replace(user=PAST), PAST.password), Ending(refused, False)
+        )
         yield cell("non-ASCII password, prepared", server(prepared(PAST), PAST.password), done, PAST, "prepared")
-        yield cell("password with a soft hyphen, prepared", server(prepared(SOFT), HARD.password), done, HARD,
-                   "prepared")
-        yield cell("password with a soft hyphen, which it prepares", server(of._replace(user=HARD), SOFT.password),
-                   done)
+        yield cell(
+            "password with a soft hyphen, prepared", server(prepared(SOFT), HARD.password), done, HARD, "prepared"
+        )
+        yield cell(
+            "password with a soft hyphen, which it prepares", server(of._replace(user=HARD), SOFT.password), done
+        )
         yield from identities.our_clients(log_in_for, mechanism)
 
     def our_servers(self, mechanism: str) -> Iterator[Cell]:
@@ -233,11 +274,15 @@ class GnuSasl(Peer):
         for count in (1, 100_000):
             known = USER._replace(count=count)
             yield cell(f"count {count:,}", client(mechanism, USER, known), done)
-        yield cell("our signature, altered on the way", client(mechanism, USER, USER, mar=marred),
-                   Ending("logged in: user", False))
+        yield cell(
+            "our signature, altered on the way",
+            client(mechanism, USER, USER, mar=marred),
+            Ending("logged in: user", False),
+        )
         yield cell("non-ASCII password, of its own record", client(mechanism, PAST, PAST, made_by_gsasl), done)
-        yield cell("non-ASCII password, prepared", client(mechanism, PAST, PAST._replace(prepared=True)), done, PAST,
-                   "records")
+        yield cell(
+            "non-ASCII password, prepared", client(mechanism, PAST, PAST._replace(prepared=True)), done, PAST, "records"
+        )
         yield cell("password with a soft hyphen, prepared", client(mechanism, HARD, SOFT._replace(prepared=True)), done)
         yield cell("password with a soft hyphen, which it prepares", client(mechanism, SOFT, HARD), done, HARD)
 

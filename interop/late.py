@@ -87,13 +87,24 @@ class LateClients(Peer):
         yield cell(": unknown user", self.serve(mechanism, User("nobody", "pencil")), REFUSED)
         yield cell(", which our server does not ask for", self.serve(mechanism, options=()), REFUSED)
         if mechanism in SCRAM:
-            yield cell(": our signature, altered on the way", self.serve(mechanism, mar=marred),
-                       Ending("logged in: user", False))
+            yield cell(
+                ": our signature, altered on the way",
+                self.serve(mechanism, mar=marred),
+                Ending("logged in: user", False),
+            )
             both = (BY_CHALLENGE, ASK)
-            yield cell(", and our signature by a challenge: a login", self.serve(mechanism, options=both), done, kept,
-                       "asks signs")
-            yield cell(", and our signature by a challenge: altered on the way",
-                       self.serve(mechanism, options=both, mar=marred), Ending("no connection", False))
+            yield cell(
+                ", and our signature by a challenge: a login",
+                self.serve(mechanism, options=both),
+                done,
+                kept,
+                "asks signs",
+            )
+            yield cell(
+                ", and our signature by a challenge: altered on the way",
+                self.serve(mechanism, options=both, mar=marred),
+                Ending("no connection", False),
+            )
 
 
 class LateCyrus(LateClients):

@@ -84,8 +84,9 @@ static void set_rules(int accepts_y, int rejects_misplaced)
     rules.accept_cbind_flag_y = (uint32_t)accepts_y;
     rules.reject_misplaced = (uint32_t)rejects_misplaced;
     rules.channels.binds_channel = bound.use == FE2O3_CHANNEL_BOUND;
-    *(bound.kind == FE2O3_TLS_UNIQUE ? &rules.channels.tls_unique_len : bound.kind == FE2O3_TLS_SERVER_END_POINT
-        ? &rules.channels.tls_server_end_point_len : &rules.channels.tls_exporter_len) = bound.len;
+    *(bound.kind == FE2O3_TLS_UNIQUE                   ? &rules.channels.tls_unique_len
+            : bound.kind == FE2O3_TLS_SERVER_END_POINT ? &rules.channels.tls_server_end_point_len
+                                                       : &rules.channels.tls_exporter_len) = bound.len;
     memcpy(rules.channels.tls_unique, bound.bytes, sizeof bound.bytes);
     memcpy(rules.channels.tls_server_end_point, bound.bytes, sizeof bound.bytes);
     memcpy(rules.channels.tls_exporter, bound.bytes, sizeof bound.bytes);
@@ -110,8 +111,7 @@ static uint32_t version_of(const char *mechanism)
 /* Returns whether a mechanism has one message only, that of the client. */
 static int has_one_message(const char *mechanism)
 {
-    return strcmp(mechanism, "PLAIN") == 0 || strcmp(mechanism, "ANONYMOUS") == 0
-        || strcmp(mechanism, "EXTERNAL") == 0;
+    return strcmp(mechanism, "PLAIN") == 0 || strcmp(mechanism, "ANONYMOUS") == 0 || strcmp(mechanism, "EXTERNAL") == 0;
 }
 
 /* Returns what a client of this mechanism says of its channel. */
@@ -121,10 +121,7 @@ static uint32_t channel_use_by(const char *mechanism)
     return has_channel && strstr(mechanism, "-PLUS") == NULL ? FE2O3_CHANNEL_NOT_OFFERED : bound.use;
 }
 
-static int is_known(const char *mechanism)
-{
-    return version_of(mechanism) != 0 || has_one_message(mechanism);
-}
+static int is_known(const char *mechanism) { return version_of(mechanism) != 0 || has_one_message(mechanism); }
 
 /* Sets a text to these bytes, of which it has room for 2048. */
 static void set_text(struct text *text, const uint8_t *bytes, size_t len)
@@ -141,8 +138,7 @@ static void told(const char *what, uint32_t status)
     fflush(stdout);
 }
 
-static uint32_t log_in_by_scram(
-    FILE *in, FILE *out, const struct fe2o3_login *login, struct fe2o3_scram_client *client)
+static uint32_t log_in_by_scram(FILE *in, FILE *out, const struct fe2o3_login *login, struct fe2o3_scram_client *client)
 {
     struct text message, answer;
     uint8_t nonce[32];
@@ -155,8 +151,8 @@ static uint32_t log_in_by_scram(
     write_base64(out, &answer);
     if ((status = read_message(in, &message)) != FE2O3_OK)
         return status;
-    status = fe2o3_scram_client_final(
-        login, client, message.bytes, message.len, answer.bytes, sizeof answer.bytes, &answer.len);
+    status = fe2o3_scram_client_final(login, client, message.bytes, message.len, answer.bytes, sizeof answer.bytes,
+        &answer.len);
     if (status != FE2O3_OK)
         return status;
     write_base64(out, &answer);
@@ -186,8 +182,8 @@ static uint32_t log_in_by_message(FILE *in, FILE *out, const char *mechanism, co
     return status;
 }
 
-static uint32_t log_in(
-    FILE *in, FILE *out, const char *mechanism, const struct fe2o3_login *login, struct fe2o3_scram_client *client)
+static uint32_t log_in(FILE *in, FILE *out, const char *mechanism, const struct fe2o3_login *login,
+    struct fe2o3_scram_client *client)
 {
     char line[256];
     if (!read_line(in, line, sizeof line) || !read_line(in, line, sizeof line))
@@ -197,8 +193,8 @@ static uint32_t log_in(
 }
 
 /* A login over a connection, which it closes. */
-static uint32_t connected(
-    int channel, const char *mechanism, const struct fe2o3_login *login, struct fe2o3_scram_client *client)
+static uint32_t connected(int channel, const char *mechanism, const struct fe2o3_login *login,
+    struct fe2o3_scram_client *client)
 {
     int other = channel < 0 ? -1 : dup(channel);
     FILE *in = channel < 0 ? NULL : fdopen(channel, "r"), *out = other < 0 ? NULL : fdopen(other, "w");
@@ -217,8 +213,8 @@ static uint32_t read_password(const char *typed, int prepared, uint32_t unassign
     memcpy(password->bytes, typed, password->len);
     if (!prepared)
         return FE2O3_OK;
-    return fe2o3_saslprep(
-        (const uint8_t *)typed, strlen(typed), unassigned, password->bytes, sizeof password->bytes, &password->len);
+    return fe2o3_saslprep((const uint8_t *)typed, strlen(typed), unassigned, password->bytes, sizeof password->bytes,
+        &password->len);
 }
 
 static int run_client(char **words, int prepared, int again, const char *typed)
@@ -271,35 +267,36 @@ static void fetch(const struct text *name, uint32_t version, struct fe2o3_scram_
 }
 
 /* Lets the client log in that sent this first message, and writes its name, and the identity that it acts for. */
-static uint32_t serve_scram(
-    FILE *in, FILE *out, const char *mechanism, const struct text *first, struct text *name, struct text *acts_for)
+static uint32_t serve_scram(FILE *in, FILE *out, const char *mechanism, const struct text *first, struct text *name,
+    struct text *acts_for)
 {
     struct fe2o3_scram_server server = {0};
     struct fe2o3_scram_record record = {0};
     struct text message, answer;
     uint8_t nonce[32];
     uint32_t status;
-    status = fe2o3_scram_server_claimed_user_with_rules(
-        &rules, first->bytes, first->len, name->bytes, sizeof name->bytes, &name->len);
+    status = fe2o3_scram_server_claimed_user_with_rules(&rules, first->bytes, first->len, name->bytes,
+        sizeof name->bytes, &name->len);
     if (status != FE2O3_OK)
         return status;
     if (!random_bytes(nonce, sizeof nonce))
         return OTHER_SIDE_ENDED;
     fetch(name, version_of(mechanism), &record);
-    status = fe2o3_scram_server_first_with_rules(
-        &rules, &record, &server, nonce, first->bytes, first->len, answer.bytes, sizeof answer.bytes, &answer.len);
+    status = fe2o3_scram_server_first_with_rules(&rules, &record, &server, nonce, first->bytes, first->len,
+        answer.bytes, sizeof answer.bytes, &answer.len);
     if (status != FE2O3_OK)
         return status;
     write_base64(out, &answer);
     if ((status = read_message(in, &message)) != FE2O3_OK)
         return status;
-    status = fe2o3_scram_server_final_with_rules(
-        &rules, &record, &server, message.bytes, message.len, answer.bytes, sizeof answer.bytes, &answer.len);
+    status = fe2o3_scram_server_final_with_rules(&rules, &record, &server, message.bytes, message.len, answer.bytes,
+        sizeof answer.bytes, &answer.len);
     if (status != FE2O3_OK)
         return status;
     write_base64(out, &answer);
     status = fe2o3_scram_server_acts_for(&server, acts_for->bytes, sizeof acts_for->bytes, &acts_for->len);
-    return status != FE2O3_OK ? status
+    return status != FE2O3_OK
+        ? status
         : fe2o3_scram_server_authenticated_user(&server, name->bytes, sizeof name->bytes, &name->len);
 }
 
@@ -307,20 +304,20 @@ static uint32_t serve_scram(
 static uint32_t serve_plain(const struct text *message, struct text *name, struct text *acts_for)
 {
     struct fe2o3_scram_record record = {0};
-    uint32_t claims = fe2o3_plain_claimed_user(
-        message->bytes, message->len, name->bytes, sizeof name->bytes, &name->len);
+    uint32_t claims =
+        fe2o3_plain_claimed_user(message->bytes, message->len, name->bytes, sizeof name->bytes, &name->len);
     if (claims == FE2O3_OK)
         fetch(name, FE2O3_SHA_256, &record);
     if (claims == FE2O3_OK && rules.accept_authzid)
-        fe2o3_plain_claimed_identity(
-            message->bytes, message->len, acts_for->bytes, sizeof acts_for->bytes, &acts_for->len);
-    return fe2o3_plain_verify(&record, claims == FE2O3_OK, plain_passwords, 4096, rules.accept_authzid, rules.identities,
-        rules.identities_len, message->bytes, message->len);
+        fe2o3_plain_claimed_identity(message->bytes, message->len, acts_for->bytes, sizeof acts_for->bytes,
+            &acts_for->len);
+    return fe2o3_plain_verify(&record, claims == FE2O3_OK, plain_passwords, 4096, rules.accept_authzid,
+        rules.identities, rules.identities_len, message->bytes, message->len);
 }
 
 /* Tests the only message of a mechanism, and writes the name of its user: an empty one for ANONYMOUS. */
-static uint32_t serve_message(
-    FILE *out, const char *mechanism, const struct text *message, struct text *name, struct text *acts_for)
+static uint32_t serve_message(FILE *out, const char *mechanism, const struct text *message, struct text *name,
+    struct text *acts_for)
 {
     const uint8_t *transport = (const uint8_t *)transport_name;
     size_t len = strlen(transport_name);
@@ -420,8 +417,8 @@ static int run_verify(const char *text, int prepared, const char *typed)
     if (status == FE2O3_OK)
         status = fe2o3_scram_record_parse((const uint8_t *)text, strlen(text), &record);
     if (status == FE2O3_OK)
-        status = fe2o3_scram_record_verify(
-            &record, prepared ? FE2O3_PREPARED : FE2O3_TYPED, password.bytes, password.len);
+        status =
+            fe2o3_scram_record_verify(&record, prepared ? FE2O3_PREPARED : FE2O3_TYPED, password.bytes, password.len);
     told(status == FE2O3_OK ? "verified" : "not verified", status);
     return status != FE2O3_OK;
 }
@@ -449,7 +446,8 @@ int main(int count, char **words)
         transport_name = words[--count];
     if (strcmp(what, "server") == 0 && count == 5 && is_known(words[3])) {
         plain_passwords = prepared ? FE2O3_PLAIN_PASSWORDS_PREPARED
-            : prepares ? FE2O3_PLAIN_PASSWORDS_SASLPREP : FE2O3_PLAIN_PASSWORDS_TYPED;
+            : prepares             ? FE2O3_PLAIN_PASSWORDS_SASLPREP
+                                   : FE2O3_PLAIN_PASSWORDS_TYPED;
         return run_server(words + 2);
     }
     if (!read_line(stdin, password, sizeof password))

@@ -81,8 +81,9 @@ def our_servers(run: RunClient) -> Iterator[Cell]:
 
 def anonymous(run: RunClient, what: str, trace: str) -> Cell:
     """A cell of our server of ANONYMOUS, which accepts any message."""
-    return Cell("server", "ANONYMOUS", what, serve(run, "ANONYMOUS", NO_ONE, identity=trace),
-                Ending("logged in:", True))
+    return Cell(
+        "server", "ANONYMOUS", what, serve(run, "ANONYMOUS", NO_ONE, identity=trace), Ending("logged in:", True)
+    )
 
 
 def our_plain_servers(run: RunClient) -> Iterator[Cell]:
@@ -103,7 +104,9 @@ def our_plain_servers(run: RunClient) -> Iterator[Cell]:
     yield cell("the authenticated name as the authorization identity", serve(run, "PLAIN", USER, identity="user"))
     yield refused("non-ASCII password, as typed", serve(run, "PLAIN", PAST, past))
     yield cell("non-ASCII password, prepared", serve(run, "PLAIN", PAST, past, more=("prepared",)))
-    yield refused("password with a soft hyphen, which it does not prepare",
-                  serve(run, "PLAIN", SOFT, soft, more=("prepared",)))
-    yield cell("password with a soft hyphen, which our server prepares",
-               serve(run, "PLAIN", SOFT, soft, more=("saslprep",)))
+    yield refused(
+        "password with a soft hyphen, which it does not prepare", serve(run, "PLAIN", SOFT, soft, more=("prepared",))
+    )
+    yield cell(
+        "password with a soft hyphen, which our server prepares", serve(run, "PLAIN", SOFT, soft, more=("saslprep",))
+    )

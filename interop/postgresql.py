@@ -19,8 +19,23 @@ from typing import Iterator, Optional
 from attacker import ONLY_RELAYS, Attacker
 from cells import Cell, Peer, certificate, none
 from sides import (
-    COMMA, HARD, PAST, PATIENCE, SOFT, USER, Client, Ending, Side, User, dialled, ended_after, free_port, listening,
-    marred, prepared, unprivileged,
+    COMMA,
+    HARD,
+    PAST,
+    PATIENCE,
+    SOFT,
+    USER,
+    Client,
+    Ending,
+    Side,
+    User,
+    dialled,
+    ended_after,
+    free_port,
+    listening,
+    marred,
+    prepared,
+    unprivileged,
 )
 
 MECHANISM = "SCRAM-SHA-256"
@@ -109,7 +124,7 @@ def to_server(
     """Hands the messages of our client to PostgreSQL and back, changed by the attacker. Whether PostgreSQL takes it for
     the user."""
     lines = Lines(ours)
-    with dialled(port) as plain, (in_tls(plain) if by_tls else plain) as channel:
+    with dialled(port) as plain, in_tls(plain) if by_tls else plain as channel:
         server = Messages(channel)
         words = b"user\0" + name.encode() + b"\0database\0postgres\0\0"
         channel.sendall(struct.pack(">II", len(words) + 8, PROTOCOL) + words)
@@ -185,13 +200,20 @@ def psql(port: int, name: str, password: str, more: str = "") -> subprocess.Pope
     wanted = f"host=127.0.0.1 port={port} user='{words}' dbname=postgres connect_timeout={PATIENCE} {more}"
     environment = {"PATH": os.environ["PATH"], "PGPASSWORD": password, "HOME": "/nonexistent", "LC_ALL": "C.UTF-8"}
     return subprocess.Popen(
-        ["psql", "-X", "-At", "-c", "", "-d", wanted], env=environment, stdin=subprocess.DEVNULL,
-        stdout=subprocess.DEVNULL, stderr=subprocess.DEVNULL,
+        ["psql", "-X", "-At", "-c", "", "-d", wanted],
+        env=environment,
+        stdin=subprocess.DEVNULL,
+        stdout=subprocess.DEVNULL,
+        stderr=subprocess.DEVNULL,
     )
 
 
 def from_psql(
-    ours: socket.socket, user: User, context: Optional[ssl.SSLContext], header: bytes, offered: tuple[str, ...],
+    ours: socket.socket,
+    user: User,
+    context: Optional[ssl.SSLContext],
+    header: bytes,
+    offered: tuple[str, ...],
     attacker: Attacker = ONLY_RELAYS,
 ) -> bool:
     """A login of `psql` at our server, with messages that the attacker changes. Whether `psql` is content."""
@@ -229,9 +251,16 @@ class PostgreSql(Peer):
         rules = ["--auth-local=trust", "--auth-host=scram-sha-256"]
         subprocess.run([self.programs / "initdb", *words, *rules], check=True, **self.quiet())
         self.port = free_port()
-        settings = {"listen_addresses": "127.0.0.1", "port": self.port, "unix_socket_directories": folder,
-                    "fsync": "off", "password_encryption": "scram-sha-256", "ssl": "on", "ssl_cert_file": shown,
-                    "ssl_key_file": key}
+        settings = {
+            "listen_addresses": "127.0.0.1",
+            "port": self.port,
+            "unix_socket_directories": folder,
+            "fsync": "off",
+            "password_encryption": "scram-sha-256",
+            "ssl": "on",
+            "ssl_cert_file": shown,
+            "ssl_key_file": key,
+        }
         self.options = ["-D", data, *(word for name, value in settings.items() for word in ("-c", f"{name}={value}"))]
         self.run()
 
@@ -263,7 +292,7 @@ class PostgreSql(Peer):
     def role(self, name: str, password: str) -> None:
         """Creates a user again, with a password or the text of a record."""
         quoted, secret = name.replace('"', '""'), password.replace("'", "''")
-        self.sql(f"drop role if exists \"{quoted}\"; create role \"{quoted}\" login password '{secret}';")
+        self.sql(f'drop role if exists "{quoted}"; create role "{quoted}" login password \'{secret}\';')
 
     def log_in(self, client: Client, password: Optional[str] = None, by_tls: bool = False, count: int = 4096, mar=None):
         """A login of our client to the server, where the user has this password, or none is made."""
@@ -278,8 +307,15 @@ class PostgreSql(Peer):
         return login
 
     def serve(
-        self, user: User, known: User, tls: bytes = b"", of_server: bool = False, mar=None, unbound: bool = False,
-        bound: str = "", offered: tuple[str, ...] = (MECHANISM,),
+        self,
+        user: User,
+        known: User,
+        tls: bytes = b"",
+        of_server: bool = False,
+        mar=None,
+        unbound: bool = False,
+        bound: str = "",
+        offered: tuple[str, ...] = (MECHANISM,),
     ):
         """A login of `psql` to our server, which knows one user: under no name, since libpq sends none in SCRAM.
         Under TLS, where there is a header that it is to send there. Our server may bind a channel."""
@@ -349,21 +385,37 @@ class PostgreSql(Peer):
         yield cell("count 100,000", self.log_in(of, "pencil", count=100_000), done)
         small, large = (f"not logged in: Client: Iteration count too {size}" for size in ("small", "large"))
         yield cell("count below the minimum", self.log_in(of, "pencil", count=4095), Ending(small, False))
-        yield cell("count above the limit", self.log_in(of._replace(most=99_999), "pencil", count=100_000),
-                   Ending(large, False))
-        yield cell("cached keys", self.log_in(of._replace(again=True), "pencil"),
-                   Ending("logged in: Done; logged in by keys: Done", True))
+        yield cell(
+            "count above the limit",
+            self.log_in(of._replace(most=99_999), "pencil", count=100_000),
+            Ending(large, False),
+        )
+        yield cell(
+            "cached keys",
+            self.log_in(of._replace(again=True), "pencil"),
+            Ending("logged in: Done; logged in by keys: Done", True),
+        )
         yield cell("its signature, altered on the way", self.log_in(of, "pencil", mar=marred), Ending(FORGED, False))
-        yield cell("non-ASCII password, as typed", self.log_in(of._replace(user=PAST), PAST.password),
-                   Ending("not logged in: Client: Error normalizing password", False))
+        yield cell(
+            "non-ASCII password, as typed",
+            self.log_in(of._replace(user=PAST), PAST.password),
+            Ending("not logged in: Client: Error normalizing password", False),
+        )
 
     def prepared_at_server(self) -> Iterator[Cell]:
         """Logins of our client by passwords that are prepared, here or there."""
 
         def cell(what: str, user: User, password: str, kept: Optional[User]) -> Cell:
             login = self.log_in(Client(MECHANISM, user), password)
-            return Cell("client", MECHANISM, what, login, Ending("logged in: Done", True), kept=kept,
-                        kept_as="prepared" if user.prepared else "")
+            return Cell(
+                "client",
+                MECHANISM,
+                what,
+                login,
+                Ending("logged in: Done", True),
+                kept=kept,
+                kept_as="prepared" if user.prepared else "",
+            )
 
         yield cell("non-ASCII password, prepared", PAST._replace(prepared=True), PAST.password, PAST)
         yield cell("password with a soft hyphen, prepared", SOFT._replace(prepared=True), HARD.password, HARD)
@@ -378,8 +430,11 @@ class PostgreSql(Peer):
             return Cell("client", PLUS, what, self.log_in(client, USER.password, by_tls=True), ends, kept=kept)
 
         yield cell("a login, `tls-server-end-point`", bound, done, USER)
-        yield cell("a login by cached keys", bound._replace(again=True),
-                   Ending("logged in: Done; logged in by keys: Done", True))
+        yield cell(
+            "a login by cached keys",
+            bound._replace(again=True),
+            Ending("logged in: Done; logged in by keys: Done", True),
+        )
         yield cell("the data of another channel", other, refused)
         yield cell("a wrong password", bound._replace(user=User("user", "pencils")), refused)
 
@@ -391,19 +446,32 @@ class PostgreSql(Peer):
         def cell(what: str, login, ends: Ending, kept: Optional[User] = None) -> Cell:
             return Cell("server", PLUS, what, login, ends, kept=kept)
 
-        yield cell("a login, `tls-server-end-point`",
-                   self.serve(USER, USER, tls=BINDS, bound=self.channel(), offered=both), done,
-                   User("", USER.password))
-        yield cell("the data of another channel",
-                   self.serve(USER, USER, tls=BINDS, bound=self.channel(b"other"), offered=both),
-                   Ending("not logged in: Server: Invalid channel binding", False))
-        yield cell("a wrong password",
-                   self.serve(User("user", "pencils"), USER, tls=BINDS, bound=self.channel(), offered=both),
-                   Ending("not logged in: Server: Authentication failed", False))
-        yield cell("another kind of channel",
-                   self.serve(USER, USER, tls=BINDS, bound="tls-exporter:" + "00" * 32, offered=both), header)
-        yield cell("`-PLUS` removed from the offer, and `psql` has to bind", self.serve(USER, USER, tls=BINDS),
-                   Ending("not logged in: the other side ended", False))
+        yield cell(
+            "a login, `tls-server-end-point`",
+            self.serve(USER, USER, tls=BINDS, bound=self.channel(), offered=both),
+            done,
+            User("", USER.password),
+        )
+        yield cell(
+            "the data of another channel",
+            self.serve(USER, USER, tls=BINDS, bound=self.channel(b"other"), offered=both),
+            Ending("not logged in: Server: Invalid channel binding", False),
+        )
+        yield cell(
+            "a wrong password",
+            self.serve(User("user", "pencils"), USER, tls=BINDS, bound=self.channel(), offered=both),
+            Ending("not logged in: Server: Authentication failed", False),
+        )
+        yield cell(
+            "another kind of channel",
+            self.serve(USER, USER, tls=BINDS, bound="tls-exporter:" + "00" * 32, offered=both),
+            header,
+        )
+        yield cell(
+            "`-PLUS` removed from the offer, and `psql` has to bind",
+            self.serve(USER, USER, tls=BINDS),
+            Ending("not logged in: the other side ended", False),
+        )
         yield cell("`-PLUS` removed from the offer, and `psql` may bind", self.serve(USER, USER, tls=BINDS_NOT), header)
 
     def our_servers(self) -> Iterator[Cell]:
@@ -420,10 +488,19 @@ class PostgreSql(Peer):
             yield cell(f"count {count:,}", self.serve(USER, USER._replace(count=count)), done)
         yield cell("our signature, altered on the way", self.serve(USER, USER, mar=marred), Ending("logged in:", False))
         yield cell("under TLS, where it sends `n,,`", self.serve(USER, USER, tls=CANNOT_BIND), done)
-        yield cell("under TLS, where it sends `y,,`", self.serve(USER, USER, tls=BINDS_NOT, unbound=True), done,
-                   User("", USER.password), "cbind_flag_y")
-        yield cell("under TLS, where it sends `y,,`, which is not taken", self.serve(USER, USER, tls=BINDS_NOT),
-                   Ending("not logged in: Server: Cannot parse GS2-header", False), User("", USER.password))
+        yield cell(
+            "under TLS, where it sends `y,,`",
+            self.serve(USER, USER, tls=BINDS_NOT, unbound=True),
+            done,
+            User("", USER.password),
+            "cbind_flag_y",
+        )
+        yield cell(
+            "under TLS, where it sends `y,,`, which is not taken",
+            self.serve(USER, USER, tls=BINDS_NOT),
+            Ending("not logged in: Server: Cannot parse GS2-header", False),
+            User("", USER.password),
+        )
         yield cell("`n,,`, where `y,,` is taken", self.serve(USER, USER, unbound=True), done)
 
     def prepared_at_ours(self) -> Iterator[Cell]:
@@ -433,8 +510,12 @@ class PostgreSql(Peer):
             return Cell("server", MECHANISM, what, login, Ending("logged in:", True), kept=kept, kept_as=kept_as)
 
         yield cell("non-ASCII password, of its own record", self.serve(PAST, PAST, of_server=True))
-        yield cell("non-ASCII password, prepared", self.serve(PAST, PAST._replace(prepared=True)),
-                   User("", PAST.password), "records")
+        yield cell(
+            "non-ASCII password, prepared",
+            self.serve(PAST, PAST._replace(prepared=True)),
+            User("", PAST.password),
+            "records",
+        )
         yield cell("password with a soft hyphen, prepared", self.serve(HARD, SOFT._replace(prepared=True)))
         yield cell("password with a soft hyphen, which it prepares", self.serve(SOFT, HARD), User("", HARD.password))
 
@@ -450,10 +531,17 @@ class PostgreSql(Peer):
         yield cell("`rolpassword` read, another password", self.read(USER, User("user", "pencils")), other)
         yield cell("`rolpassword` read, non-ASCII, prepared", self.read(PAST, PAST._replace(prepared=True)), verified)
         yield cell("`rolpassword` read, non-ASCII, as typed", self.read(PAST, PAST), other)
-        yield cell("`rolpassword` read, a soft hyphen, prepared", self.read(SOFT, SOFT._replace(prepared=True)),
-                   verified)
+        yield cell(
+            "`rolpassword` read, a soft hyphen, prepared", self.read(SOFT, SOFT._replace(prepared=True)), verified
+        )
         yield cell("`rolpassword` written, and a login of `psql`", self.written(USER, USER), written)
-        yield cell("`rolpassword` written, non-ASCII, prepared, and a login of `psql`",
-                   self.written(PAST._replace(prepared=True), PAST), written)
-        yield cell("`rolpassword` written, a soft hyphen, prepared, and a login of `psql`",
-                   self.written(SOFT._replace(prepared=True), SOFT), written)
+        yield cell(
+            "`rolpassword` written, non-ASCII, prepared, and a login of `psql`",
+            self.written(PAST._replace(prepared=True), PAST),
+            written,
+        )
+        yield cell(
+            "`rolpassword` written, a soft hyphen, prepared, and a login of `psql`",
+            self.written(SOFT._replace(prepared=True), SOFT),
+            written,
+        )

@@ -48,9 +48,7 @@ class QpidProton(Peer):
     def asked(self, words: str) -> str:
         """What Proton's module says of itself."""
         words = [PYTHON, "-c", f"import proton; print({words})"]
-        return subprocess.run(
-            words, env=self.environment, capture_output=True, text=True, check=True
-        ).stdout.strip()
+        return subprocess.run(words, env=self.environment, capture_output=True, text=True, check=True).stdout.strip()
 
     def version(self) -> str:
         return self.asked("*proton.VERSION, sep='.'")
@@ -94,8 +92,11 @@ class QpidProton(Peer):
     def files(self, name: str) -> dict[str, str]:
         """The files for TLS with a certificate of this name."""
         pair = self.authority.issue(name)
-        return {"authority": str(self.authority.pair.certificate), "certificate": str(pair.certificate),
-                "key": str(pair.key)}
+        return {
+            "authority": str(self.authority.pair.certificate),
+            "certificate": str(pair.certificate),
+            "key": str(pair.key),
+        }
 
     def log_in_external(self, asked: str, name: str = ""):
         """A login of our client over TLS, which has a certificate. Proton takes it for the certificate's subject, which
@@ -104,8 +105,9 @@ class QpidProton(Peer):
 
         def login(side: Side) -> Ending:
             worker = self.worker()
-            self.ask(worker, side="server", mechanisms="EXTERNAL", settings=str(self.folder / "4096"),
-                     tls=self.files(HOST))
+            self.ask(
+                worker, side="server", mechanisms="EXTERNAL", settings=str(self.folder / "4096"), tls=self.files(HOST)
+            )
             port = to_tls(self.told(worker)["port"], self.authority.client(USER.name))
             ours, told = side.log_in_by_frames(port, asked, User(name, "")), self.told(worker)
             return Ending(ours, told == {"in": True, "user": subject, "acts_as": name or subject})
@@ -116,8 +118,16 @@ class QpidProton(Peer):
         """A login of a client of Proton to our server over TLS, with a certificate of a user, to act as this name."""
 
         def by(port: int) -> bool:
-            self.ask(self.worker(), side="client", port=port, mechanism="EXTERNAL", user=None, password=None,
-                     acts_as=name, tls=self.files(user.name))
+            self.ask(
+                self.worker(),
+                side="client",
+                port=port,
+                mechanism="EXTERNAL",
+                user=None,
+                password=None,
+                acts_as=name,
+                tls=self.files(user.name),
+            )
             return self.told(self.worker())["in"]
 
         return lambda side: serve_external(side, self.authority, by)
@@ -171,7 +181,9 @@ class QpidProton(Peer):
         """Clients of Proton that name an authorization identity."""
 
         def cell(what: str, identity: str, words: tuple[str, ...], ends: Ending, user: User = USER) -> Cell:
-            return Cell("server", mechanism, what, self.serve(mechanism, user, more=("", *words), identity=identity), ends)
+            return Cell(
+                "server", mechanism, what, self.serve(mechanism, user, more=("", *words), identity=identity), ends
+            )
 
         yield cell("the user's own name as the authorization identity", USER.name, may_act(BOB), acting(USER.name))
         yield cell(ALLOWED, BOB, may_act(BOB), acting(BOB))
@@ -207,8 +219,13 @@ class QpidProton(Peer):
         yield Cell("client", "ANONYMOUS", "a login", self.log_in("ANONYMOUS"), DONE, kept=USER)
         yield self.traced()
         for mechanism in (*SCRAM, "PLAIN"):
-            yield Cell("client", mechanism, "it offers only ANONYMOUS", self.log_in("ANONYMOUS", asked=mechanism),
-                       Ending("not logged in: Connection: Not implemented", False))
+            yield Cell(
+                "client",
+                mechanism,
+                "it offers only ANONYMOUS",
+                self.log_in("ANONYMOUS", asked=mechanism),
+                Ending("not logged in: Connection: Not implemented", False),
+            )
         yield Cell("server", "ANONYMOUS", "a login", self.serve("ANONYMOUS"), Ending("logged in:", True), kept=USER)
         yield from self.our_servers("PLAIN")
         yield from self.with_identities("PLAIN")
@@ -248,8 +265,13 @@ class ProtonWithCyrus(QpidProton):
             yield from self.our_servers(mechanism)
             yield from self.our_servers_by_challenge(mechanism)
             yield from self.with_identities(mechanism)
-            yield Cell("client", mechanism, "signature by a challenge: an authorization identity",
-                       self.log_in_for(mechanism, BOB, (BY_CHALLENGE,)), DONE)
+            yield Cell(
+                "client",
+                mechanism,
+                "signature by a challenge: an authorization identity",
+                self.log_in_for(mechanism, BOB, (BY_CHALLENGE,)),
+                DONE,
+            )
         yield from self.our_plain_clients()
         yield Cell("client", "PLAIN", "an authorization identity", self.log_in_for("PLAIN", BOB), DONE)
         yield from self.our_servers("PLAIN")
@@ -290,15 +312,30 @@ class ProtonWithCyrus(QpidProton):
         """It sends its signature by one more challenge, which our client rejects by default."""
         refused = "not logged in: Connection: Unexpected frame"
         for what, count in (("a login", 4096), ("count 100,000", 100_000)):
-            yield Cell("client", mechanism, f"{what}: it sends its signature by a challenge",
-                       self.log_in(mechanism, count=count), Ending(refused, False),
-                       kept=USER if count == 4096 and mechanism in KEPT else None)
+            yield Cell(
+                "client",
+                mechanism,
+                f"{what}: it sends its signature by a challenge",
+                self.log_in(mechanism, count=count),
+                Ending(refused, False),
+                kept=USER if count == 4096 and mechanism in KEPT else None,
+            )
         for what, user in (("wrong password", User("user", "pencils")), ("unknown user", User("nobody", "pencil"))):
             yield Cell("client", mechanism, what, self.log_in(mechanism, user), REFUSED)
-        yield Cell("client", mechanism, "count below the minimum", self.log_in(mechanism, count=4095),
-                   Ending("not logged in: Client: Iteration count too small", False))
-        yield Cell("client", mechanism, "non-ASCII password", self.log_in(mechanism, PAST),
-                   Ending("not logged in: Client: Error normalizing password", False))
+        yield Cell(
+            "client",
+            mechanism,
+            "count below the minimum",
+            self.log_in(mechanism, count=4095),
+            Ending("not logged in: Client: Iteration count too small", False),
+        )
+        yield Cell(
+            "client",
+            mechanism,
+            "non-ASCII password",
+            self.log_in(mechanism, PAST),
+            Ending("not logged in: Client: Error normalizing password", False),
+        )
 
     def our_plain_clients(self) -> Iterator[Cell]:
         for what, user in (("a login", USER), ("a name with `,` and `=`", COMMA)):

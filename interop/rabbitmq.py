@@ -50,8 +50,13 @@ class RabbitMq(Peer):
         users = [{"name": user.name, "password": user.password, "tags": ""} for user in (USER, COMMA)]
         definitions = {"users": users, "vhosts": [{"name": "/"}]}
         (folder / "definitions.json").write_text(json.dumps(definitions))
-        settings = {"listeners.tcp.1": f"127.0.0.1:{self.port}", "load_definitions": folder / "definitions.json",
-                    "loopback_users": "none", "amqp1_0.default_user": USER.name, "log.console": "false"}
+        settings = {
+            "listeners.tcp.1": f"127.0.0.1:{self.port}",
+            "load_definitions": folder / "definitions.json",
+            "loopback_users": "none",
+            "amqp1_0.default_user": USER.name,
+            "log.console": "false",
+        }
         owned = [folder, *(folder / name for name in ("rabbitmq.conf", "enabled", "definitions.json"))]
         if shutil.which("openssl") is not None:
             self.authority, self.tls_port = Authority(folder / "tls"), free_port()
@@ -60,32 +65,57 @@ class RabbitMq(Peer):
         (folder / "rabbitmq.conf").write_text("".join(f"{name} = {value}\n" for name, value in settings.items()))
         (folder / "enabled").write_text("[rabbitmq_amqp1_0,rabbitmq_auth_mechanism_ssl].\n")
         environment = {
-            "PATH": os.environ["PATH"], "HOME": str(folder), "ERL_EPMD_PORT": str(mapper), "LC_ALL": "C.UTF-8",
-            "RABBITMQ_NODENAME": f"interop{self.port}@localhost", "RABBITMQ_DIST_PORT": str(free_port()),
-            "RABBITMQ_MNESIA_BASE": str(folder / "mnesia"), "RABBITMQ_LOG_BASE": str(folder / "log"),
-            "RABBITMQ_CONFIG_FILE": str(folder / "rabbitmq.conf"), "RABBITMQ_CONF_ENV_FILE": str(folder / "none"),
-            "RABBITMQ_ENABLED_PLUGINS_FILE": str(folder / "enabled"), "RABBITMQ_PID_FILE": str(folder / "pid"),
+            "PATH": os.environ["PATH"],
+            "HOME": str(folder),
+            "ERL_EPMD_PORT": str(mapper),
+            "LC_ALL": "C.UTF-8",
+            "RABBITMQ_NODENAME": f"interop{self.port}@localhost",
+            "RABBITMQ_DIST_PORT": str(free_port()),
+            "RABBITMQ_MNESIA_BASE": str(folder / "mnesia"),
+            "RABBITMQ_LOG_BASE": str(folder / "log"),
+            "RABBITMQ_CONFIG_FILE": str(folder / "rabbitmq.conf"),
+            "RABBITMQ_CONF_ENV_FILE": str(folder / "none"),
+            "RABBITMQ_ENABLED_PLUGINS_FILE": str(folder / "enabled"),
+            "RABBITMQ_PID_FILE": str(folder / "pid"),
         }
         who = unprivileged(*owned)
-        quiet = {"stdin": subprocess.DEVNULL, "stdout": subprocess.DEVNULL, "stderr": subprocess.DEVNULL,
-                 "cwd": folder, "env": environment, **who}
+        quiet = {
+            "stdin": subprocess.DEVNULL,
+            "stdout": subprocess.DEVNULL,
+            "stderr": subprocess.DEVNULL,
+            "cwd": folder,
+            "env": environment,
+            **who,
+        }
         for words in (["epmd", "-port", str(mapper), "-address", "127.0.0.1"], [SERVER]):
             self.started.append(subprocess.Popen(words, **quiet))
         self.wait()
         words = ["escript", Path(__file__).resolve().parent / "rabbitmq_client.erl", self.plugins()]
         self.client = subprocess.Popen(
-            words, stdin=subprocess.PIPE, stdout=subprocess.PIPE, stderr=subprocess.DEVNULL, cwd=folder,
-            env={"PATH": os.environ["PATH"], "HOME": str(folder), "LC_ALL": "C.UTF-8"}, **who,
+            words,
+            stdin=subprocess.PIPE,
+            stdout=subprocess.PIPE,
+            stderr=subprocess.DEVNULL,
+            cwd=folder,
+            env={"PATH": os.environ["PATH"], "HOME": str(folder), "LC_ALL": "C.UTF-8"},
+            **who,
         )
 
     def tls_settings(self) -> dict[str, object]:
         """Settings for EXTERNAL over TLS, where the user is the common name of the client's certificate."""
         server = self.authority.issue(HOST)
-        return {"listeners.ssl.1": f"127.0.0.1:{self.tls_port}", "ssl_cert_login_from": "common_name",
-                "ssl_options.cacertfile": self.authority.pair.certificate, "ssl_options.certfile": server.certificate,
-                "ssl_options.keyfile": server.key, "ssl_options.verify": "verify_peer",
-                "ssl_options.fail_if_no_peer_cert": "false", "auth_mechanisms.1": "PLAIN",
-                "auth_mechanisms.2": "AMQPLAIN", "auth_mechanisms.3": "EXTERNAL"}
+        return {
+            "listeners.ssl.1": f"127.0.0.1:{self.tls_port}",
+            "ssl_cert_login_from": "common_name",
+            "ssl_options.cacertfile": self.authority.pair.certificate,
+            "ssl_options.certfile": server.certificate,
+            "ssl_options.keyfile": server.key,
+            "ssl_options.verify": "verify_peer",
+            "ssl_options.fail_if_no_peer_cert": "false",
+            "auth_mechanisms.1": "PLAIN",
+            "auth_mechanisms.2": "AMQPLAIN",
+            "auth_mechanisms.3": "EXTERNAL",
+        }
 
     def wait(self) -> None:
         """Waits until the server answers the header of SASL on each of its ports."""
@@ -135,15 +165,23 @@ class RabbitMq(Peer):
         if self.authority is None:
             yield none("client", "EXTERNAL", "a login", "there is no TLS")
             return
-        for what, certificate, name in (("an empty initial response", USER.name, ""),
-                                        ("another name as the initial response", USER.name, "bob"),
-                                        ("a name with `,` and `=`", COMMA.name, "")):
+        for what, certificate, name in (
+            ("an empty initial response", USER.name, ""),
+            ("another name as the initial response", USER.name, "bob"),
+            ("a name with `,` and `=`", COMMA.name, ""),
+        ):
             yield Cell("client", "EXTERNAL", what, self.log_in_external(certificate, name), DONE)
         # (it lets one wait for three seconds)
         for what, certificate in (("unknown user", "nobody"), ("no certificate", None)):
             yield Cell("client", "EXTERNAL", what, self.log_in_external(certificate), REFUSED, at_once=True)
-        yield Cell("client", "EXTERNAL", "no initial response", self.log_in_external(USER.name, asked="EXTERNAL"),
-                   Ending("no connection", None), at_once=True)
+        yield Cell(
+            "client",
+            "EXTERNAL",
+            "no initial response",
+            self.log_in_external(USER.name, asked="EXTERNAL"),
+            Ending("no connection", None),
+            at_once=True,
+        )
 
     def serve(self, mechanism: str, user: User = USER, known: User = USER):
         """A login of its client to our server, which knows one user."""
@@ -170,17 +208,28 @@ class RabbitMq(Peer):
             kept = user if user.name == USER.name else None
             yield Cell("client", "PLAIN", what, self.log_in("PLAIN", user), REFUSED, kept=kept, at_once=True)
         yield cell("client", "ANONYMOUS", "a login", self.log_in("ANONYMOUS"), DONE, USER)
-        yield cell("client", "ANONYMOUS", "trace information as the initial response",
-                   self.log_in(ANONYMOUS_AS, TRACE), DONE)
+        yield cell(
+            "client", "ANONYMOUS", "trace information as the initial response", self.log_in(ANONYMOUS_AS, TRACE), DONE
+        )
         yield from self.external()
         for mechanism in (*SCRAM, "EXTERNAL"):
             what = "it does not offer it" + (" without TLS" if mechanism == "EXTERNAL" else "")
-            yield cell("client", mechanism, what, self.log_in(mechanism),
-                       Ending("not logged in: Connection: Not implemented", None))
+            yield cell(
+                "client",
+                mechanism,
+                what,
+                self.log_in(mechanism),
+                Ending("not logged in: Connection: Not implemented", None),
+            )
         refused = Ending("not logged in: Connection: The login was rejected", False)
         yield cell("server", "PLAIN", "a login", self.serve("PLAIN"), Ending("logged in: user", True), USER)
-        yield cell("server", "PLAIN", "a name with `,` and `=`", self.serve("PLAIN", COMMA, COMMA),
-                   Ending("logged in: a,b=c", True))
+        yield cell(
+            "server",
+            "PLAIN",
+            "a name with `,` and `=`",
+            self.serve("PLAIN", COMMA, COMMA),
+            Ending("logged in: a,b=c", True),
+        )
         yield cell("server", "PLAIN", "wrong password", self.serve("PLAIN", User("user", "pencils")), refused)
         yield cell("server", "PLAIN", "unknown user", self.serve("PLAIN", User("nobody", "pencil")), refused)
         yield cell("server", "ANONYMOUS", "a login", self.serve("ANONYMOUS"), Ending("logged in:", True), USER)

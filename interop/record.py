@@ -77,9 +77,11 @@ def client_run(side: str, mechanism: str, user: User, tap: Tap) -> list[str]:
     offer = mechanisms_frame(mechanism)[4:].hex()
     init = body(INIT, short(0xA3, mechanism.encode()), data(first))
     words = " ".join([*side_of(side, mechanism), *map(hexed, (user.name.encode(), user.password.encode()))])
-    rows = [words + channel_words(mechanism, last),
-            f"{nonce_of(first)} {offer} => Init {init}",
-            f"{ZEROS} {body(CHALLENGE, data(challenge))} => Response {body(RESPONSE, data(last))}"]
+    rows = [
+        words + channel_words(mechanism, last),
+        f"{nonce_of(first)} {offer} => Init {init}",
+        f"{ZEROS} {body(CHALLENGE, data(challenge))} => Response {body(RESPONSE, data(last))}",
+    ]
     outcome = body(OUTCOME, b"\x50\0", data(finals[0]))
     return [*rows, f"{ZEROS} {outcome} => Outcome:Ok {outcome}"]
 
@@ -97,8 +99,11 @@ def server_run(side: str, mechanism: str, user: User, tap: Tap) -> list[str]:
     theirs = next(part for part in first.split(b",") if part.startswith(b"r="))
     nonce = nonce_of(answers[0], len(theirs) - 2)
     outcome = body(OUTCOME, b"\x50\0", data(answers[1]))
-    return [*rows, f"{nonce} {init} => Challenge {body(CHALLENGE, data(answers[0]))}",
-            f"{ZEROS} {body(RESPONSE, data(lasts[0]))} => Outcome:Ok {outcome}"]
+    return [
+        *rows,
+        f"{nonce} {init} => Challenge {body(CHALLENGE, data(answers[0]))}",
+        f"{ZEROS} {body(RESPONSE, data(lasts[0]))} => Outcome:Ok {outcome}",
+    ]
 
 
 def of_other_channel(rows: list[str]) -> list[str]:
@@ -106,8 +111,11 @@ def of_other_channel(rows: list[str]) -> list[str]:
     words, channel = rows[0].rsplit(" ", 1)
     other = bytes.fromhex(channel)
     asked = rows[-1].partition(" => ")[0]
-    return [f"{words} {bytes([other[0] ^ 1]).hex()}{other[1:].hex()}", *rows[1:-1],
-            f"{asked} => Outcome:Auth {body(OUTCOME, REFUSED)}"]
+    return [
+        f"{words} {bytes([other[0] ^ 1]).hex()}{other[1:].hex()}",
+        *rows[1:-1],
+        f"{asked} => Outcome:Auth {body(OUTCOME, REFUSED)}",
+    ]
 
 
 def stream(side: str, mechanism: str, user: User, tap: Tap, options: str) -> list[str]:
@@ -121,8 +129,11 @@ def stream(side: str, mechanism: str, user: User, tap: Tap, options: str) -> lis
         rows = [f"server {mechanism}" + ("" if mechanism == "ANONYMOUS" else f" {name} {password}")]
     rows[0] += f" {options}" if options else ""
     sent = b"".join(came for whose, came in tap.kept if whose == side)
-    found = re.search(rb"\xa0.(n,,n=[^,]*,r=[A-Za-z0-9+/]{43}=)" if side == "client" else
-                      rb"\xa0.(r=[^,]*,s=[^,]*,i=\d+)", sent, re.DOTALL)
+    found = re.search(
+        rb"\xa0.(n,,n=[^,]*,r=[A-Za-z0-9+/]{43}=)" if side == "client" else rb"\xa0.(r=[^,]*,s=[^,]*,i=\d+)",
+        sent,
+        re.DOTALL,
+    )
     if found:
         rows.append("nonce " + nonce_of(found[1], 0 if side == "client" else found[1].index(b",s=") - 2 - 44))
     return rows + [f"{'sent' if whose == side else 'came'} {came.hex()}" for whose, came in tap.kept]

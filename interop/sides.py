@@ -244,7 +244,11 @@ class Side:
                 return Ending("; ".join(told), seen)
 
     def serve(
-        self, mechanism: str, records: dict[str, str], peer: Callable[[socket.socket], Optional[bool]], mar=None,
+        self,
+        mechanism: str,
+        records: dict[str, str],
+        peer: Callable[[socket.socket], Optional[bool]],
+        mar=None,
         more=(),
     ) -> Ending:
         """A login at our server over lines, for which it has more words. The peer is called with its end of the

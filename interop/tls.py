@@ -46,10 +46,34 @@ class Authority:
         if name not in self.issued:
             stem = self.folder / str(len(self.issued))
             pair, request = Pair(stem.with_suffix(".pem"), stem.with_suffix(".key")), stem.with_suffix(".csr")
-            self.openssl("req", "-nodes", "-newkey", "rsa:2048", "-utf8", "-subj", f"/CN={name}", "-keyout", pair.key,
-                         "-out", request)
-            self.openssl("x509", "-req", "-days", "2", "-in", request, "-CA", self.pair.certificate, "-CAkey",
-                         self.pair.key, "-CAcreateserial", "-out", pair.certificate)
+            self.openssl(
+                "req",
+                "-nodes",
+                "-newkey",
+                "rsa:2048",
+                "-utf8",
+                "-subj",
+                f"/CN={name}",
+                "-keyout",
+                pair.key,
+                "-out",
+                request,
+            )
+            self.openssl(
+                "x509",
+                "-req",
+                "-days",
+                "2",
+                "-in",
+                request,
+                "-CA",
+                self.pair.certificate,
+                "-CAkey",
+                self.pair.key,
+                "-CAcreateserial",
+                "-out",
+                pair.certificate,
+            )
             self.issued[name] = pair
         return self.issued[name]
 

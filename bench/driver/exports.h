@@ -5,7 +5,7 @@
 #include <stddef.h>
 #include <stdint.h>
 
-#define WANT SIZE_MAX          /* there was no memory */
+#define WANT SIZE_MAX /* there was no memory */
 #define REFUSED (SIZE_MAX - 1) /* any other refusal */
 #define IN(name) const uint8_t *name, size_t name##_len
 #define OUT(name) uint8_t *name, size_t name##_room
@@ -17,10 +17,10 @@ size_t bench_salted(uint32_t version, IN(password), IN(salt));
 
 size_t bench_client_first(uint32_t version, IN(username), IN(nonce), OUT(out));
 size_t bench_server_first(uint32_t version, IN(username), IN(message), IN(nonce), uint32_t times, OUT(out));
-size_t bench_client_final(uint32_t version, IN(nonce), IN(password), IN(message), IN(bare), uint32_t limit,
-                          OUT(out), OUT(signature));
+size_t bench_client_final(uint32_t version, IN(nonce), IN(password), IN(message), IN(bare), uint32_t limit, OUT(out),
+    OUT(signature));
 size_t bench_server_final(uint32_t version, IN(message), IN(nonce), IN(bare), IN(challenge), IN(stored_key),
-                          IN(server_key), OUT(out));
+    IN(server_key), OUT(out));
 size_t bench_validate(uint32_t version, IN(message), IN(signature));
 size_t bench_auth_message(IN(first), IN(second), IN(third));
 size_t bench_escape(IN(username));

@@ -10,26 +10,34 @@ static uint8_t *first, *second;
 static size_t first_len, second_len;
 static struct text out, signature;
 
-static void begin(size_t size) {
+static void begin(size_t size)
+{
     first = own_memory(8 * size + 4096);
     second = own_memory(8 * size + 4096);
     first_len = second_len = 0;
 }
-static void add(const char *text) {
+static void add(const char *text)
+{
     memcpy(first + first_len, text, strlen(text));
     first_len += strlen(text);
 }
-static void add_text(const struct text *text) {
+static void add_text(const struct text *text)
+{
     memcpy(first + first_len, text->bytes, text->len);
     first_len += text->len;
 }
-static void add_many(const char *text, size_t times) {
-    for (size_t i = 0; i < times; i++) add(text);
+static void add_many(const char *text, size_t times)
+{
+    for (size_t i = 0; i < times; i++)
+        add(text);
 }
-static void add_number(size_t number) {
-    for (int shift = 24; shift >= 0; shift -= 8) first[first_len++] = number >> shift;
+static void add_number(size_t number)
+{
+    for (int shift = 24; shift >= 0; shift -= 8)
+        first[first_len++] = number >> shift;
 }
-static void add_start(uint8_t code) {
+static void add_start(uint8_t code)
+{
     static const uint8_t start[] = {2, 1, 0, 0, 0, 0x53};
     memcpy(first, start, sizeof start);
     first_len = sizeof start;
@@ -39,7 +47,8 @@ static void add_start(uint8_t code) {
 static void plain_bytes(size_t size) { begin(size), add_many("a", size); }
 static void commas(size_t size) { begin(size), add_many(",", size); }
 static void escapes(size_t size) { begin(size), add_many("=2C", size); }
-static void mechanisms(size_t size) {
+static void mechanisms(size_t size)
+{
     begin(size);
     add_start(0x40);
     add_number(4 + 1 + 4 + 4 + 1 + 2 * size);
@@ -50,7 +59,8 @@ static void mechanisms(size_t size) {
     first[first_len++] = 0xa3;
     add_many("\001A", size);
 }
-static void challenge(size_t size) {
+static void challenge(size_t size)
+{
     begin(size);
     add_start(0x42);
     add_number(4 + 5 + size);
@@ -61,27 +71,33 @@ static void challenge(size_t size) {
 }
 static void extension(size_t size) { begin(size), add_text(&logins[1].server_first), add(",x="), add_many("x", size); }
 static void extension_of_commas(size_t size) { begin(size), add_text(&logins[1].server_first), add_many(",", size); }
-static void nonce_of_client(size_t size) {
+static void nonce_of_client(size_t size)
+{
     begin(size);
     memset(second, 'n', second_len = size);
     add("r="), add_many("n", size), add("x,s=AAAA,i=1");
 }
-static void nonce_of_server(size_t size) {
+static void nonce_of_server(size_t size)
+{
     begin(size), add("r="), add_text(&client_nonce), add_many("n", size), add(",s=AAAA,i=1");
 }
-static void long_salt(size_t size) {
+static void long_salt(size_t size)
+{
     begin(size), add("r="), add_text(&nonce), add(",s="), add_many("AAAA", (size + 3) / 4), add(",i=1");
 }
 static void digits(size_t size) { begin(size), add("r="), add_text(&nonce), add(",s=AAAA,i="), add_many("9", size); }
-static void zeros(size_t size) {
+static void zeros(size_t size)
+{
     begin(size), add("r="), add_text(&nonce), add(",s=AAAA,i="), add_many("0", size), add("1");
 }
-static void escaped_user(size_t size) {
+static void escaped_user(size_t size)
+{
     begin(size);
     memset(second, ',', second_len = size);
     add("n,,n="), add_many("=2C", size), add(",r="), add_text(&client_nonce);
 }
-static void parts_of_final(size_t size) {
+static void parts_of_final(size_t size)
+{
     begin(size), add("c=biws,r="), add_text(&nonce), add_many(",", size);
     add(",p=AAAAAAAAAAAAAAAAAAAAAAAAAAAAAAAAAAAAAAAAAAA=");
 }
@@ -94,7 +110,8 @@ static void logins_of_client(size_t size) { of_client = events_of(size, 0); }
 static void logins_of_server(size_t size) { of_server = events_of(size, 1); }
 static void logins_of_both(size_t size) { logins_of_client(size), logins_of_server(size); }
 /* So many events of which the first login alone ends well: the others are this one's last event. */
-static struct list then_refused(struct list login, size_t size) {
+static struct list then_refused(struct list login, size_t size)
+{
     struct list all = {own_memory(size * EVENT), size * EVENT};
     for (size_t at = 0; at < all.len; at += EVENT) {
         size_t from = at < login.len ? at : login.len - EVENT;
@@ -106,13 +123,15 @@ static void refused_by_client(size_t size) { of_client = then_refused(events_of(
 static void refused_by_server(size_t size) { of_server = then_refused(events_of(1, 1), size); }
 static void refused_by_both(size_t size) { refused_by_client(size), refused_by_server(size); }
 static void users(size_t size) { of_users = lines_of(size); }
-static void last_user(size_t size) {
+static void last_user(size_t size)
+{
     begin(64);
     users(size);
     first_len = name_into((char *)first, size - 1);
 }
 /* So many users, and behind them the one of the events. */
-static void users_and_login(size_t size) {
+static void users_and_login(size_t size)
+{
     struct list others = lines_of(size);
     of_users = (struct list){own_memory(others.len + 1000), others.len};
     memcpy(of_users.bytes, others.bytes, others.len);
@@ -124,10 +143,11 @@ static void users_and_login(size_t size) {
 }
 
 #define FIRST first, first_len
-#define RUN(name, expression)                  \
-    static size_t name(size_t size, int call) { \
-        (void)size;                            \
-        return call ? (expression) : 0;        \
+#define RUN(name, expression) \
+    static size_t name(size_t size, int call) \
+    { \
+        (void)size; \
+        return call ? (expression) : 0; \
     }
 RUN(view, bench_view(FIRST))
 RUN(decode, bench_decode(FIRST, 1))
@@ -144,16 +164,21 @@ RUN(client_first_name, bench_client_first(256, FIRST, GIVE(client_nonce), ROOM(o
 RUN(client_first_nonce, bench_client_first(256, GIVE(username), FIRST, ROOM(out)))
 RUN(escape, bench_escape(FIRST))
 RUN(unescape, bench_unescape(FIRST))
-RUN(client_final, bench_client_final(256, GIVE(client_nonce), GIVE(password), FIRST, GIVE(bare), UINT32_MAX, ROOM(out),
-                                     ROOM(signature)))
-RUN(client_final_nonce, bench_client_final(256, second, second_len, GIVE(password), FIRST, GIVE(bare), UINT32_MAX,
-                                           ROOM(out), ROOM(signature)))
-RUN(client_final_password, bench_client_final(256, GIVE(client_nonce), FIRST, GIVE(logins[1].server_first), GIVE(bare),
-                                              UINT32_MAX, ROOM(out), ROOM(signature)))
-RUN(server_final, bench_server_final(256, FIRST, GIVE(nonce), GIVE(bare), GIVE(logins[1].server_first),
-                                     GIVE(logins[1].stored_key), GIVE(logins[1].server_key), ROOM(out)))
+RUN(client_final,
+    bench_client_final(256, GIVE(client_nonce), GIVE(password), FIRST, GIVE(bare), UINT32_MAX, ROOM(out),
+        ROOM(signature)))
+RUN(client_final_nonce,
+    bench_client_final(256, second, second_len, GIVE(password), FIRST, GIVE(bare), UINT32_MAX, ROOM(out),
+        ROOM(signature)))
+RUN(client_final_password,
+    bench_client_final(256, GIVE(client_nonce), FIRST, GIVE(logins[1].server_first), GIVE(bare), UINT32_MAX, ROOM(out),
+        ROOM(signature)))
+RUN(server_final,
+    bench_server_final(256, FIRST, GIVE(nonce), GIVE(bare), GIVE(logins[1].server_first), GIVE(logins[1].stored_key),
+        GIVE(logins[1].server_key), ROOM(out)))
 RUN(validate, bench_validate(256, FIRST, GIVE(logins[1].signature)))
-static size_t server_first_user(size_t size, int call) {
+static size_t server_first_user(size_t size, int call)
+{
     (void)size;
     return bench_server_first(256, second, second_len, FIRST, GIVE(server_nonce), call, ROOM(out));
 }
@@ -161,14 +186,15 @@ static size_t server_first_user(size_t size, int call) {
 #define SERVERS of_server.bytes, of_server.len
 #define LINES of_users.bytes, of_users.len
 /* A call that is prepared by the library, and what it has to answer. */
-#define PREPARED(name, wanted, expression)                                \
-    static size_t name(size_t size, int call) {                            \
-        size_t answer = (expression);                                      \
-        if (answer != (call ? (size_t)(wanted) : 0)) {                     \
+#define PREPARED(name, wanted, expression) \
+    static size_t name(size_t size, int call) \
+    { \
+        size_t answer = (expression); \
+        if (answer != (call ? (size_t)(wanted) : 0)) { \
             fprintf(stderr, #name " of %zu answers %zu\n", size, answer); \
-            exit(1);                                                       \
-        }                                                                  \
-        return answer;                                                     \
+            exit(1); \
+        } \
+        return answer; \
     }
 RUN(read_lines, bench_read_lines(256, LINES))
 PREPARED(write_lines, of_users.len, bench_write_lines(256, LINES, call))
@@ -182,8 +208,14 @@ PREPARED(refuse_audit, 2, bench_audit(1, CLIENTS, SERVERS, call))
 PREPARED(serve_users, 2 * LOGINS, bench_serve_users(LINES, 0, SERVERS, call))
 PREPARED(serve_shared_users, 2 * LOGINS, bench_serve_users(LINES, 1, SERVERS, call))
 
-#define USUAL {1000, 10000, 100000}
-#define TENS {10, 100, 1000, 10000}
+#define USUAL \
+    { \
+        1000, 10000, 100000 \
+    }
+#define TENS \
+    { \
+        10, 100, 1000, 10000 \
+    }
 const struct growth growths[] = {
     {"view-mechanisms", "names of a mechanisms frame", USUAL, mechanisms, view},
     {"decode-mechanisms", "the same", USUAL, mechanisms, decode},
@@ -220,8 +252,10 @@ const struct growth growths[] = {
     {"lines-read", "lines of users", TENS, users, read_lines},
     {"lines-write", "the same, written", TENS, users, write_lines},
     {"lines-look-up", "the same, the last user looked up", TENS, last_user, look_up},
-    {"run-client", "logins of a client's run, 3 events each", {10, 100, 1000, 10000, 33334}, logins_of_client, run_client},
-    {"run-server", "logins of a server's run, 2 events each", {10, 100, 1000, 10000, 50000}, logins_of_server, run_server},
+    {"run-client", "logins of a client's run, 3 events each", {10, 100, 1000, 10000, 33334}, logins_of_client,
+        run_client},
+    {"run-server", "logins of a server's run, 2 events each", {10, 100, 1000, 10000, 50000}, logins_of_server,
+        run_server},
     {"run-audit", "logins of an audit, 5 events each", {10, 100, 1000, 10000, 20000}, logins_of_both, run_audit},
     {"run-client-refused", "events of a client's run, all but three refused", USUAL, refused_by_client, refuse_client},
     {"run-server-refused", "events of a server's run, all but two refused", USUAL, refused_by_server, refuse_server},

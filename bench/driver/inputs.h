@@ -10,7 +10,7 @@ struct text {
     size_t len;
 };
 #define GIVE(text) (text).bytes, (text).len
-#define ROOM(text) (text).bytes, sizeof (text).bytes
+#define ROOM(text) (text).bytes, sizeof(text).bytes
 struct login {
     struct text server_first, client_final, server_final, signature, stored_key, server_key;
 };
@@ -18,8 +18,8 @@ struct login {
 extern const uint32_t versions[VERSIONS];
 extern struct text password, username, salt, client_nonce, server_nonce, nonce, bare, client_first;
 extern struct login logins[VERSIONS];
-extern struct text bodies[FRAMES];         /* mechanisms, init, challenge, response, outcome */
-extern uint8_t *rows_of_bodies[FRAMES];    /* MANY of each */
+extern struct text bodies[FRAMES]; /* mechanisms, init, challenge, response, outcome */
+extern uint8_t *rows_of_bodies[FRAMES]; /* MANY of each */
 extern struct text without_proof;
 
 /* Bytes of any length. */

@@ -3,63 +3,83 @@
 #include <stdio.h>
 #include <string.h>
 
-const char *const who_names[WHOS] = {
-    "library", "openssl", "openssl-nosha", "rustcrypto", "rustcrypto-soft", "by-hand", "by-hand-soft",
-    "postgres-protocol", "gsasl", "proton", "two-blocks", "two-blocks-nosha"};
+const char *const who_names[WHOS] = {"library", "openssl", "openssl-nosha", "rustcrypto", "rustcrypto-soft", "by-hand",
+    "by-hand-soft", "postgres-protocol", "gsasl", "proton", "two-blocks", "two-blocks-nosha"};
 double own_time;
 uint32_t copies = 1;
 struct text answered;
 
-#define LOOP for (uint32_t i = 0; i < times && good < REFUSED; i++) good =
-static int is_soft(enum who who) {
+#define LOOP \
+    for (uint32_t i = 0; i < times && good < REFUSED; i++) \
+    good =
+static int is_soft(enum who who)
+{
     return who == OPENSSL_SOFT || who == RUST_SOFT || who == HAND_SOFT || who == BLOCKS_SOFT;
 }
 static size_t failed_if_zero(size_t number) { return number ? number : REFUSED; }
 
 /* Hashes. */
 static uint8_t large[16384];
-static size_t digest(const struct job *job, enum who who, uint32_t times) {
+static size_t digest(const struct job *job, enum who who, uint32_t times)
+{
     size_t good = 0;
     unsigned len = 64;
     const struct openssl *peer = &openssl[is_soft(who)];
-    if (who == LIBRARY) LOOP bench_digest(job->which, large, sizeof large, ROOM(answered));
-    else if (who == RUST || who == RUST_SOFT) LOOP rust[is_soft(who)].digest(job->which, large, sizeof large, ROOM(answered));
-    else LOOP peer->digest(large, sizeof large, answered.bytes, &len, peer->md[index_of(job->which)], NULL);
+    if (who == LIBRARY)
+        LOOP bench_digest(job->which, large, sizeof large, ROOM(answered));
+    else if (who == RUST || who == RUST_SOFT)
+        LOOP rust[is_soft(who)].digest(job->which, large, sizeof large, ROOM(answered));
+    else
+        LOOP peer->digest(large, sizeof large, answered.bytes, &len, peer->md[index_of(job->which)], NULL);
     return good;
 }
-static size_t mac(const struct job *job, enum who who, uint32_t times) {
+static size_t mac(const struct job *job, enum who who, uint32_t times)
+{
     size_t good = 0;
     unsigned len = 64;
     const struct openssl *peer = &openssl[is_soft(who)];
-    if (who == LIBRARY) LOOP bench_hmac(job->which, GIVE(password), GIVE(client_nonce), ROOM(answered));
+    if (who == LIBRARY)
+        LOOP bench_hmac(job->which, GIVE(password), GIVE(client_nonce), ROOM(answered));
     else if (who == RUST || who == RUST_SOFT)
         LOOP rust[is_soft(who)].hmac(job->which, GIVE(password), GIVE(client_nonce), ROOM(answered));
-    else LOOP peer->hmac(peer->md[index_of(job->which)], GIVE(password), GIVE(client_nonce), answered.bytes, &len) != NULL;
+    else
+        LOOP peer->hmac(peer->md[index_of(job->which)], GIVE(password), GIVE(client_nonce), answered.bytes, &len)
+            != NULL;
     return good;
 }
-static size_t two_blocks(const struct openssl *peer, uint32_t version, uint32_t count) {
+static size_t two_blocks(const struct openssl *peer, uint32_t version, uint32_t count)
+{
     SHA_CTX one = {0};
     SHA256_CTX two = {0};
     SHA512_CTX three = {0};
     for (uint32_t i = 0; i < 2 * count; i++) {
-        if (version == 1) peer->block1(&one, large);
-        else if (version == 256) peer->block256(&two, large);
-        else peer->block512(&three, large);
+        if (version == 1)
+            peer->block1(&one, large);
+        else if (version == 256)
+            peer->block256(&two, large);
+        else
+            peer->block512(&three, large);
     }
     return 1;
 }
-static size_t hi(const struct job *job, enum who who, uint32_t times) {
+static size_t hi(const struct job *job, enum who who, uint32_t times)
+{
     uint32_t count = 4096 * (times + 1);
     int soft = is_soft(who);
     const struct openssl *peer = &openssl[soft];
-    if (who == LIBRARY) return bench_hi(job->which, GIVE(password), GIVE(salt), count, ROOM(answered));
-    if (who == RUST || who == RUST_SOFT) return rust[soft].hi(job->which, GIVE(password), GIVE(salt), count, ROOM(answered));
-    if (who == GSASL) return failed_if_zero(gsasl_hi(job->which, count, answered.bytes));
-    if (who == BLOCKS || who == BLOCKS_SOFT) return two_blocks(peer, job->which, count);
+    if (who == LIBRARY)
+        return bench_hi(job->which, GIVE(password), GIVE(salt), count, ROOM(answered));
+    if (who == RUST || who == RUST_SOFT)
+        return rust[soft].hi(job->which, GIVE(password), GIVE(salt), count, ROOM(answered));
+    if (who == GSASL)
+        return failed_if_zero(gsasl_hi(job->which, count, answered.bytes));
+    if (who == BLOCKS || who == BLOCKS_SOFT)
+        return two_blocks(peer, job->which, count);
     return peer->pbkdf2((const char *)password.bytes, password.len, GIVE(salt), count, peer->md[index_of(job->which)],
-                        digest_len(job->which), answered.bytes);
+        digest_len(job->which), answered.bytes);
 }
-static size_t salted(const struct job *job, enum who who, uint32_t times) {
+static size_t salted(const struct job *job, enum who who, uint32_t times)
+{
     size_t good = 0;
     (void)who;
     LOOP bench_salted(job->which, GIVE(password), GIVE(salt));
@@ -67,7 +87,8 @@ static size_t salted(const struct job *job, enum who who, uint32_t times) {
 }
 
 /* Messages. */
-static size_t gsasl(const struct job *job, int call, uint32_t times) {
+static size_t gsasl(const struct job *job, int call, uint32_t times)
+{
     size_t good = 1;
     own_time = 0;
     for (uint32_t i = 0; i < times && good < REFUSED; i++) {
@@ -76,70 +97,85 @@ static size_t gsasl(const struct job *job, int call, uint32_t times) {
     }
     return good;
 }
-static size_t first_of_client(const struct job *job, enum who who, uint32_t times) {
+static size_t first_of_client(const struct job *job, enum who who, uint32_t times)
+{
     size_t good = 0;
-    if (who == GSASL) return gsasl(job, 0, times);
+    if (who == GSASL)
+        return gsasl(job, 0, times);
     LOOP bench_client_first(job->which, GIVE(username), GIVE(client_nonce), ROOM(answered));
     return good;
 }
-static size_t first_of_server(const struct job *job, enum who who, uint32_t times) {
-    if (who == GSASL) return gsasl(job, 1, times);
-    return bench_server_first(job->which, GIVE(username), GIVE(client_first), GIVE(server_nonce), times, ROOM(answered));
+static size_t first_of_server(const struct job *job, enum who who, uint32_t times)
+{
+    if (who == GSASL)
+        return gsasl(job, 1, times);
+    return bench_server_first(job->which, GIVE(username), GIVE(client_first), GIVE(server_nonce), times,
+        ROOM(answered));
 }
-static size_t postgres(uint32_t times) {
+static size_t postgres(uint32_t times)
+{
     int good = 1;
     own_time = 0;
-    for (uint32_t i = 0; i < times && good; i++) own_time += postgres_final(&good);
+    for (uint32_t i = 0; i < times && good; i++)
+        own_time += postgres_final(&good);
     return failed_if_zero(good);
 }
-static size_t final_of_client(const struct job *job, enum who who, uint32_t times) {
+static size_t final_of_client(const struct job *job, enum who who, uint32_t times)
+{
     size_t good = 0;
     struct login *login = &logins[index_of(job->which)];
     struct text signature;
-    if (who == GSASL) return gsasl(job, 2, times);
-    if (who == POSTGRES) return postgres(times);
+    if (who == GSASL)
+        return gsasl(job, 2, times);
+    if (who == POSTGRES)
+        return postgres(times);
     if (who == LIBRARY)
         LOOP bench_client_final(job->which, GIVE(client_nonce), GIVE(password), GIVE(login->server_first), GIVE(bare),
-                                UINT32_MAX, ROOM(answered), ROOM(signature));
+            UINT32_MAX, ROOM(answered), ROOM(signature));
     else
         LOOP failed_if_zero(rust[is_soft(who)].client_final(job->which, GIVE(client_nonce), GIVE(password),
-                                                            GIVE(login->server_first), GIVE(bare), ROOM(answered),
-                                                            ROOM(signature)));
+            GIVE(login->server_first), GIVE(bare), ROOM(answered), ROOM(signature)));
     return good;
 }
-static size_t final_of_server(const struct job *job, enum who who, uint32_t times) {
+static size_t final_of_server(const struct job *job, enum who who, uint32_t times)
+{
     size_t good = 0;
     struct login *login = &logins[index_of(job->which)];
-    if (who == GSASL) return gsasl(job, 3, times);
+    if (who == GSASL)
+        return gsasl(job, 3, times);
     if (who == LIBRARY)
-        LOOP bench_server_final(job->which, GIVE(login->client_final), GIVE(nonce), GIVE(bare), GIVE(login->server_first),
-                                GIVE(login->stored_key), GIVE(login->server_key), ROOM(answered));
+        LOOP bench_server_final(job->which, GIVE(login->client_final), GIVE(nonce), GIVE(bare),
+            GIVE(login->server_first), GIVE(login->stored_key), GIVE(login->server_key), ROOM(answered));
     else
-        LOOP failed_if_zero(rust[is_soft(who)].server_final(job->which, GIVE(login->client_final), GIVE(nonce), GIVE(bare),
-                                                            GIVE(login->server_first), GIVE(login->stored_key),
-                                                            GIVE(login->server_key), ROOM(answered)));
+        LOOP failed_if_zero(rust[is_soft(who)].server_final(job->which, GIVE(login->client_final), GIVE(nonce),
+            GIVE(bare), GIVE(login->server_first), GIVE(login->stored_key), GIVE(login->server_key), ROOM(answered)));
     return good;
 }
-static size_t validate(const struct job *job, enum who who, uint32_t times) {
+static size_t validate(const struct job *job, enum who who, uint32_t times)
+{
     size_t good = 0;
     struct login *login = &logins[index_of(job->which)];
-    if (who == GSASL) return gsasl(job, 4, times);
+    if (who == GSASL)
+        return gsasl(job, 4, times);
     LOOP bench_validate(job->which, GIVE(login->server_final), GIVE(login->signature));
     return good;
 }
-static size_t join(const struct job *job, enum who who, uint32_t times) {
+static size_t join(const struct job *job, enum who who, uint32_t times)
+{
     size_t good = 0;
     (void)who;
     LOOP bench_auth_message(GIVE(bare), GIVE(logins[index_of(job->which)].server_first), GIVE(without_proof));
     return good;
 }
-static size_t escape(const struct job *job, enum who who, uint32_t times) {
+static size_t escape(const struct job *job, enum who who, uint32_t times)
+{
     size_t good = 0;
     (void)who, (void)job;
     LOOP bench_escape((const uint8_t *)"a,b=c", 5);
     return good;
 }
-static size_t unescape(const struct job *job, enum who who, uint32_t times) {
+static size_t unescape(const struct job *job, enum who who, uint32_t times)
+{
     size_t good = 0;
     (void)who, (void)job;
     LOOP bench_unescape((const uint8_t *)"a=2Cb=3Dc", 9);
@@ -147,10 +183,11 @@ static size_t unescape(const struct job *job, enum who who, uint32_t times) {
 }
 
 /* Machines. */
-#define MACHINE(name, by_keys, call)                                                       \
-    static size_t name(const struct job *job, enum who who, uint32_t times) {               \
-        (void)who;                                                                          \
-        return bench_machine(job->which, by_keys, call, copies, times, ROOM(answered));     \
+#define MACHINE(name, by_keys, call) \
+    static size_t name(const struct job *job, enum who who, uint32_t times) \
+    { \
+        (void)who; \
+        return bench_machine(job->which, by_keys, call, copies, times, ROOM(answered)); \
     }
 MACHINE(machine_first, 0, 1)
 MACHINE(machine_open, 0, 2)
@@ -160,10 +197,11 @@ MACHINE(machine_believe, 0, 5)
 MACHINE(keyed_first, 1, 1)
 MACHINE(keyed_respond, 1, 3)
 MACHINE(keyed_believe, 1, 5)
-#define ALONE_RUN(name, expression)                                           \
-    static size_t name(const struct job *job, enum who who, uint32_t times) { \
-        (void)who, (void)job;                                                 \
-        return (expression);                                                  \
+#define ALONE_RUN(name, expression) \
+    static size_t name(const struct job *job, enum who who, uint32_t times) \
+    { \
+        (void)who, (void)job; \
+        return (expression); \
     }
 ALONE_RUN(new_client, bench_new_client(job->which, times))
 ALONE_RUN(new_keyed, bench_new_keyed_client(job->which, times))
@@ -174,25 +212,29 @@ ALONE_RUN(log_in_4096, bench_log_in(job->which, 0, 4096, times))
 ALONE_RUN(log_in_by_keys_4096, bench_log_in(job->which, 1, 4096, times))
 
 /* Records and lines. */
-static size_t make_record(const struct job *job, enum who who, uint32_t times) {
+static size_t make_record(const struct job *job, enum who who, uint32_t times)
+{
     size_t good = 0;
     (void)who;
     LOOP bench_record(job->which, GIVE(password), 1);
     return good;
 }
-static size_t read_record(const struct job *job, enum who who, uint32_t times) {
+static size_t read_record(const struct job *job, enum who who, uint32_t times)
+{
     size_t good = 0;
     (void)who, (void)job;
     LOOP bench_read_record(GIVE(record));
     return good;
 }
-static size_t read_lines(const struct job *job, enum who who, uint32_t times) {
+static size_t read_lines(const struct job *job, enum who who, uint32_t times)
+{
     size_t good = 0;
     (void)who;
     LOOP bench_read_lines(job->which, lines.bytes, lines.len);
     return good;
 }
-static size_t look_up(const struct job *job, enum who who, uint32_t times) {
+static size_t look_up(const struct job *job, enum who who, uint32_t times)
+{
     char name[32];
     size_t len = name_into(name, USERS - 1);
     (void)who;
@@ -204,7 +246,8 @@ ALONE_RUN(write_lines, bench_write_lines(job->which, lines.bytes, lines.len, tim
 /* Runs and audits. */
 #define CLIENT_EVENTS client_events.bytes, client_events.len
 #define SERVER_EVENTS server_events.bytes, server_events.len
-static size_t expected(size_t number, size_t wanted, uint32_t times) {
+static size_t expected(size_t number, size_t wanted, uint32_t times)
+{
     return number >= REFUSED || !times || number == wanted ? number : REFUSED;
 }
 ALONE_RUN(run_client, expected(bench_run_client(CLIENT_EVENTS, times), 3 * LOGINS, times))
@@ -212,31 +255,41 @@ ALONE_RUN(run_server, expected(bench_run_server(1, SERVER_EVENTS, times), 2 * LO
 ALONE_RUN(audit, expected(bench_audit(1, CLIENT_EVENTS, SERVER_EVENTS, times), 2 * LOGINS, times))
 
 /* Frames. */
-static size_t view(const struct job *job, enum who who, uint32_t times) {
+static size_t view(const struct job *job, enum who who, uint32_t times)
+{
     size_t good = 0;
-    if (who == LIBRARY) LOOP bench_view(GIVE(bodies[job->which]));
-    else LOOP failed_if_zero(rust[0].view(GIVE(bodies[job->which])));
+    if (who == LIBRARY)
+        LOOP bench_view(GIVE(bodies[job->which]));
+    else
+        LOOP failed_if_zero(rust[0].view(GIVE(bodies[job->which])));
     return good;
 }
-static size_t decode(const struct job *job, enum who who, uint32_t times) {
+static size_t decode(const struct job *job, enum who who, uint32_t times)
+{
     size_t good = 0;
     const uint8_t *row = rows_of_bodies[job->which];
     size_t len = MANY * bodies[job->which].len;
-    if (who == LIBRARY) return bench_decode(row, len, times);
-    if (who == HAND) return rust[0].decode(row, len, times) == times ? 1 : REFUSED;
+    if (who == LIBRARY)
+        return bench_decode(row, len, times);
+    if (who == HAND)
+        return rust[0].decode(row, len, times) == times ? 1 : REFUSED;
     LOOP failed_if_zero(proton_decode(job->which));
     return good;
 }
-static size_t encode(const struct job *job, enum who who, uint32_t times) {
+static size_t encode(const struct job *job, enum who who, uint32_t times)
+{
     size_t good = 0;
     const uint8_t *row = rows_of_bodies[job->which];
     size_t len = MANY * bodies[job->which].len;
-    if (who == LIBRARY) return bench_encode(row, len, times);
-    if (who == HAND) return rust[0].encode(row, len, times) == times ? 1 : REFUSED;
+    if (who == LIBRARY)
+        return bench_encode(row, len, times);
+    if (who == HAND)
+        return rust[0].encode(row, len, times) == times ? 1 : REFUSED;
     LOOP failed_if_zero(proton_encode(job->which));
     return good;
 }
-static size_t header(const struct job *job, enum who who, uint32_t times) {
+static size_t header(const struct job *job, enum who who, uint32_t times)
+{
     size_t good = 0;
     (void)who, (void)job;
     LOOP bench_header();
@@ -326,11 +379,17 @@ const struct job jobs[] = {
 };
 const int jobs_len = sizeof jobs / sizeof *jobs;
 
-int has(const struct job *job, enum who who) {
-    if (!(job->whos & BIT(who))) return 0;
-    if (who == OPENSSL || who == BLOCKS) return openssl[0].digest != NULL;
-    if (who == OPENSSL_SOFT || who == BLOCKS_SOFT) return openssl[1].digest != NULL;
-    if (who == RUST || who == HAND || who == POSTGRES) return rust[0].hi != NULL;
-    if (who == RUST_SOFT || who == HAND_SOFT) return rust[1].hi != NULL;
+int has(const struct job *job, enum who who)
+{
+    if (!(job->whos & BIT(who)))
+        return 0;
+    if (who == OPENSSL || who == BLOCKS)
+        return openssl[0].digest != NULL;
+    if (who == OPENSSL_SOFT || who == BLOCKS_SOFT)
+        return openssl[1].digest != NULL;
+    if (who == RUST || who == HAND || who == POSTGRES)
+        return rust[0].hi != NULL;
+    if (who == RUST_SOFT || who == HAND_SOFT)
+        return rust[1].hi != NULL;
     return 1;
 }

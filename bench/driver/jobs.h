@@ -4,7 +4,18 @@
 #include "inputs.h"
 
 enum who {
-    LIBRARY, OPENSSL, OPENSSL_SOFT, RUST, RUST_SOFT, HAND, HAND_SOFT, POSTGRES, GSASL, PROTON, BLOCKS, BLOCKS_SOFT,
+    LIBRARY,
+    OPENSSL,
+    OPENSSL_SOFT,
+    RUST,
+    RUST_SOFT,
+    HAND,
+    HAND_SOFT,
+    POSTGRES,
+    GSASL,
+    PROTON,
+    BLOCKS,
+    BLOCKS_SOFT,
     WHOS
 };
 extern const char *const who_names[WHOS];
@@ -13,7 +24,7 @@ extern const char *const who_names[WHOS];
    answers WANT or REFUSED where a call does. */
 struct job {
     const char *name, *unit;
-    double units;   /* of one time */
+    double units; /* of one time */
     uint32_t times; /* of one timed run */
     uint32_t which; /* a version, or a frame */
     unsigned whos;
@@ -21,8 +32,8 @@ struct job {
 };
 extern const struct job jobs[];
 extern const int jobs_len;
-extern uint32_t copies;      /* of a machine, which can do most calls but once: no less than `times` */
-extern double own_time;      /* of a job that takes its time itself; else negative */
+extern uint32_t copies; /* of a machine, which can do most calls but once: no less than `times` */
+extern double own_time; /* of a job that takes its time itself; else negative */
 extern struct text answered; /* by the last job */
 int has(const struct job *job, enum who who);
 #endif

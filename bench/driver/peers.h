@@ -28,8 +28,8 @@ struct rust {
     void (*postgres_free)(void *);
 };
 extern struct openssl openssl[2]; /* as it is; with the SHA instructions hidden */
-extern struct rust rust[2];       /* the same */
-extern double gsasl_time[5];      /* of the last login, by call */
+extern struct rust rust[2]; /* the same */
+extern double gsasl_time[5]; /* of the last login, by call */
 extern long gsasl_requests[5];
 
 void load_peers(void);

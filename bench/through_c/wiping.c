@@ -19,7 +19,8 @@ static struct fe2o3_scram_keys keys;
 static struct fe2o3_scram_record record;
 static const uint8_t salt[32] = {3}, nonce[32] = {1};
 
-static uint32_t login(const struct fe2o3_login *who) {
+static uint32_t login(const struct fe2o3_login *who)
+{
     static struct fe2o3_scram_client client;
     static struct fe2o3_scram_server server;
     uint32_t status = fe2o3_scram_client_first(who, &client, nonce, ROOM(client_first));
@@ -29,13 +30,15 @@ static uint32_t login(const struct fe2o3_login *who) {
     return status | fe2o3_scram_client_verify(who, &client, GIVEN(server_final));
 }
 
-static double now(void) {
+static double now(void)
+{
     struct timespec time;
     clock_gettime(CLOCK_PROCESS_CPUTIME_ID, &time);
     return (double)time.tv_sec * 1e9 + (double)time.tv_nsec;
 }
 
-int main(void) {
+int main(void)
+{
     struct fe2o3_login who = {FE2O3_SHA_256, FE2O3_BY_KEYS, FE2O3_TYPED, 1, 4096, TEXT("user"), FE2O3_NONE, FE2O3_NONE,
         &keys, 0, 0, 0, 0, 0, {0}};
     double least = 0;
@@ -43,9 +46,11 @@ int main(void) {
     status |= fe2o3_scram_keys_make(FE2O3_SHA_256, FE2O3_TYPED, TEXT("pencil"), salt, 32, 1, &keys);
     for (int round = 0; round < ROUNDS; round++) {
         double begun = now(), time;
-        for (int k = 0; k < LOGINS; k++) status |= login(&who);
+        for (int k = 0; k < LOGINS; k++)
+            status |= login(&who);
         time = (now() - begun) / LOGINS;
-        if (round == 0 || time < least) least = time;
+        if (round == 0 || time < least)
+            least = time;
     }
     printf("%.0f\n", least);
     return status != FE2O3_OK;

@@ -15,8 +15,8 @@ static const uint8_t client_nonce[32] = {1}, server_nonce[32] = {2};
 #define NONCE "AQAAAAAAAAAAAAAAAAAAAAAAAAAAAAAAAAAAAAAAAAA="
 #define BOTH_NONCES NONCE "AgAAAAAAAAAAAAAAAAAAAAAAAAAAAAAAAAAAAAAAAAA="
 
-static const uint8_t salt[] = {0x5b, 0x6d, 0x99, 0x68, 0x9d, 0x12, 0x35, 0x8e,
-    0xec, 0xa0, 0x4b, 0x14, 0x12, 0x36, 0xfa, 0x81};
+static const uint8_t salt[] = {0x5b, 0x6d, 0x99, 0x68, 0x9d, 0x12, 0x35, 0x8e, 0xec, 0xa0, 0x4b, 0x14, 0x12, 0x36, 0xfa,
+    0x81};
 
 /* The client-final messages of a client of another library, which says `y,,` and tests no extension, after a server-first
  * message with MOVED at its end. The proofs are those of Python's hashlib and hmac. The server has the same AuthMessage if
@@ -29,10 +29,10 @@ static const struct hash {
     const char *name, *plus, *final;
 } hashes[] = {
     {FE2O3_SHA_1, FE2O3_OFFER_SCRAM_SHA_1, "SCRAM-SHA-1", "SCRAM-SHA-1-PLUS", FINAL "tT7Vh2frPgU2T+M7jtdIvGmXxRs="},
-    {FE2O3_SHA_256, FE2O3_OFFER_SCRAM_SHA_256, "SCRAM-SHA-256", "SCRAM-SHA-256-PLUS", FINAL "q8/6XO+eiStWLDzvY6HjDn7ujHfuhidQPXc2HLwoozk="},
+    {FE2O3_SHA_256, FE2O3_OFFER_SCRAM_SHA_256, "SCRAM-SHA-256", "SCRAM-SHA-256-PLUS",
+        FINAL "q8/6XO+eiStWLDzvY6HjDn7ujHfuhidQPXc2HLwoozk="},
     {FE2O3_SHA_512, FE2O3_OFFER_SCRAM_SHA_512, "SCRAM-SHA-512", "SCRAM-SHA-512-PLUS",
-        FINAL
-        "O+rRq+7XboOva+6Zsy2HlGgRv1UBbzkKn2rvYeqpgLbHeTVQv3H9hKL9/Q9ThBqTwOFf3ba3e/dltZ5TRPO6zw=="},
+        FINAL "O+rRq+7XboOva+6Zsy2HlGgRv1UBbzkKn2rvYeqpgLbHeTVQv3H9hKL9/Q9ThBqTwOFf3ba3e/dltZ5TRPO6zw=="},
 };
 
 /* Bytes on their way. */
@@ -67,15 +67,22 @@ static void begin(struct pair *pair, const struct hash *hash, uint32_t use, int 
     memset(pair, 0, sizeof *pair);
     pair->hash = hash;
     fe2o3_scram_record_make(hash->version, FE2O3_TYPED, TEXT("pencil"), salt, sizeof salt, 4096, &pair->record);
-    pair->config = (struct fe2o3_sasl_server_config){hash->offer, 4096, TEXT("user"), &pair->record, 1, FE2O3_NONE, {0}, 0,
-        FE2O3_NONE};
+    pair->config = (struct fe2o3_sasl_server_config){hash->offer, 4096, TEXT("user"), &pair->record, 1, FE2O3_NONE, {0},
+        0, FE2O3_NONE};
     pair->config.channels.binds_channel = (uint32_t)server_binds;
     pair->config.channels.tls_exporter_len = 32;
     memset(pair->config.channels.tls_exporter, 's', 32);
     pair->login = (struct fe2o3_sasl_login){FE2O3_SCRAM, FE2O3_NONE,
-        {.version = hash->version, .min_iterations = 4096, .max_iterations = 100000, .username = TEXT("user"),
-            .acts_for = FE2O3_NONE, .password = TEXT("pencil"), .keys = &no_keys, .channel_use = use,
-            .channel_kind = FE2O3_TLS_EXPORTER, .channel_data_len = 32}};
+        {.version = hash->version,
+            .min_iterations = 4096,
+            .max_iterations = 100000,
+            .username = TEXT("user"),
+            .acts_for = FE2O3_NONE,
+            .password = TEXT("pencil"),
+            .keys = &no_keys,
+            .channel_use = use,
+            .channel_kind = FE2O3_TLS_EXPORTER,
+            .channel_data_len = 32}};
     memset(pair->login.login.channel_data, 'c', 32);
 }
 
@@ -84,7 +91,9 @@ static int to_server(struct pair *pair, const struct bytes *in)
 {
     size_t taken = 0;
     return fe2o3_sasl_server_receive(&pair->config, &pair->server, in->bytes, in->len, server_nonce, &taken,
-        ROOM(&pair->of_server)) == FE2O3_OK && taken == in->len;
+               ROOM(&pair->of_server))
+        == FE2O3_OK
+        && taken == in->len;
 }
 
 /* The client receives bytes, up to where it fails. */
@@ -93,8 +102,8 @@ static int to_client(struct pair *pair, const struct bytes *in)
     size_t at = 0, taken = 0;
     uint32_t status = FE2O3_OK;
     for (pair->of_client.len = 0; at < in->len && status == FE2O3_OK; at += taken) {
-        status = fe2o3_sasl_client_receive(&pair->login, &pair->client, in->bytes + at, in->len - at, client_nonce, &taken,
-            ROOM(&pair->of_client));
+        status = fe2o3_sasl_client_receive(&pair->login, &pair->client, in->bytes + at, in->len - at, client_nonce,
+            &taken, ROOM(&pair->of_client));
         if (pair->client.connection.progress == FE2O3_FAILED)
             return status == FE2O3_OK;
     }
@@ -104,8 +113,8 @@ static int to_client(struct pair *pair, const struct bytes *in)
 /* Writes a frame (AMQP 1.0, part 5, section 5.3.1) of these items, each with its constructor. */
 static void frame(struct bytes *out, uint8_t code, uint8_t count, const struct bytes *items)
 {
-    const uint8_t head[] = {0, 0, (uint8_t)((items->len + 20) >> 8), (uint8_t)(items->len + 20), 2, 1, 0, 0, 0, 0x53, code,
-        0xd0, 0, 0, (uint8_t)((items->len + 4) >> 8), (uint8_t)(items->len + 4), 0, 0, 0, count};
+    const uint8_t head[] = {0, 0, (uint8_t)((items->len + 20) >> 8), (uint8_t)(items->len + 20), 2, 1, 0, 0, 0, 0x53,
+        code, 0xd0, 0, 0, (uint8_t)((items->len + 4) >> 8), (uint8_t)(items->len + 4), 0, 0, 0, count};
     memcpy(out->bytes, head, sizeof head);
     memcpy(out->bytes + sizeof head, items->bytes, items->len);
     out->len = sizeof head + items->len;
@@ -149,7 +158,8 @@ static int offered(struct pair *pair, int plus, const char *header)
     struct bytes list = {{0}, 0}, items = {{0}, 0};
     int holds = fe2o3_sasl_client_open(ROOM(&pair->of_client)) == FE2O3_OK && to_server(pair, &pair->of_client);
     holds &= fe2o3_sasl_offers(pair->of_server.bytes + 12, pair->of_server.len - 12, (const uint8_t *)pair->hash->plus,
-        strlen(pair->hash->plus)) == (plus ? FE2O3_OK : FE2O3_NOT_IMPLEMENTED);
+                 strlen(pair->hash->plus))
+        == (plus ? FE2O3_OK : FE2O3_NOT_IMPLEMENTED);
     symbol(&items, pair->hash->name);
     frame(&list, FE2O3_KIND_MECHANISMS, 1, &items);
     memmove(list.bytes + 8, list.bytes, list.len);
@@ -205,7 +215,8 @@ static void attack(const struct hash *hash)
         challenge_moved(&pair) && pair.of_client.len == 0
             && is_at(&pair.client.connection, FE2O3_FAILED, FE2O3_CLIENT_MISPLACED_ATTRIBUTE));
     fe2o3_sasl_end_of_input(&pair.server.connection);
-    told(&pair, "nobody logs in", is_at(&pair.server.connection, FE2O3_FAILED, FE2O3_END_OF_INPUT)
+    told(&pair, "nobody logs in",
+        is_at(&pair.server.connection, FE2O3_FAILED, FE2O3_END_OF_INPUT)
             && pair.server.scram.rejection == FE2O3_REJECTION_NONE);
 }
 

@@ -22,9 +22,14 @@ static const struct {
     const char *name;
     uint32_t mechanism, version;
 } mechanisms[] = {
-    {"SCRAM-SHA-1", FE2O3_SCRAM, FE2O3_SHA_1}, {"SCRAM-SHA-256", FE2O3_SCRAM, FE2O3_SHA_256},
-    {"SCRAM-SHA-512", FE2O3_SCRAM, FE2O3_SHA_512}, {"PLAIN", FE2O3_PLAIN, 0}, {"ANONYMOUS", FE2O3_ANONYMOUS, 0},
-    {"EXTERNAL", FE2O3_EXTERNAL, 0}, {"EXTERNAL as", FE2O3_EXTERNAL_AS, 0}, {"ANONYMOUS as", FE2O3_ANONYMOUS_AS, 0},
+    {"SCRAM-SHA-1", FE2O3_SCRAM, FE2O3_SHA_1},
+    {"SCRAM-SHA-256", FE2O3_SCRAM, FE2O3_SHA_256},
+    {"SCRAM-SHA-512", FE2O3_SCRAM, FE2O3_SHA_512},
+    {"PLAIN", FE2O3_PLAIN, 0},
+    {"ANONYMOUS", FE2O3_ANONYMOUS, 0},
+    {"EXTERNAL", FE2O3_EXTERNAL, 0},
+    {"EXTERNAL as", FE2O3_EXTERNAL_AS, 0},
+    {"ANONYMOUS as", FE2O3_ANONYMOUS_AS, 0},
 };
 
 /* The number of a mechanism in that list, or of its end. */
@@ -78,8 +83,8 @@ static int random_bytes(uint8_t *bytes, size_t len)
 
 /* Reads and answers until the client is logged in or the connection is to be closed. Answers the number of a call that
  * is refused, and -1 where the connection ends. What is left of the last bytes would be AMQP's. */
-static int64_t negotiate(
-    int channel, const struct fe2o3_sasl_login *login, struct fe2o3_sasl_client *client, uint8_t out[512])
+static int64_t negotiate(int channel, const struct fe2o3_sasl_login *login, struct fe2o3_sasl_client *client,
+    uint8_t out[512])
 {
     uint8_t came[4096], nonce[32] = {0};
     size_t len = 0, at = 0, taken = 0, out_len = 0;
@@ -94,8 +99,7 @@ static int64_t negotiate(
         }
         if (fe2o3_sasl_wants_nonce(&client->connection) && !random_bytes(nonce, sizeof nonce))
             return -1;
-        status = fe2o3_sasl_client_receive(
-            login, client, came + at, len - at, nonce, &taken, out, 512, &out_len);
+        status = fe2o3_sasl_client_receive(login, client, came + at, len - at, nonce, &taken, out, 512, &out_len);
         at += taken;
     }
     return status == FE2O3_OK && client->connection.progress == FE2O3_IN_PROGRESS ? -1 : (int64_t)status;
@@ -124,7 +128,8 @@ int main(int count, char **words)
     /* (so that no buffer of stdio keeps the password) */
     setvbuf(stdin, NULL, _IONBF, 0);
     if (which == known("") || fgets(password, sizeof password, stdin) == NULL) {
-        fputs("client HOST PORT MECHANISM USER [challenge] [for:IDENTITY], with the password on standard input\n", stderr);
+        fputs("client HOST PORT MECHANISM USER [challenge] [for:IDENTITY], with the password on standard input\n",
+            stderr);
         return 2;
     }
     password[strcspn(password, "\n")] = '\0';
@@ -157,5 +162,5 @@ int main(int count, char **words)
     if (answer != FE2O3_OK)
         return told("refused", (uint32_t)answer, 2);
     return client.connection.progress == FE2O3_AUTHENTICATED ? told("logged in", FE2O3_OK, 0)
-                                            : told("not logged in", client.connection.why, 1);
+                                                             : told("not logged in", client.connection.why, 1);
 }

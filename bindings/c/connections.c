@@ -14,8 +14,8 @@
 /* In earnest these are random, and fresh for each call. */
 static const uint8_t client_nonce[32] = {1}, server_nonce[32] = {2};
 
-static const uint8_t salt[] = {0x5b, 0x6d, 0x99, 0x68, 0x9d, 0x12, 0x35, 0x8e,
-    0xec, 0xa0, 0x4b, 0x14, 0x12, 0x36, 0xfa, 0x81};
+static const uint8_t salt[] = {0x5b, 0x6d, 0x99, 0x68, 0x9d, 0x12, 0x35, 0x8e, 0xec, 0xa0, 0x4b, 0x14, 0x12, 0x36, 0xfa,
+    0x81};
 
 /* The header of SASL, and frames that were put together by hand: four bytes of size, the data offset in words of four
  * bytes, the type, two bytes, the words of the extended header, and the list. */
@@ -130,8 +130,13 @@ static uint32_t hears(const struct fe2o3_sasl_login *login, struct fe2o3_sasl_cl
 static void clients(void)
 {
     struct fe2o3_sasl_login login = {FE2O3_SCRAM, TEXT("host"),
-        {.version = FE2O3_SHA_256, .min_iterations = 4096, .max_iterations = 100000, .username = TEXT("user"),
-            .acts_for = FE2O3_NONE, .password = TEXT("pencil"), .keys = &no_keys}};
+        {.version = FE2O3_SHA_256,
+            .min_iterations = 4096,
+            .max_iterations = 100000,
+            .username = TEXT("user"),
+            .acts_for = FE2O3_NONE,
+            .password = TEXT("pencil"),
+            .keys = &no_keys}};
     struct fe2o3_sasl_client client = {0}, plain = {0};
     struct sent sent;
     client.connection.extended_headers = 1;
@@ -154,7 +159,8 @@ static void end_of_input(void)
     struct fe2o3_connection connection = {.extended_headers = 1};
     fe2o3_sasl_end_of_input(&connection);
     told("a side that accepts extended headers", "the end of the stream",
-        connection.progress == FE2O3_FAILED && connection.why == FE2O3_END_OF_INPUT && connection.extended_headers == 1);
+        connection.progress == FE2O3_FAILED && connection.why == FE2O3_END_OF_INPUT
+            && connection.extended_headers == 1);
 }
 
 /* An identity of 257 bytes. */
@@ -195,12 +201,17 @@ static void plain_words(void)
     };
     for (size_t at = 0; at < sizeof rows / sizeof *rows; at++) {
         struct fe2o3_sasl_login login = {FE2O3_PLAIN, TEXT(""),
-            {.username = rows[at].username, .username_len = rows[at].username_len, .acts_for = rows[at].acts_for,
-                .acts_for_len = rows[at].acts_for_len, .password = rows[at].password,
-                .password_len = rows[at].password_len, .keys = &no_keys}};
+            {.username = rows[at].username,
+                .username_len = rows[at].username_len,
+                .acts_for = rows[at].acts_for,
+                .acts_for_len = rows[at].acts_for_len,
+                .password = rows[at].password,
+                .password_len = rows[at].password_len,
+                .keys = &no_keys}};
         struct sent sent;
         int holds = fe2o3_plain_message(rows[at].acts_for, rows[at].acts_for_len, rows[at].username,
-            rows[at].username_len, rows[at].password, rows[at].password_len, ROOM(sent)) == rows[at].status;
+                        rows[at].username_len, rows[at].password, rows[at].password_len, ROOM(sent))
+            == rows[at].status;
         for (login.login.strict = 0; login.login.strict <= 1; login.login.strict++) {
             struct fe2o3_sasl_client client = {0};
             int tests = login.login.strict || rows[at].acts_for_len > 0 || rows[at].status == FE2O3_NOT_UTF8;
@@ -221,7 +232,8 @@ static int serves_twice(const struct fe2o3_sasl_server_config *config, struct fe
     int wants = (int)fe2o3_sasl_wants_nonce(&server->connection);
     int holds = serves(config, server, GIVEN(*came), sent) == FE2O3_OK;
     holds &= fe2o3_sasl_server_receive(config, &copy, GIVEN(*came), other, &taken, ROOM(again)) == FE2O3_OK;
-    return holds && (wants || (taken == came->len && memcmp(&copy, server, sizeof copy) == 0 && spells(&again, GIVEN(*sent))));
+    return holds
+        && (wants || (taken == came->len && memcmp(&copy, server, sizeof copy) == 0 && spells(&again, GIVEN(*sent))));
 }
 
 /* The same of the client. */
@@ -235,18 +247,24 @@ static int hears_twice(const struct fe2o3_sasl_login *login, struct fe2o3_sasl_c
     int wants = (int)fe2o3_sasl_wants_nonce(&client->connection);
     int holds = hears(login, client, came->bytes + from, len, sent) == FE2O3_OK;
     holds &= fe2o3_sasl_client_receive(login, &copy, came->bytes + from, len, other, &taken, ROOM(again)) == FE2O3_OK;
-    return holds && (wants || (taken == len && memcmp(&copy, client, sizeof copy) == 0 && spells(&again, GIVEN(*sent))));
+    return holds
+        && (wants || (taken == len && memcmp(&copy, client, sizeof copy) == 0 && spells(&again, GIVEN(*sent))));
 }
 
 /* A login by SCRAM. The nonces of both sides are used once. */
 static void nonces(void)
 {
     struct fe2o3_scram_record record = {0};
-    struct fe2o3_sasl_server_config config = {FE2O3_OFFER_SCRAM_SHA_256, 4096, TEXT("user"), &record, 1, FE2O3_NONE, {0}, 0,
-        FE2O3_NONE};
+    struct fe2o3_sasl_server_config config = {FE2O3_OFFER_SCRAM_SHA_256, 4096, TEXT("user"), &record, 1, FE2O3_NONE,
+        {0}, 0, FE2O3_NONE};
     struct fe2o3_sasl_login login = {FE2O3_SCRAM, FE2O3_NONE,
-        {.version = FE2O3_SHA_256, .min_iterations = 4096, .max_iterations = 4096, .username = TEXT("user"),
-            .acts_for = FE2O3_NONE, .password = TEXT("pencil"), .keys = &no_keys}};
+        {.version = FE2O3_SHA_256,
+            .min_iterations = 4096,
+            .max_iterations = 4096,
+            .username = TEXT("user"),
+            .acts_for = FE2O3_NONE,
+            .password = TEXT("pencil"),
+            .keys = &no_keys}};
     struct fe2o3_sasl_server server = {0};
     struct fe2o3_sasl_client client = {0};
     struct sent of_client, of_server;
@@ -260,7 +278,8 @@ static void nonces(void)
         holds &= hears_twice(&login, &client, &of_server, first ? 8 : 0, of_server.len - (first ? 8 : 0), &of_client);
     }
     told("both sides", "a call that wants no nonce does the same with another",
-        holds && server.connection.progress == FE2O3_AUTHENTICATED && client.connection.progress == FE2O3_AUTHENTICATED);
+        holds && server.connection.progress == FE2O3_AUTHENTICATED
+            && client.connection.progress == FE2O3_AUTHENTICATED);
 }
 
 int main(void)

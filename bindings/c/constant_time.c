@@ -49,10 +49,7 @@ static void set(struct text *text, const char *words)
     memcpy(text->bytes, words, text->len);
 }
 
-static size_t digest_len(void)
-{
-    return all.version == FE2O3_SHA_1 ? 20 : all.version == FE2O3_SHA_256 ? 32 : 64;
-}
+static size_t digest_len(void) { return all.version == FE2O3_SHA_1 ? 20 : all.version == FE2O3_SHA_256 ? 32 : 64; }
 
 static uint32_t make_record(uint32_t form, const struct text *password, struct fe2o3_scram_record *record)
 {
@@ -80,15 +77,20 @@ static uint32_t prepare(uint32_t version)
     set(&all.prepared, "p\xc3\xa9ncil \xe2\x82\xac \xf0\x9f\x94\x91, battery staple");
     memset(all.long_password.bytes, 'x', all.long_password.len = 200);
     memset(all.salted.bytes, 5, all.salted.len = digest_len());
-    all.login = (struct fe2o3_login){.version = version, .min_iterations = 1, .max_iterations = 100,
-        .username = TEXT("user"), .acts_for = FE2O3_NONE, .password = GIVEN(all.password), .keys = &all.no_keys};
+    all.login = (struct fe2o3_login){.version = version,
+        .min_iterations = 1,
+        .max_iterations = 100,
+        .username = TEXT("user"),
+        .acts_for = FE2O3_NONE,
+        .password = GIVEN(all.password),
+        .keys = &all.no_keys};
     failed = make_record(FE2O3_TYPED, &all.password, &all.record);
     failed |= make_record(FE2O3_PREPARED, &all.prepared, &all.prepared_record);
     failed |= make_salted_record(&all.salted_record);
     failed |= make_keys(FE2O3_TYPED, &all.password, &all.keys);
     failed |= fe2o3_scram_client_first(&all.login, &all.client, client_nonce, ROOM(all.client_first));
-    failed |= fe2o3_scram_server_first(
-        &all.record, &all.server, server_nonce, GIVEN(all.client_first), ROOM(all.server_first));
+    failed |= fe2o3_scram_server_first(&all.record, &all.server, server_nonce, GIVEN(all.client_first),
+        ROOM(all.server_first));
     all.answered = all.client;
     server = all.server;
     failed |= fe2o3_scram_client_final(&all.login, &all.answered, GIVEN(all.server_first), ROOM(all.client_final));
@@ -259,8 +261,8 @@ static uint32_t keys_of_salted(void)
 static uint32_t record_mock(void)
 {
     HIDE(all.secret);
-    return fe2o3_scram_record_mock(
-        all.version, all.secret, sizeof all.secret, TEXT("user"), sizeof salt, ITERATIONS, &all.made);
+    return fe2o3_scram_record_mock(all.version, all.secret, sizeof all.secret, TEXT("user"), sizeof salt, ITERATIONS,
+        &all.made);
 }
 
 static uint32_t record_text(void)
@@ -272,8 +274,7 @@ static uint32_t record_text(void)
 static uint32_t plain_verify_right(void)
 {
     hide_keys(&all.record);
-    return fe2o3_plain_verify(&all.record, 1, FE2O3_PLAIN_PASSWORDS_TYPED, ITERATIONS, 0, FE2O3_NONE,
-        GIVEN(all.plain));
+    return fe2o3_plain_verify(&all.record, 1, FE2O3_PLAIN_PASSWORDS_TYPED, ITERATIONS, 0, FE2O3_NONE, GIVEN(all.plain));
 }
 
 static uint32_t plain_verify_wrong(void)
@@ -285,8 +286,7 @@ static uint32_t plain_verify_wrong(void)
 static uint32_t plain_verify_typed(void)
 {
     (void)VALGRIND_MAKE_MEM_UNDEFINED(all.plain.bytes + all.plain.len - all.password.len, all.password.len);
-    return fe2o3_plain_verify(&all.record, 1, FE2O3_PLAIN_PASSWORDS_TYPED, ITERATIONS, 0, FE2O3_NONE,
-        GIVEN(all.plain));
+    return fe2o3_plain_verify(&all.record, 1, FE2O3_PLAIN_PASSWORDS_TYPED, ITERATIONS, 0, FE2O3_NONE, GIVEN(all.plain));
 }
 
 static uint32_t plain_verify_prepared(void)

@@ -40,8 +40,11 @@ class Symbols:
 
     def __init__(self, program):
         lines = subprocess.run(["nm", "--defined-only", program], check=True, capture_output=True, text=True).stdout
-        rows = sorted((int(at, 16), name) for at, kind, name in (line.split(" ", 2) for line in lines.splitlines())
-                      if kind in "tTwW")
+        rows = sorted(
+            (int(at, 16), name)
+            for at, kind, name in (line.split(" ", 2) for line in lines.splitlines())
+            if kind in "tTwW"
+        )
         self.starts, self.names = [at for at, _ in rows], [name for _, name in rows]
 
     def at(self, address):
@@ -104,10 +107,15 @@ def faults_of(seen, entries):
     faults = [f"{call} is in the list and no call" for call in entries if call not in {call for call, _ in seen}]
     for (call, version), functions in seen.items():
         listed = entries.get(call, {})
-        where = {name: ", ".join(f"{kind} at +{offset:#x}" for kind, offset in sorted(one.places))
-                 for name, one in functions.items()}
-        faults += [f"{call} {version}: {name} depends on a secret: {where[name]}"
-                   for name in functions if not any(name in names for names in listed)]
+        where = {
+            name: ", ".join(f"{kind} at +{offset:#x}" for kind, offset in sorted(one.places))
+            for name, one in functions.items()
+        }
+        faults += [
+            f"{call} {version}: {name} depends on a secret: {where[name]}"
+            for name in functions
+            if not any(name in names for names in listed)
+        ]
         for names, times in listed.items():
             met = [name for name in names if name in functions]
             count = sum(functions[name].times for name in met)
@@ -125,8 +133,9 @@ def self_test(seen):
     early = {at: one for at, one in seen.items() if at[0] == "self_test:early"}
     listed = {"self_test:early": {("same_early",): 1}}
     reported = [[fault for fault in faults_of(early, entries) if "same_early" in fault] for entries in ({}, listed)]
-    return (not faults_of(whole, {"self_test:whole": {("self_test_whole",): 1}})
-            and all(len(faults) == len(VERSIONS) for faults in reported))
+    return not faults_of(whole, {"self_test:whole": {("self_test_whole",): 1}}) and all(
+        len(faults) == len(VERSIONS) for faults in reported
+    )
 
 
 def main():

@@ -82,9 +82,11 @@ static void records(uint32_t version)
     expect(CALL(scram_record_make, version, FE2O3_TYPED, GIVEN(all.wrong), salt, sizeof salt, ITERATIONS, &all.record),
         FE2O3_OK);
     expect(CALL(scram_record_make, version, FE2O3_PREPARED, GIVEN(all.prepared), other_salt, sizeof other_salt,
-        ITERATIONS, &all.other), FE2O3_OK);
-    expect(CALL(scram_record_make, version, FE2O3_TYPED, GIVEN(all.password), salt, sizeof salt, ITERATIONS,
-        &all.record), FE2O3_OK);
+               ITERATIONS, &all.other),
+        FE2O3_OK);
+    expect(
+        CALL(scram_record_make, version, FE2O3_TYPED, GIVEN(all.password), salt, sizeof salt, ITERATIONS, &all.record),
+        FE2O3_OK);
     expect(CALL(scram_record_verify, &all.record, FE2O3_TYPED, GIVEN(all.password)), FE2O3_OK);
     expect(CALL(scram_record_verify, &all.record, FE2O3_PREPARED, GIVEN(all.wrong)), FE2O3_OTHER_PASSWORD);
     expect(CALL(scram_record_of_salted, version, GIVEN(all.salted), salt, sizeof salt, ITERATIONS, &all.read),
@@ -92,7 +94,8 @@ static void records(uint32_t version)
     expect(CALL(scram_record_verify_salted, &all.read, GIVEN(all.salted)), FE2O3_OK);
     expect(CALL(scram_record_verify_salted, &all.record, GIVEN(all.salted_wrong)), FE2O3_OTHER_PASSWORD);
     expect(CALL(scram_record_from_fields, version, salt, sizeof salt, ITERATIONS, all.record.stored_key, digest,
-        all.record.server_key, digest, &all.read), FE2O3_OK);
+               all.record.server_key, digest, &all.read),
+        FE2O3_OK);
     expect(CALL(scram_record_text, &all.record, ROOM(all.record_text)), FE2O3_OK);
     expect(CALL(scram_record_parse, GIVEN(all.record_text), &all.read), FE2O3_OK);
     expect(CALL(scram_line, USER, &all.record, ROOM(all.line)), FE2O3_OK);
@@ -102,7 +105,8 @@ static void records(uint32_t version)
         FE2O3_OK);
     expect(CALL(scram_keys_of_salted, version, GIVEN(all.salted), salt, sizeof salt, ITERATIONS, &all.keys), FE2O3_OK);
     expect(CALL(scram_keys_make, version, FE2O3_PREPARED, GIVEN(all.password), other_salt, sizeof other_salt,
-        ITERATIONS, &all.other_keys), FE2O3_OK);
+               ITERATIONS, &all.other_keys),
+        FE2O3_OK);
     expect(CALL(scram_keys_make, version, FE2O3_TYPED, GIVEN(all.password), salt, sizeof salt, ITERATIONS, &all.keys),
         FE2O3_OK);
 }
@@ -121,7 +125,8 @@ static void messages(const struct fe2o3_login *login, const struct fe2o3_scram_r
     CALL(scram_server_first_with_cbind_flag_y, record, &all.server, nonce, GIVEN(all.client_first),
         ROOM(all.server_first));
     expect(CALL(scram_server_first_with_rules, &rules, record, &all.server, nonce, GIVEN(all.client_first),
-        ROOM(all.server_first)), FE2O3_OK);
+               ROOM(all.server_first)),
+        FE2O3_OK);
     all.ruled = all.server;
     expect(CALL(scram_server_first, record, &all.server, nonce, GIVEN(all.client_first), ROOM(all.server_first)),
         FE2O3_OK);
@@ -158,10 +163,12 @@ static void acting_messages(const struct fe2o3_login *login)
     expect(CALL(scram_server_claimed_user_with_rules, &rules, GIVEN(all.client_first), ROOM(all.user)), FE2O3_OK);
     expect(CALL(scram_server_claimed_identity, &rules, GIVEN(all.client_first), ROOM(all.out)), FE2O3_OK);
     expect(CALL(scram_server_first_with_rules, &rules, &all.record, &all.server, nonce, GIVEN(all.client_first),
-        ROOM(all.server_first)), FE2O3_OK);
+               ROOM(all.server_first)),
+        FE2O3_OK);
     expect(CALL(scram_client_final, login, &all.client, GIVEN(all.server_first), ROOM(all.client_final)), FE2O3_OK);
     expect(CALL(scram_server_final_with_rules, &rules, &all.record, &all.server, GIVEN(all.client_final),
-        ROOM(all.server_final)), FE2O3_OK);
+               ROOM(all.server_final)),
+        FE2O3_OK);
     expect(CALL(scram_client_verify, login, &all.client, GIVEN(all.server_final)), FE2O3_OK);
     expect(CALL(scram_server_acts_for, &all.server, ROOM(all.out)), FE2O3_OK);
     expect((uint32_t)all.out.len, 6);
@@ -281,8 +288,14 @@ static void logins(uint32_t version)
     static struct fe2o3_sasl_login sasl;
     static struct fe2o3_sasl_server_config config;
     const uint32_t failed = FE2O3_SERVER_AUTHENTICATION_FAILED, rejected = FE2O3_REFUSED_AUTH;
-    login = (struct fe2o3_login){.version = version, .min_iterations = 1, .max_iterations = 4096, .username = USER,
-        .acts_for = FE2O3_NONE, .password = GIVEN(all.password), .keys = &no_keys, .signature_by_challenge = 1};
+    login = (struct fe2o3_login){.version = version,
+        .min_iterations = 1,
+        .max_iterations = 4096,
+        .username = USER,
+        .acts_for = FE2O3_NONE,
+        .password = GIVEN(all.password),
+        .keys = &no_keys,
+        .signature_by_challenge = 1};
     acting = wrong = by_keys = by_both = login;
     acting.acts_for = (const uint8_t *)"app,=x";
     acting.acts_for_len = 6;
@@ -299,11 +312,17 @@ static void logins(uint32_t version)
     messages(&login, &all.mock, failed);
     acting_messages(&acting);
     plain_messages();
-    config = (struct fe2o3_sasl_server_config){.mechanisms = FE2O3_OFFER_PLAIN | FE2O3_OFFER_ANONYMOUS
-            | FE2O3_OFFER_EXTERNAL | (version == FE2O3_SHA_1 ? FE2O3_OFFER_SCRAM_SHA_1
-            : version == FE2O3_SHA_256 ? FE2O3_OFFER_SCRAM_SHA_256 : FE2O3_OFFER_SCRAM_SHA_512),
-        .iterations = ITERATIONS, .username = all.user.bytes, .records = &all.record, .records_count = 1,
-        .external_authcid = TEXT("peer"), .identities = FE2O3_NONE};
+    config =
+        (struct fe2o3_sasl_server_config){.mechanisms = FE2O3_OFFER_PLAIN | FE2O3_OFFER_ANONYMOUS | FE2O3_OFFER_EXTERNAL
+                | (version == FE2O3_SHA_1          ? FE2O3_OFFER_SCRAM_SHA_1
+                        : version == FE2O3_SHA_256 ? FE2O3_OFFER_SCRAM_SHA_256
+                                                   : FE2O3_OFFER_SCRAM_SHA_512),
+            .iterations = ITERATIONS,
+            .username = all.user.bytes,
+            .records = &all.record,
+            .records_count = 1,
+            .external_authcid = TEXT("peer"),
+            .identities = FE2O3_NONE};
     for (uint32_t mechanism = FE2O3_SCRAM; mechanism <= FE2O3_EXTERNAL; mechanism++) {
         sasl = (struct fe2o3_sasl_login){mechanism, TEXT("host"), login};
         config.records = &all.record;

@@ -119,7 +119,10 @@ static uint32_t make_prepared(void)
 {
     return fe2o3_scram_record_make(FE2O3_SHA_256, FE2O3_PREPARED, GIVEN(all.password), salt, 16, 4096, &all.read);
 }
-static uint32_t verify_prepared(void) { return fe2o3_scram_record_verify(&all.read, FE2O3_PREPARED, GIVEN(all.password)); }
+static uint32_t verify_prepared(void)
+{
+    return fe2o3_scram_record_verify(&all.read, FE2O3_PREPARED, GIVEN(all.password));
+}
 static uint32_t make_prepared_keys(void)
 {
     return fe2o3_scram_keys_make(FE2O3_SHA_256, FE2O3_PREPARED, GIVEN(all.password), salt, 16, 4096, &all.keys);
@@ -144,10 +147,7 @@ static uint32_t make_of_salted(void)
 static uint32_t verify_salted(void) { return fe2o3_scram_record_verify_salted(&all.read, secret, 32); }
 static uint32_t plain(void) { return fe2o3_plain_message(TEXT("app"), TEXT("user"), TEXT("pencil"), ROOM(all.out)); }
 static uint32_t plain_user(void) { return fe2o3_plain_claimed_user(TEXT("\0user\0pencil"), ROOM(all.user)); }
-static uint32_t plain_identity(void)
-{
-    return fe2o3_plain_claimed_identity(TEXT("app\0user\0pencil"), ROOM(all.user));
-}
+static uint32_t plain_identity(void) { return fe2o3_plain_claimed_identity(TEXT("app\0user\0pencil"), ROOM(all.user)); }
 static uint32_t verify_plain(void)
 {
     return fe2o3_plain_verify(&all.record, 1, FE2O3_PLAIN_PASSWORDS_TYPED, 4096, 1, TEXT("ap\0app\0"),
@@ -167,8 +167,8 @@ static uint32_t challenge(void)
 }
 static uint32_t challenge_with_cbind_flag_y(void)
 {
-    return fe2o3_scram_server_first_with_cbind_flag_y(
-        &all.record, &all.server, nonce, GIVEN(all.client_first), ROOM(all.server_first));
+    return fe2o3_scram_server_first_with_cbind_flag_y(&all.record, &all.server, nonce, GIVEN(all.client_first),
+        ROOM(all.server_first));
 }
 static struct fe2o3_scram_rules rules;
 static uint32_t user_by_rules(void)
@@ -181,13 +181,13 @@ static uint32_t identity_by_rules(void)
 }
 static uint32_t challenge_by_rules(void)
 {
-    return fe2o3_scram_server_first_with_rules(
-        &rules, &all.record, &all.server, nonce, GIVEN(all.client_first), ROOM(all.server_first));
+    return fe2o3_scram_server_first_with_rules(&rules, &all.record, &all.server, nonce, GIVEN(all.client_first),
+        ROOM(all.server_first));
 }
 static uint32_t conclude_by_rules(void)
 {
-    return fe2o3_scram_server_final_with_rules(
-        &rules, &all.record, &all.server, GIVEN(all.client_final), ROOM(all.server_final));
+    return fe2o3_scram_server_final_with_rules(&rules, &all.record, &all.server, GIVEN(all.client_final),
+        ROOM(all.server_final));
 }
 static uint32_t answer(void)
 {
@@ -201,8 +201,7 @@ static uint32_t verify(void) { return fe2o3_scram_client_verify(&login, &all.cli
 static uint32_t spell_line(void) { return fe2o3_scram_line(TEXT("us,er"), &all.record, ROOM(all.line)); }
 static uint32_t find(void)
 {
-    return fe2o3_scram_lines_find(
-        GIVEN(all.line), TEXT("us,er"), FE2O3_SHA_256, &all.line_number, &all.read);
+    return fe2o3_scram_lines_find(GIVEN(all.line), TEXT("us,er"), FE2O3_SHA_256, &all.line_number, &all.read);
 }
 static uint32_t all_have(void)
 {
@@ -213,10 +212,7 @@ static uint32_t client_takes(void)
 {
     return fe2o3_sasl_client_receive(&sasl_login, &all.client_side, GIVEN(came), nonce, &all.taken, ROOM(all.out));
 }
-static uint32_t peek(void)
-{
-    return fe2o3_sasl_peek_frame(&all.server_side.connection, GIVEN(came), ROOM(all.out));
-}
+static uint32_t peek(void) { return fe2o3_sasl_peek_frame(&all.server_side.connection, GIVEN(came), ROOM(all.out)); }
 static uint32_t name(void) { return fe2o3_sasl_server_claimed_user(&all.server_side, GIVEN(came), ROOM(all.user)); }
 static uint32_t server_takes(void)
 {
@@ -259,7 +255,8 @@ static void connection(uint32_t mechanism, const char *user_name)
     }
     differences += all.client_side.connection.progress != FE2O3_AUTHENTICATED
         || all.server_side.connection.progress != FE2O3_AUTHENTICATED
-        || (fe2o3_scram_server_authenticated_user(&all.server_side.scram, ROOM(told)) == FE2O3_OK) != (user_name != NULL)
+        || (fe2o3_scram_server_authenticated_user(&all.server_side.scram, ROOM(told)) == FE2O3_OK)
+            != (user_name != NULL)
         || (user_name != NULL && (told.len != strlen(user_name) || memcmp(told.bytes, user_name, told.len) != 0));
 }
 
@@ -290,12 +287,22 @@ static void late_connection(const uint8_t *init, size_t init_len, const uint8_t 
 int main(void)
 {
     struct fe2o3_server_channels channels;
-    login = (struct fe2o3_login){.version = FE2O3_SHA_256, .min_iterations = 4096, .max_iterations = 4096,
-        .username = TEXT("us,er"), .acts_for = FE2O3_NONE, .password = TEXT("pencil"), .keys = &no_keys};
+    login = (struct fe2o3_login){.version = FE2O3_SHA_256,
+        .min_iterations = 4096,
+        .max_iterations = 4096,
+        .username = TEXT("us,er"),
+        .acts_for = FE2O3_NONE,
+        .password = TEXT("pencil"),
+        .keys = &no_keys};
     sasl_login = (struct fe2o3_sasl_login){.hostname = TEXT("host"), .login = login};
     config = (struct fe2o3_sasl_server_config){.mechanisms = FE2O3_OFFER_SCRAM_SHA_256 | FE2O3_OFFER_PLAIN
-            | FE2O3_OFFER_ANONYMOUS | FE2O3_OFFER_EXTERNAL, .iterations = 4096, .username = FE2O3_NONE,
-        .records = &all.record, .records_count = 1, .external_authcid = TEXT("pe,er"), .identities = FE2O3_NONE};
+            | FE2O3_OFFER_ANONYMOUS | FE2O3_OFFER_EXTERNAL,
+        .iterations = 4096,
+        .username = FE2O3_NONE,
+        .records = &all.record,
+        .records_count = 1,
+        .external_authcid = TEXT("pe,er"),
+        .identities = FE2O3_NONE};
     tried("record_make", make);
     tried("record_text", spell);
     tried("record_parse", parse);

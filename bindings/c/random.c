@@ -57,8 +57,7 @@ static void fill(void *block, size_t len)
 }
 
 static uint32_t one_of(const uint32_t *numbers, uint32_t count) { return numbers[below(count)]; }
-#define ONE_OF(...) \
-    one_of((const uint32_t[]){__VA_ARGS__}, sizeof(const uint32_t[]){__VA_ARGS__} / sizeof(uint32_t))
+#define ONE_OF(...) one_of((const uint32_t[]){__VA_ARGS__}, sizeof(const uint32_t[]){__VA_ARGS__} / sizeof(uint32_t))
 
 /* ---- texts and frames */
 
@@ -248,8 +247,11 @@ static uint8_t nonce[32];
 static void fitting(const struct fe2o3_scram_client *client, struct text *server_first)
 {
     static struct fe2o3_scram_keys no_keys;
-    const struct fe2o3_login who = {.version = FE2O3_SHA_1, .username = TEXT("user"), .acts_for = FE2O3_NONE,
-        .password = TEXT("pencil"), .keys = &no_keys};
+    const struct fe2o3_login who = {.version = FE2O3_SHA_1,
+        .username = TEXT("user"),
+        .acts_for = FE2O3_NONE,
+        .password = TEXT("pencil"),
+        .keys = &no_keys};
     struct fe2o3_scram_client other = {0};
     struct text first = {{0}, 0};
     char count[8];
@@ -352,10 +354,10 @@ static void with_a_record(void)
     answered("line", fe2o3_scram_line(TEXT("user"), &all.record, ROOM));
     answered("record_verify", fe2o3_scram_record_verify(&all.record, below(3), TEXT("pencil")));
     answered("record_verify_salted", fe2o3_scram_record_verify_salted(&all.record, nonce, ONE_OF(20, 31, 32)));
-    answered("plain_verify", below(2)
-            ? fe2o3_plain_verify(&all.record, below(2), below(4), below(9), 0, FE2O3_NONE, TEXT("\0user\0pencil"))
-            : fe2o3_plain_verify(&all.record, below(2), below(4), below(9), below(2), nonce, below(33),
-                TEXT("root\0user\0pencil")));
+    answered("plain_verify",
+        below(2) ? fe2o3_plain_verify(&all.record, below(2), below(4), below(9), 0, FE2O3_NONE, TEXT("\0user\0pencil"))
+                 : fe2o3_plain_verify(&all.record, below(2), below(4), below(9), below(2), nonce, below(33),
+                     TEXT("root\0user\0pencil")));
 }
 
 /* Some characters of one to four bytes, seldom with a byte among them that begins none. */
@@ -379,9 +381,7 @@ static void to_client(uint32_t mechanism, const struct fe2o3_sasl_client *side, 
     struct text body = {{0}, 0}, message;
     uint8_t code = (uint8_t)(mechanism != FE2O3_SCRAM ? 1 + below(4) : below(4) ? 0 : below(6));
     switch (below(8) == 0 ? below(6) : side->connection.expected) {
-    case 0:
-        ADD(came, "AMQP\3\1\0\0");
-        break;
+    case 0: ADD(came, "AMQP\3\1\0\0"); break;
     case 1:
         ADD(&body, "\xe0\x10\1\xa3\rSCRAM-SHA-256");
         frame(came, 0x40, 1, &body);
@@ -404,7 +404,8 @@ static void to_client(uint32_t mechanism, const struct fe2o3_sasl_client *side, 
 
 static void with_a_side_of_a_client(void)
 {
-    struct fe2o3_sasl_login who = {.mechanism = below(2) ? FE2O3_SCRAM : below(5), .hostname = TEXT("host"),
+    struct fe2o3_sasl_login who = {.mechanism = below(2) ? FE2O3_SCRAM : below(5),
+        .hostname = TEXT("host"),
         .login = login};
     struct text came = {{0}, 0};
     uint32_t status;
@@ -424,9 +425,7 @@ static void to_server(const struct fe2o3_sasl_server *side, struct text *came)
     struct text body = {{0}, 0}, message;
     int plain = below(2) == 0;
     switch (below(8) == 0 ? below(6) : side->connection.expected) {
-    case 0:
-        ADD(came, "AMQP\3\1\0\0");
-        break;
+    case 0: ADD(came, "AMQP\3\1\0\0"); break;
     case 4:
         if (has_asked(&side->scram))
             initial_response(plain, &message);
@@ -450,8 +449,12 @@ static void with_a_side_of_a_server(void)
 {
     const uint32_t option = ONE_OF(0, FE2O3_INITIAL_RESPONSE_BY_CHALLENGE, FE2O3_SIGNATURE_BY_CHALLENGE, FE2O3_STRICT)
         | (below(4) ? 0 : FE2O3_REJECT_MISPLACED);
-    struct fe2o3_sasl_server_config config = {.mechanisms = below(129) | option, .iterations = below(9),
-        .username = TEXT("user"), .records = &all.record, .records_count = below(2), .external_authcid = TEXT("peer")};
+    struct fe2o3_sasl_server_config config = {.mechanisms = below(129) | option,
+        .iterations = below(9),
+        .username = TEXT("user"),
+        .records = &all.record,
+        .records_count = below(2),
+        .external_authcid = TEXT("peer")};
     struct fe2o3_scram_rules rules;
     struct text came = {{0}, 0};
     uint32_t status;
@@ -505,9 +508,16 @@ static void one_round(void)
     fill(nonce, sizeof nonce);
     all = drawn;
     login = (struct fe2o3_login){.version = below(4) ? drawn.keys.version : ONE_OF(1, 2, 256, 512),
-        .secret = below(2) ? 0 : below(4), .form = below(2) ? 0 : below(3), .min_iterations = below(3), .max_iterations = 5 + below(4),
-        .username = TEXT("user"), .acts_for = identity, .acts_for_len = draw_identity(identity), .password = TEXT("pencil"),
-        .keys = &drawn.keys, .signature_by_challenge = below(2)};
+        .secret = below(2) ? 0 : below(4),
+        .form = below(2) ? 0 : below(3),
+        .min_iterations = below(3),
+        .max_iterations = 5 + below(4),
+        .username = TEXT("user"),
+        .acts_for = identity,
+        .acts_for_len = draw_identity(identity),
+        .password = TEXT("pencil"),
+        .keys = &drawn.keys,
+        .signature_by_challenge = below(2)};
     with_a_client();
     with_a_server();
     with_a_record();

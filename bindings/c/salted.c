@@ -33,8 +33,7 @@ static void told(uint32_t version, const char *what, int holds)
 static int hi(uint32_t version, const struct text *password, const struct text *salted_with, uint32_t count,
     struct text *salted)
 {
-    const EVP_MD *hash =
-        version == FE2O3_SHA_1 ? EVP_sha1() : version == FE2O3_SHA_256 ? EVP_sha256() : EVP_sha512();
+    const EVP_MD *hash = version == FE2O3_SHA_1 ? EVP_sha1() : version == FE2O3_SHA_256 ? EVP_sha256() : EVP_sha512();
     salted->len = (size_t)EVP_MD_size(hash);
     return PKCS5_PBKDF2_HMAC((const char *)password->bytes, (int)password->len, salted_with->bytes,
         (int)salted_with->len, (int)count, hash, (int)salted->len, salted->bytes);
@@ -104,8 +103,14 @@ static void cases(uint32_t version)
     struct text of_record = {{0}, 16}, salted = {{0}, 0}, other = {{0}, 0};
     struct fe2o3_scram_record record = {0}, made = {0}, none = {0};
     struct fe2o3_scram_keys keys = {0}, made_keys = {0};
-    struct fe2o3_login login = {.version = version, .secret = FE2O3_BY_KEYS, .min_iterations = 4096,
-        .max_iterations = 4096, .username = TEXT("user"), .acts_for = FE2O3_NONE, .password = FE2O3_NONE, .keys = &keys};
+    struct fe2o3_login login = {.version = version,
+        .secret = FE2O3_BY_KEYS,
+        .min_iterations = 4096,
+        .max_iterations = 4096,
+        .username = TEXT("user"),
+        .acts_for = FE2O3_NONE,
+        .password = FE2O3_NONE,
+        .keys = &keys};
 
     memcpy(of_record.bytes, salt, sizeof salt);
     told(version, "OpenSSL salts",

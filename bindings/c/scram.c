@@ -16,9 +16,10 @@ static const uint8_t client_nonce[32] = {1}, server_nonce[32] = {2}, secret[32] 
 static const uint8_t salt[16] = {4}, other_salt[16] = {5};
 
 /* The salt of the example in RFC 7677, and its record. */
-static const uint8_t known_salt[] = {0x5b, 0x6d, 0x99, 0x68, 0x9d, 0x12, 0x35, 0x8e,
-    0xec, 0xa0, 0x4b, 0x14, 0x12, 0x36, 0xfa, 0x81};
-static const char known_record[] = "SCRAM-SHA-256$4096:W22ZaJ0SNY7soEsUEjb6gQ==$"
+static const uint8_t known_salt[] = {0x5b, 0x6d, 0x99, 0x68, 0x9d, 0x12, 0x35, 0x8e, 0xec, 0xa0, 0x4b, 0x14, 0x12, 0x36,
+    0xfa, 0x81};
+static const char known_record[] =
+    "SCRAM-SHA-256$4096:W22ZaJ0SNY7soEsUEjb6gQ==$"
     "WG5d8oPm3OtcPnkdi4Uo7BkeZkBFzpcXkuLmtbsT4qY=:wfPLwcE6nTWhTAmQ7tl2KeoiWGPlZqQxSrmfPwDl2dU=";
 
 /* A password past ASCII as it is typed, what SASLprep prepares it to, and the records of that with this salt. The text
@@ -26,10 +27,12 @@ static const char known_record[] = "SCRAM-SHA-256$4096:W22ZaJ0SNY7soEsUEjb6gQ==$
 #define TYPED "pe\xcc\x81nci\xc2\xadl"
 #define PREPARED "p\xc3\xa9ncil"
 static const char prepared_1[] = "SCRAM-SHA-1$4096:W22ZaJ0SNY7soEsUEjb6gQ==$"
-    "Ht246LvWj4JbiUgVboZaa3Roj10=:VnM/xDSMFNP7iA5XaO6kdgL3zFE=";
-static const char prepared_256[] = "SCRAM-SHA-256$4096:W22ZaJ0SNY7soEsUEjb6gQ==$"
+                                 "Ht246LvWj4JbiUgVboZaa3Roj10=:VnM/xDSMFNP7iA5XaO6kdgL3zFE=";
+static const char prepared_256[] =
+    "SCRAM-SHA-256$4096:W22ZaJ0SNY7soEsUEjb6gQ==$"
     "GvjFZBfZSolQ8xuwIHAJlAq3MY+MGTjIrstgvbZu83E=:a+w26Tb6NHrNXdjMF/QgL5GZ3qvfbaNAgGoK6yh4x/E=";
-static const char prepared_512[] = "SCRAM-SHA-512$4096:W22ZaJ0SNY7soEsUEjb6gQ==$"
+static const char prepared_512[] =
+    "SCRAM-SHA-512$4096:W22ZaJ0SNY7soEsUEjb6gQ==$"
     "KsGVSzjR/2GTgnCTFuoXTEgtTdhv1X2UYlOIB436eFfyQZSvN7Wcfc90BvtmTOMVnB4GiRHOZJJHNA85LTOSKw==:"
     "g6s6sk5II26TgxYONS1psawypQCoArOrIGmhgNDCAgMpL7vo0MABNZh1G+EXYl037K3ZabWKSRDbDdobxkbHUA==";
 
@@ -77,8 +80,8 @@ static uint32_t run(struct exchange *one, const struct fe2o3_login *login, const
     memset(one, 0, sizeof *one);
     number = fe2o3_scram_client_first(login, &one->client, client_nonce, ROOM(one->client_first));
     if (number == FE2O3_OK)
-        number = fe2o3_scram_server_first(
-            record, &one->server, server_nonce, GIVEN(one->client_first), ROOM(one->server_first));
+        number = fe2o3_scram_server_first(record, &one->server, server_nonce, GIVEN(one->client_first),
+            ROOM(one->server_first));
     if (number == FE2O3_OK)
         number = fe2o3_scram_client_final(login, &one->client, GIVEN(one->server_first), ROOM(one->client_final));
     if (number == FE2O3_OK)
@@ -108,8 +111,8 @@ static int rooms(const struct fe2o3_login *login, const struct exchange *whole)
         == FE2O3_ROOM_TOO_SMALL;
     holds &= out.len == suffices && memcmp(out.bytes, empty.bytes, sizeof out.bytes) == 0;
     holds &= memcmp(&client, &before, sizeof client) == 0;
-    holds &= fe2o3_scram_client_final(login, &client, GIVEN(whole->server_first), out.bytes, suffices, &out.len)
-        == FE2O3_OK;
+    holds &=
+        fe2o3_scram_client_final(login, &client, GIVEN(whole->server_first), out.bytes, suffices, &out.len) == FE2O3_OK;
     return holds && out.len == whole->client_final.len && memcmp(out.bytes, whole->client_final.bytes, out.len) == 0;
 }
 
@@ -117,10 +120,21 @@ static void cases(uint32_t version)
 {
     struct fe2o3_scram_keys no_keys = {0}, keys = {0}, made = {0};
     struct fe2o3_scram_record record = {0}, read = {0}, other = {0}, mock = {0};
-    struct fe2o3_login login = {.version = version, .min_iterations = 4096, .max_iterations = 100000,
-        .username = TEXT("user"), .acts_for = FE2O3_NONE, .password = TEXT("pencil"), .keys = &no_keys};
-    struct fe2o3_login by_keys = {.version = version, .secret = 1, .min_iterations = 4096, .max_iterations = 100000,
-        .username = TEXT("user"), .acts_for = FE2O3_NONE, .password = FE2O3_NONE, .keys = &keys};
+    struct fe2o3_login login = {.version = version,
+        .min_iterations = 4096,
+        .max_iterations = 100000,
+        .username = TEXT("user"),
+        .acts_for = FE2O3_NONE,
+        .password = TEXT("pencil"),
+        .keys = &no_keys};
+    struct fe2o3_login by_keys = {.version = version,
+        .secret = 1,
+        .min_iterations = 4096,
+        .max_iterations = 100000,
+        .username = TEXT("user"),
+        .acts_for = FE2O3_NONE,
+        .password = FE2O3_NONE,
+        .keys = &keys};
     struct fe2o3_login stranger = login;
     struct text text = {{0}, 0}, user = {{0}, 0};
     struct exchange one, next;
@@ -191,11 +205,15 @@ static void messages(uint32_t version)
     fe2o3_scram_record_make(version, FE2O3_TYPED, TEXT("pencil"), salt, sizeof salt, 4096, &record);
     told(version, "a record of its fields",
         fe2o3_scram_record_from_fields(version, record.salt, record.salt_len, record.iterations, record.stored_key,
-            digest, record.server_key, digest, &made) == FE2O3_OK && memcmp(&made, &record, sizeof made) == 0
+            digest, record.server_key, digest, &made)
+                == FE2O3_OK
+            && memcmp(&made, &record, sizeof made) == 0
             && fe2o3_scram_record_from_fields(version, salt, sizeof salt, 4096, record.stored_key, digest - 1,
-                record.server_key, digest, &made) == FE2O3_RECORD_KEY_LENGTH_MISMATCH
+                   record.server_key, digest, &made)
+                == FE2O3_RECORD_KEY_LENGTH_MISMATCH
             && fe2o3_scram_record_from_fields(version, salt, sizeof salt, 0, record.stored_key, digest - 1,
-                record.server_key, digest, &made) == FE2O3_ZERO_ITERATIONS
+                   record.server_key, digest, &made)
+                == FE2O3_ZERO_ITERATIONS
             && memcmp(&made, &record, sizeof made) == 0);
     told(version, "a message of PLAIN, and its user",
         fe2o3_plain_message(FE2O3_NONE, TEXT("user"), TEXT("pencil"), ROOM(message)) == FE2O3_OK && message.len == 12
@@ -223,8 +241,7 @@ static void messages(uint32_t version)
             && fe2o3_plain_verify(&record, 1, 3, 4096, 1, TEXT("\xff"), GIVEN(named)) == FE2O3_NO_SUCH_CHOICE);
     told(version, "a login by PLAIN, a wrong password and an unknown user",
         VERIFY(0, FE2O3_NONE, GIVEN(message)) == FE2O3_OK
-            && VERIFY(0, FE2O3_NONE, TEXT("\0user\0pencils"))
-                == FE2O3_SERVER_AUTHENTICATION_FAILED
+            && VERIFY(0, FE2O3_NONE, TEXT("\0user\0pencils")) == FE2O3_SERVER_AUTHENTICATION_FAILED
             && fe2o3_plain_verify(&record, 0, FE2O3_PLAIN_PASSWORDS_TYPED, 4096, 0, FE2O3_NONE, GIVEN(message))
                 == FE2O3_SERVER_AUTHENTICATION_FAILED
             && fe2o3_scram_record_mock(version, secret, 32, TEXT("user"), sizeof salt, 4096, &mock) == FE2O3_OK
@@ -245,9 +262,14 @@ static void prepared(uint32_t version, const char *words)
     struct fe2o3_scram_record record = {0}, other = {0};
     struct text password = {{0}, 0}, text = {{0}, 0};
     struct exchange one;
-    struct fe2o3_login login = {.version = version, .form = FE2O3_PREPARED, .min_iterations = 4096,
-        .max_iterations = 4096, .username = TEXT("user"), .acts_for = FE2O3_NONE,
-        .password = FE2O3_NONE, .keys = &no_keys};
+    struct fe2o3_login login = {.version = version,
+        .form = FE2O3_PREPARED,
+        .min_iterations = 4096,
+        .max_iterations = 4096,
+        .username = TEXT("user"),
+        .acts_for = FE2O3_NONE,
+        .password = FE2O3_NONE,
+        .keys = &no_keys};
 
     told(version, "a password past ASCII is prepared",
         fe2o3_saslprep(TEXT(TYPED), FE2O3_UNASSIGNED_REFUSED, ROOM(password)) == FE2O3_OK
@@ -265,7 +287,8 @@ static void prepared(uint32_t version, const char *words)
     told(version, "a login by a prepared password", run(&one, &login, &record) == FE2O3_OK);
     told(version, "its keys",
         fe2o3_scram_client_get_keys(&one.client, &keys) == FE2O3_OK
-            && fe2o3_scram_keys_make(version, FE2O3_PREPARED, GIVEN(password), known_salt, sizeof known_salt, 4096, &made)
+            && fe2o3_scram_keys_make(version, FE2O3_PREPARED, GIVEN(password), known_salt, sizeof known_salt, 4096,
+                   &made)
                 == FE2O3_OK
             && memcmp(&keys, &made, sizeof keys) == 0);
     login.secret = FE2O3_BY_PASSWORD_AND_KEYS;
@@ -333,7 +356,8 @@ static void cbind_flag_y(void)
             == FE2O3_SERVER_CANNOT_PARSE_GS2_HEADER);
     told(FE2O3_SHA_256, "the header `y,,` is taken on wish",
         fe2o3_scram_server_claimed_user(TEXT(CBIND_FLAG_Y_FIRST), ROOM(text)) == FE2O3_OK && spells(&text, "user")
-            && fe2o3_scram_server_first_with_cbind_flag_y(&record, &server, server_nonce, TEXT(CBIND_FLAG_Y_FIRST), ROOM(text))
+            && fe2o3_scram_server_first_with_cbind_flag_y(&record, &server, server_nonce, TEXT(CBIND_FLAG_Y_FIRST),
+                   ROOM(text))
                 == FE2O3_OK
             && spells(&text, "r=" BOTH_NONCES ",s=W22ZaJ0SNY7soEsUEjb6gQ==,i=4096"));
     told(FE2O3_SHA_256, "the last message repeats it",
@@ -358,8 +382,9 @@ static void bind_channel(struct fe2o3_login *login, uint32_t kind, uint32_t len)
 static struct fe2o3_scram_rules binding(uint32_t kind, uint32_t len)
 {
     struct fe2o3_scram_rules rules = {.channels.binds_channel = 1, .identities = FE2O3_NONE};
-    *(kind == FE2O3_TLS_UNIQUE ? &rules.channels.tls_unique_len : kind == FE2O3_TLS_SERVER_END_POINT
-        ? &rules.channels.tls_server_end_point_len : &rules.channels.tls_exporter_len) = len;
+    *(kind == FE2O3_TLS_UNIQUE                   ? &rules.channels.tls_unique_len
+            : kind == FE2O3_TLS_SERVER_END_POINT ? &rules.channels.tls_server_end_point_len
+                                                 : &rules.channels.tls_exporter_len) = len;
     memcpy(rules.channels.tls_unique, channel_data, sizeof channel_data);
     memcpy(rules.channels.tls_server_end_point, channel_data, sizeof channel_data);
     memcpy(rules.channels.tls_exporter, channel_data, sizeof channel_data);
@@ -377,13 +402,13 @@ static uint32_t run_by(struct exchange *one, const struct fe2o3_login *login, co
     if (number == FE2O3_OK)
         number = fe2o3_scram_server_claimed_user_with_rules(first, GIVEN(one->client_first), ROOM(user));
     if (number == FE2O3_OK)
-        number = fe2o3_scram_server_first_with_rules(
-            first, record, &one->server, server_nonce, GIVEN(one->client_first), ROOM(one->server_first));
+        number = fe2o3_scram_server_first_with_rules(first, record, &one->server, server_nonce,
+            GIVEN(one->client_first), ROOM(one->server_first));
     if (number == FE2O3_OK)
         number = fe2o3_scram_client_final(login, &one->client, GIVEN(one->server_first), ROOM(one->client_final));
     if (number == FE2O3_OK)
-        number = fe2o3_scram_server_final_with_rules(
-            last, record, &one->server, GIVEN(one->client_final), ROOM(one->server_final));
+        number = fe2o3_scram_server_final_with_rules(last, record, &one->server, GIVEN(one->client_final),
+            ROOM(one->server_final));
     if (number == FE2O3_OK)
         number = fe2o3_scram_client_verify(login, &one->client, GIVEN(one->server_final));
     return number;
@@ -392,16 +417,21 @@ static uint32_t run_by(struct exchange *one, const struct fe2o3_login *login, co
 /* Channel binding (RFC 5802, section 6), by each kind. */
 static void channels(uint32_t version)
 {
-    static const char *headers[] = {"p=tls-unique,,n=user,r=", "p=tls-server-end-point,,n=user,r=",
-        "p=tls-exporter,,n=user,r="};
+    static const char *headers[] = {
+        "p=tls-unique,,n=user,r=", "p=tls-server-end-point,,n=user,r=", "p=tls-exporter,,n=user,r="};
     const uint32_t not_parsed = FE2O3_SERVER_CANNOT_PARSE_GS2_HEADER;
     struct fe2o3_scram_keys no_keys = {0};
     struct fe2o3_scram_record record = {0};
-    const struct fe2o3_login plain = {.version = version, .min_iterations = 4096, .max_iterations = 100000,
-        .username = TEXT("user"), .acts_for = FE2O3_NONE, .password = TEXT("pencil"), .keys = &no_keys};
+    const struct fe2o3_login plain = {.version = version,
+        .min_iterations = 4096,
+        .max_iterations = 100000,
+        .username = TEXT("user"),
+        .acts_for = FE2O3_NONE,
+        .password = TEXT("pencil"),
+        .keys = &no_keys};
     const struct fe2o3_scram_rules no_rules = FE2O3_SCRAM_RULES_INIT,
-        no_data = {.channels.binds_channel = 1, .identities = FE2O3_NONE},
-        with_y = {.accept_cbind_flag_y = 1, .identities = FE2O3_NONE};
+                                   no_data = {.channels.binds_channel = 1, .identities = FE2O3_NONE},
+                                   with_y = {.accept_cbind_flag_y = 1, .identities = FE2O3_NONE};
     struct exchange one;
     fe2o3_scram_record_make(version, FE2O3_TYPED, TEXT("pencil"), salt, sizeof salt, 4096, &record);
     for (uint32_t kind = FE2O3_TLS_UNIQUE; kind <= FE2O3_TLS_EXPORTER; kind++) {
@@ -452,8 +482,14 @@ static void channels(uint32_t version)
 static void identities(void)
 {
     struct fe2o3_scram_keys no_keys = {0};
-    struct fe2o3_login login = {.version = FE2O3_SHA_256, .min_iterations = 4096, .max_iterations = 4096,
-        .username = TEXT("user"), .acts_for = TEXT("app,=x"), .password = TEXT("pencil"), .keys = &no_keys}, itself = login;
+    struct fe2o3_login login = {.version = FE2O3_SHA_256,
+                           .min_iterations = 4096,
+                           .max_iterations = 4096,
+                           .username = TEXT("user"),
+                           .acts_for = TEXT("app,=x"),
+                           .password = TEXT("pencil"),
+                           .keys = &no_keys},
+                       itself = login;
     const struct fe2o3_scram_rules none = FE2O3_SCRAM_RULES_INIT;
     struct fe2o3_scram_rules rules = none;
     struct fe2o3_scram_record record = {0};
@@ -482,8 +518,9 @@ static void identities(void)
         memset(&one, 0, sizeof one);
         fe2o3_scram_client_first(second ? &login : &itself, &one.client, client_nonce, ROOM(one.client_first));
         told(FE2O3_SHA_256, "only a client that names an identity rejects an attribute without being strict",
-            fe2o3_scram_client_final(second ? &login : &itself, &one.client, TEXT("r=" BOTH_NONCES ",s=BAQ=,i=4096,c=biws"),
-                ROOM(one.client_final)) == (second ? FE2O3_CLIENT_MISPLACED_ATTRIBUTE : FE2O3_OK));
+            fe2o3_scram_client_final(second ? &login : &itself, &one.client,
+                TEXT("r=" BOTH_NONCES ",s=BAQ=,i=4096,c=biws"), ROOM(one.client_final))
+                == (second ? FE2O3_CLIENT_MISPLACED_ATTRIBUTE : FE2O3_OK));
         fe2o3_scram_client_first(second ? &login : &itself, &one.client, client_nonce, ROOM(one.client_first));
         fe2o3_scram_client_final(second ? &login : &itself, &one.client, TEXT("r=" BOTH_NONCES ",s=BAQ=,i=4096"),
             ROOM(one.client_final));
@@ -499,8 +536,14 @@ static void identities_of_each_form(void)
     static uint8_t commas[257], whole[257];
     const uint8_t *bad = (const uint8_t *)"\xff";
     struct fe2o3_scram_keys no_keys = {0};
-    struct fe2o3_login login = {.version = FE2O3_SHA_256, .min_iterations = 4096, .max_iterations = 4096,
-        .username = TEXT("user"), .acts_for = commas, .acts_for_len = 256, .password = TEXT("pencil"), .keys = &no_keys};
+    struct fe2o3_login login = {.version = FE2O3_SHA_256,
+        .min_iterations = 4096,
+        .max_iterations = 4096,
+        .username = TEXT("user"),
+        .acts_for = commas,
+        .acts_for_len = 256,
+        .password = TEXT("pencil"),
+        .keys = &no_keys};
     struct fe2o3_scram_rules rules = binding(FE2O3_TLS_SERVER_END_POINT, 64);
     struct fe2o3_scram_record record = {0};
     struct exchange one;
@@ -536,30 +579,41 @@ static void strict_sides(void)
 {
     const struct fe2o3_scram_rules strict = {.strict = 1, .identities = FE2O3_NONE}, lax = FE2O3_SCRAM_RULES_INIT;
     struct fe2o3_scram_keys no_keys = {0};
-    struct fe2o3_login login = {.version = FE2O3_SHA_256, .min_iterations = 4096, .max_iterations = 4096,
-        .username = TEXT("user"), .acts_for = FE2O3_NONE, .password = TEXT("pencil"), .keys = &no_keys};
+    struct fe2o3_login login = {.version = FE2O3_SHA_256,
+        .min_iterations = 4096,
+        .max_iterations = 4096,
+        .username = TEXT("user"),
+        .acts_for = FE2O3_NONE,
+        .password = TEXT("pencil"),
+        .keys = &no_keys};
     struct fe2o3_scram_record record = {0};
     struct exchange one;
     fe2o3_scram_record_make(FE2O3_SHA_256, FE2O3_TYPED, TEXT("pencil"), salt, sizeof salt, 4096, &record);
     told(FE2O3_SHA_256, "a strict server",
         fe2o3_scram_server_first_with_rules(&strict, &record, &one.server, server_nonce, TEXT("n,,n=user,r=abc,i=4096"),
-            ROOM(one.server_first)) == FE2O3_SERVER_MISPLACED_ATTRIBUTE
+            ROOM(one.server_first))
+                == FE2O3_SERVER_MISPLACED_ATTRIBUTE
             && fe2o3_scram_server_first_with_rules(&lax, &record, &one.server, server_nonce,
-                TEXT("n,,n=user,r=abc,i=4096"), ROOM(one.server_first)) == FE2O3_OK);
+                   TEXT("n,,n=user,r=abc,i=4096"), ROOM(one.server_first))
+                == FE2O3_OK);
     told(FE2O3_SHA_256, "an empty name",
         fe2o3_scram_server_first_with_rules(&strict, &record, &one.server, server_nonce, TEXT("n,,n=,r=abc"),
-            ROOM(one.server_first)) == FE2O3_SERVER_CANNOT_PARSE_USERNAME
+            ROOM(one.server_first))
+                == FE2O3_SERVER_CANNOT_PARSE_USERNAME
             && fe2o3_scram_server_first_with_rules(&lax, &record, &one.server, server_nonce, TEXT("n,,n=,r=abc"),
-                ROOM(one.server_first)) == FE2O3_OK);
+                   ROOM(one.server_first))
+                == FE2O3_OK);
     for (login.strict = 0; login.strict <= 1; login.strict++) {
         memset(&one, 0, sizeof one);
         fe2o3_scram_client_first(&login, &one.client, client_nonce, ROOM(one.client_first));
         told(FE2O3_SHA_256, login.strict ? "a strict client" : "a client that is not strict",
             fe2o3_scram_client_final(&login, &one.client, TEXT("r=" BOTH_NONCES ",s=BAQ=,i=4096,c=biws"),
-                ROOM(one.client_final)) == (login.strict ? FE2O3_CLIENT_MISPLACED_ATTRIBUTE : FE2O3_OK));
+                ROOM(one.client_final))
+                == (login.strict ? FE2O3_CLIENT_MISPLACED_ATTRIBUTE : FE2O3_OK));
         fe2o3_scram_client_first(&login, &one.client, client_nonce, ROOM(one.client_first));
         told(FE2O3_SHA_256, "a count with a zero before it",
-            fe2o3_scram_client_final(&login, &one.client, TEXT("r=" BOTH_NONCES ",s=BAQ=,i=04096"), ROOM(one.client_final))
+            fe2o3_scram_client_final(&login, &one.client, TEXT("r=" BOTH_NONCES ",s=BAQ=,i=04096"),
+                ROOM(one.client_final))
                 == (login.strict ? FE2O3_CLIENT_ITERATION_COUNT_PARSE_ERROR : FE2O3_OK));
         fe2o3_scram_client_first(&login, &one.client, client_nonce, ROOM(one.client_first));
         fe2o3_scram_client_final(&login, &one.client, TEXT("r=" BOTH_NONCES ",s=BAQ=,i=4096"), ROOM(one.client_final));
@@ -572,17 +626,20 @@ static void strict_sides(void)
 /* A server that rejects what is no extension in the place of one, and nothing more. */
 static void servers_that_reject_misplaced(void)
 {
-    const struct fe2o3_scram_rules rejects = {.reject_misplaced = 1, .identities = FE2O3_NONE}, lax = FE2O3_SCRAM_RULES_INIT;
+    const struct fe2o3_scram_rules rejects = {.reject_misplaced = 1, .identities = FE2O3_NONE},
+                                   lax = FE2O3_SCRAM_RULES_INIT;
     struct fe2o3_scram_record record = {0};
     struct exchange one = {0};
     fe2o3_scram_record_make(FE2O3_SHA_256, FE2O3_TYPED, TEXT("pencil"), salt, sizeof salt, 4096, &record);
     for (int set = 0; set < 2; set++) {
         const struct fe2o3_scram_rules *rules = set ? &rejects : &lax;
         told(FE2O3_SHA_256, set ? "a server that rejects misplaced attributes" : "a server without options",
-            fe2o3_scram_server_first_with_rules(rules, &record, &one.server, server_nonce, TEXT("n,,n=user,r=abc,i=4096"),
-                ROOM(one.server_first)) == (set ? FE2O3_SERVER_MISPLACED_ATTRIBUTE : FE2O3_OK)
+            fe2o3_scram_server_first_with_rules(rules, &record, &one.server, server_nonce,
+                TEXT("n,,n=user,r=abc,i=4096"), ROOM(one.server_first))
+                    == (set ? FE2O3_SERVER_MISPLACED_ATTRIBUTE : FE2O3_OK)
                 && fe2o3_scram_server_first_with_rules(rules, &record, &one.server, server_nonce,
-                    TEXT("n,,n=user,r=abc,x=1"), ROOM(one.server_first)) == FE2O3_OK);
+                       TEXT("n,,n=user,r=abc,x=1"), ROOM(one.server_first))
+                    == FE2O3_OK);
         told(FE2O3_SHA_256, "one between the nonce and the proof",
             fe2o3_scram_server_final_with_rules(rules, &record, &one.server,
                 TEXT("c=biws,r=abc" SERVER_NONCE ",c=eSws,p=AAAAAAAAAAAAAAAAAAAAAAAAAAAAAAAAAAAAAAAAAAA="),
@@ -590,7 +647,8 @@ static void servers_that_reject_misplaced(void)
                 == (set ? FE2O3_SERVER_MISPLACED_ATTRIBUTE : FE2O3_SERVER_AUTHENTICATION_FAILED));
         told(FE2O3_SHA_256, "an empty name and an empty nonce",
             fe2o3_scram_server_first_with_rules(rules, &record, &one.server, server_nonce, TEXT("n,,n=,r="),
-                ROOM(one.server_first)) == FE2O3_OK);
+                ROOM(one.server_first))
+                == FE2O3_OK);
     }
 }
 
@@ -598,18 +656,26 @@ static void servers_that_reject_misplaced(void)
 static void clients_with_a_channel(void)
 {
     struct fe2o3_scram_keys no_keys = {0};
-    struct fe2o3_login login = {.version = FE2O3_SHA_256, .min_iterations = 4096, .max_iterations = 4096,
-        .username = TEXT("user"), .acts_for = FE2O3_NONE, .password = TEXT("pencil"), .keys = &no_keys};
-    for (login.channel_use = FE2O3_CHANNEL_ABSENT; login.channel_use <= FE2O3_CHANNEL_NOT_OFFERED; login.channel_use++) {
+    struct fe2o3_login login = {.version = FE2O3_SHA_256,
+        .min_iterations = 4096,
+        .max_iterations = 4096,
+        .username = TEXT("user"),
+        .acts_for = FE2O3_NONE,
+        .password = TEXT("pencil"),
+        .keys = &no_keys};
+    for (login.channel_use = FE2O3_CHANNEL_ABSENT; login.channel_use <= FE2O3_CHANNEL_NOT_OFFERED;
+         login.channel_use++) {
         struct exchange one = {0};
         fe2o3_scram_client_first(&login, &one.client, client_nonce, ROOM(one.client_first));
         told(FE2O3_SHA_256, login.channel_use ? "a client that has a channel" : "a client that has none",
             fe2o3_scram_client_final(&login, &one.client, TEXT("r=" BOTH_NONCES ",s=BAQ=,i=4096,c=biws"),
-                ROOM(one.client_final)) == (login.channel_use ? FE2O3_CLIENT_MISPLACED_ATTRIBUTE : FE2O3_OK));
+                ROOM(one.client_final))
+                == (login.channel_use ? FE2O3_CLIENT_MISPLACED_ATTRIBUTE : FE2O3_OK));
         fe2o3_scram_client_first(&login, &one.client, client_nonce, ROOM(one.client_first));
         told(FE2O3_SHA_256, "a count with a zero before it, and an extension",
             fe2o3_scram_client_final(&login, &one.client, TEXT("r=" BOTH_NONCES ",s=BAQ=,i=04096,x=1"),
-                ROOM(one.client_final)) == FE2O3_OK);
+                ROOM(one.client_final))
+                == FE2O3_OK);
         told(FE2O3_SHA_256, "an attribute after a signature",
             fe2o3_scram_client_verify(&login, &one.client, TEXT("v=AAAA,c=biws"))
                 == (login.channel_use ? FE2O3_CLIENT_MISPLACED_ATTRIBUTE : FE2O3_CLIENT_SERVER_SIGNATURE_MISMATCH));

@@ -49,14 +49,22 @@ static void save_registers(void)
 {
 #if defined(__x86_64__) && defined(__GNUC__)
     __asm__ volatile("movq %%rcx, 0(%0); movq %%rdx, 8(%0); movq %%rsi, 16(%0); movq %%r8, 24(%0);"
-                     "movq %%r9, 32(%0); movq %%r10, 40(%0); movq %%r11, 48(%0)" : : "a"(registers.general) : "memory");
+                     "movq %%r9, 32(%0); movq %%r10, 40(%0); movq %%r11, 48(%0)"
+                     :
+                     : "a"(registers.general)
+                     : "memory");
     __asm__ volatile(SAVE(0) SAVE(1) SAVE(2) SAVE(3) SAVE(4) SAVE(5) SAVE(6) SAVE(7) SAVE(8) SAVE(9) SAVE(10) SAVE(11)
-                     SAVE(12) SAVE(13) SAVE(14) SAVE(15) : : "a"(registers.vectors) : "memory");
+                         SAVE(12) SAVE(13) SAVE(14) SAVE(15)
+                     :
+                     : "a"(registers.vectors)
+                     : "memory");
     if (has_upper_vectors())
         __asm__ volatile(SAVE_UPPER(16) SAVE_UPPER(17) SAVE_UPPER(18) SAVE_UPPER(19) SAVE_UPPER(20) SAVE_UPPER(21)
-                         SAVE_UPPER(22) SAVE_UPPER(23) SAVE_UPPER(24) SAVE_UPPER(25) SAVE_UPPER(26) SAVE_UPPER(27)
-                         SAVE_UPPER(28) SAVE_UPPER(29) SAVE_UPPER(30) SAVE_UPPER(31)
-                         : : "a"(registers.upper_vectors) : "memory");
+                             SAVE_UPPER(22) SAVE_UPPER(23) SAVE_UPPER(24) SAVE_UPPER(25) SAVE_UPPER(26) SAVE_UPPER(27)
+                                 SAVE_UPPER(28) SAVE_UPPER(29) SAVE_UPPER(30) SAVE_UPPER(31)
+                         :
+                         : "a"(registers.upper_vectors)
+                         : "memory");
 #endif
 }
 

@@ -131,9 +131,8 @@ static int64_t serve(int channel, struct fe2o3_sasl_server *server, struct secre
     uint8_t *came = keep->came, out[520], nonce[32] = {0}, name[256];
     size_t len = 0, at = 0, taken = 0, out_len = 0, name_len = 0;
     while (server->connection.progress == FE2O3_IN_PROGRESS) {
-        struct fe2o3_sasl_server_config config = {
-            mechanisms, FE2O3_DEFAULT_ITERATIONS, name, 0, keep->records, 3, (const uint8_t *)peer, strlen(peer), {0}, accept_authzid,
-            (const uint8_t *)identity, strlen(identity) + 1};
+        struct fe2o3_sasl_server_config config = {mechanisms, FE2O3_DEFAULT_ITERATIONS, name, 0, keep->records, 3,
+            (const uint8_t *)peer, strlen(peer), {0}, accept_authzid, (const uint8_t *)identity, strlen(identity) + 1};
         uint32_t status;
         memset(keep->records, 0, sizeof keep->records);
         if (at == len) {
@@ -150,8 +149,8 @@ static int64_t serve(int channel, struct fe2o3_sasl_server *server, struct secre
         }
         if (fe2o3_sasl_wants_nonce(&server->connection) && !random_bytes(nonce, sizeof nonce))
             return -1;
-        status = fe2o3_sasl_server_receive(
-            &config, server, came + at, len - at, nonce, &taken, out, sizeof out, &out_len);
+        status =
+            fe2o3_sasl_server_receive(&config, server, came + at, len - at, nonce, &taken, out, sizeof out, &out_len);
         if (status != FE2O3_OK)
             return status;
         at += taken;
@@ -185,7 +184,10 @@ static void hang_up(int channel)
  * lines has mock records (fetch), so its reason is a wrong proof. */
 static void log_rejection(uint32_t rejection)
 {
-#define NAMED(number) {number, #number}
+#define NAMED(number) \
+    { \
+        number, #number \
+    }
     static const struct {
         uint32_t number;
         const char *name;

@@ -15,8 +15,8 @@
 static const uint8_t client_nonce[32] = {1}, server_nonce[32] = {2};
 
 /* The salt of the example in RFC 7677. */
-static const uint8_t salt[] = {0x5b, 0x6d, 0x99, 0x68, 0x9d, 0x12, 0x35, 0x8e,
-    0xec, 0xa0, 0x4b, 0x14, 0x12, 0x36, 0xfa, 0x81};
+static const uint8_t salt[] = {0x5b, 0x6d, 0x99, 0x68, 0x9d, 0x12, 0x35, 0x8e, 0xec, 0xa0, 0x4b, 0x14, 0x12, 0x36, 0xfa,
+    0x81};
 
 /* The bodies of a login by SCRAM-SHA-256 with these nonces and this salt, written by hand; their proof and their
  * signature are those of Python's hashlib and hmac. */
@@ -26,19 +26,20 @@ static const uint8_t salt[] = {0x5b, 0x6d, 0x99, 0x68, 0x9d, 0x12, 0x35, 0x8e,
 #define OFFERS_ALL "\2\1\0\0\0\x53\x40\xc0\x2c\1\xe0\x29\4\xa3\15SCRAM-SHA-256\5PLAIN\11ANONYMOUS\10EXTERNAL"
 #define INIT "\2\1\0\0\0\x53\x41\xc0\x50\3\xa3\15SCRAM-SHA-256\xa0\x38n,,n=user,r=" NONCE "\xa1\4host"
 #define CHALLENGE "\2\1\0\0\0\x53\x42\xc0\x7f\1\xa0\x7cr=" BOTH_NONCES ",s=W22ZaJ0SNY7soEsUEjb6gQ==,i=4096"
-#define RESPONSE "\2\1\0\0\0\x53\x43\xc0\x93\1\xa0\x90" \
+#define RESPONSE \
+    "\2\1\0\0\0\x53\x43\xc0\x93\1\xa0\x90" \
     "c=biws,r=" BOTH_NONCES ",p=MIHdNcfet0LbDJOcfcN6eFJrJahL13kbab8XbO3ku+k="
 #define OUTCOME_OK "\2\1\0\0\0\x53\x44\xc0\x33\2\x50\0\xa0\x2ev=50uHbJV+ANf1NSOfnBbK910b8IC4PmQ5G06TO7VnXz8="
 
 /* The same of a client that could bind a channel. */
 #define CBIND_FLAG_Y_INIT "\2\1\0\0\0\x53\x41\xc0\x50\3\xa3\15SCRAM-SHA-256\xa0\x38y,,n=user,r=" NONCE "\xa1\4host"
-#define CBIND_FLAG_Y_RESPONSE "\2\1\0\0\0\x53\x43\xc0\x93\1\xa0\x90" \
+#define CBIND_FLAG_Y_RESPONSE \
+    "\2\1\0\0\0\x53\x43\xc0\x93\1\xa0\x90" \
     "c=eSws,r=" BOTH_NONCES ",p=SJ1/Pm0x+vAkhmfEkR72IPuVMVkUt0BF477aSDSc3vM="
 #define CBIND_FLAG_Y_OK "\2\1\0\0\0\x53\x44\xc0\x33\2\x50\0\xa0\x2ev=mZx4E2gu+jcdDC0u/pNy5NPrR0Zh6PMH8UcHTIgvIxU="
 
 /* The init of the first login with an attribute in the place of an extension: one of RFC 5802, and another. */
-#define ATTRIBUTE_INIT \
-    "\2\1\0\0\0\x53\x41\xc0\x57\3\xa3\15SCRAM-SHA-256\xa0\x3fn,,n=user,r=" NONCE ",i=4096\xa1\4host"
+#define ATTRIBUTE_INIT "\2\1\0\0\0\x53\x41\xc0\x57\3\xa3\15SCRAM-SHA-256\xa0\x3fn,,n=user,r=" NONCE ",i=4096\xa1\4host"
 #define EXTENSION_INIT "\2\1\0\0\0\x53\x41\xc0\x54\3\xa3\15SCRAM-SHA-256\xa0\x3cn,,n=user,r=" NONCE ",x=1\xa1\4host"
 
 /* The signature of the first login in a challenge, and the empty response to it. */
@@ -116,8 +117,13 @@ static int rejects(const struct fe2o3_scram_server *server, uint32_t reason)
 static struct fe2o3_sasl_login login_by(uint32_t mechanism, uint32_t version)
 {
     struct fe2o3_sasl_login login = {mechanism, TEXT("host"),
-        {.version = version, .min_iterations = 4096, .max_iterations = 100000, .username = TEXT("user"),
-            .acts_for = FE2O3_NONE, .password = TEXT("pencil"), .keys = &no_keys}};
+        {.version = version,
+            .min_iterations = 4096,
+            .max_iterations = 100000,
+            .username = TEXT("user"),
+            .acts_for = FE2O3_NONE,
+            .password = TEXT("pencil"),
+            .keys = &no_keys}};
     return login;
 }
 
@@ -140,9 +146,9 @@ static uint32_t offer_of(uint32_t version)
 /* A config of all mechanisms and of SCRAM with the hash of this record, which knows one user. */
 static struct fe2o3_sasl_server_config config_of(const struct fe2o3_scram_record *record)
 {
-    struct fe2o3_sasl_server_config config = {
-        offer_of(record->version) | FE2O3_OFFER_PLAIN | FE2O3_OFFER_ANONYMOUS | FE2O3_OFFER_EXTERNAL, 4096, TEXT("user"),
-        record, 1, TEXT("peer"), {0}, 0, FE2O3_NONE};
+    struct fe2o3_sasl_server_config config = {offer_of(record->version) | FE2O3_OFFER_PLAIN | FE2O3_OFFER_ANONYMOUS
+            | FE2O3_OFFER_EXTERNAL,
+        4096, TEXT("user"), record, 1, TEXT("peer"), {0}, 0, FE2O3_NONE};
     return config;
 }
 
@@ -161,7 +167,8 @@ static uint32_t served(struct exchange *one, const struct fe2o3_sasl_server_conf
 }
 
 /* A whole login, or one up to the call that is refused. Answers the number of its last call. */
-static uint32_t run(struct exchange *one, const struct fe2o3_sasl_login *login, const struct fe2o3_sasl_server_config *config)
+static uint32_t run(struct exchange *one, const struct fe2o3_sasl_login *login,
+    const struct fe2o3_sasl_server_config *config)
 {
     uint32_t number;
     memset(one, 0, sizeof *one);
@@ -173,8 +180,8 @@ static uint32_t run(struct exchange *one, const struct fe2o3_sasl_login *login, 
         if (one->count % 2 == 0)
             number = served(one, config, came, next);
         else
-            number = fe2o3_sasl_client_step(
-                login, &one->client, GIVEN(*came), client_nonce, &one->client_progress, ROOM(*next));
+            number = fe2o3_sasl_client_step(login, &one->client, GIVEN(*came), client_nonce, &one->client_progress,
+                ROOM(*next));
     }
     return number;
 }
@@ -216,8 +223,8 @@ static int ends_late(const struct fe2o3_sasl_login *login, struct fe2o3_sasl_ser
     memset(&one, 0, sizeof one);
     config.mechanisms |= FE2O3_INITIAL_RESPONSE_BY_CHALLENGE;
     if (fe2o3_sasl_server_offer(&config, ROOM(body)) != FE2O3_OK
-        || fe2o3_sasl_client_step(
-            login, &one.client, GIVEN(body), client_nonce, &one.client_progress, ROOM(init)) != FE2O3_OK)
+        || fe2o3_sasl_client_step(login, &one.client, GIVEN(body), client_nonce, &one.client_progress, ROOM(init))
+            != FE2O3_OK)
         return 0;
     withhold(&init, &late, &body);
     if (served(&one, &config, &late, &asks) != FE2O3_OK || !spells(&asks, TEXT(EMPTY_CHALLENGE)))
@@ -243,18 +250,22 @@ static int too_little_room(const struct fe2o3_sasl_login *login, const struct fe
     int holds;
     memset(&out, 0xa5, sizeof out);
     before = out;
-    holds = fe2o3_sasl_client_step(login, &client, GIVEN(whole->sent[0]), client_nonce, &progress, out.bytes, 507,
-        &out.len) == FE2O3_ROOM_TOO_SMALL && out.len == 508;
+    holds =
+        fe2o3_sasl_client_step(login, &client, GIVEN(whole->sent[0]), client_nonce, &progress, out.bytes, 507, &out.len)
+            == FE2O3_ROOM_TOO_SMALL
+        && out.len == 508;
     out.len = 0;
     holds &= fe2o3_sasl_server_step(config, &server, GIVEN(whole->sent[1]), server_nonce, &progress, out.bytes, 507,
-        &out.len) == FE2O3_ROOM_TOO_SMALL && out.len == 508;
+                 &out.len)
+            == FE2O3_ROOM_TOO_SMALL
+        && out.len == 508;
     holds &= fe2o3_sasl_server_offer(config, out.bytes, whole->sent[0].len - 1, &out.len) == FE2O3_ROOM_TOO_SMALL
         && out.len == whole->sent[0].len;
     holds &= fe2o3_sasl_server_step_claimed_user(&server, GIVEN(whole->sent[1]), out.bytes, 3, &out.len)
-        == FE2O3_ROOM_TOO_SMALL && out.len == 4;
+            == FE2O3_ROOM_TOO_SMALL
+        && out.len == 4;
     return holds && progress == 9 && memcmp(&client, &fresh_client, sizeof client) == 0
-        && memcmp(&server, &fresh_server, sizeof server) == 0
-        && memcmp(out.bytes, before.bytes, sizeof out.bytes) == 0;
+        && memcmp(&server, &fresh_server, sizeof server) == 0 && memcmp(out.bytes, before.bytes, sizeof out.bytes) == 0;
 }
 
 /* The names of the bodies of a login: that of the init, and then that of the open challenge for any response. */
@@ -267,8 +278,9 @@ static int bodies_name(const struct fe2o3_sasl_server_config *config, const stru
         && spells(&name, TEXT("user"));
     holds &= fe2o3_sasl_server_step_claimed_user(&server, GIVEN(whole->sent[3]), ROOM(name)) == FE2O3_NAMES_NO_USER;
     holds &= fe2o3_sasl_server_step_claimed_user(&server, GIVEN(whole->sent[0]), ROOM(name)) == FE2O3_NAMES_NO_USER;
-    holds &= fe2o3_sasl_server_step(config, &server, GIVEN(whole->sent[1]), server_nonce, &progress, ROOM(out))
-        == FE2O3_OK && progress == FE2O3_IN_PROGRESS;
+    holds &=
+        fe2o3_sasl_server_step(config, &server, GIVEN(whole->sent[1]), server_nonce, &progress, ROOM(out)) == FE2O3_OK
+        && progress == FE2O3_IN_PROGRESS;
     return holds && fe2o3_sasl_server_step_claimed_user(&server, GIVEN(whole->sent[3]), ROOM(name)) == FE2O3_OK
         && spells(&name, TEXT("user"));
 }
@@ -314,7 +326,8 @@ static void by_scram(const char *mechanism, uint32_t version)
 /* A server of all hashes, whose user has records for two of them. */
 static void by_several(void)
 {
-    struct fe2o3_scram_record records[3] = {record_by(FE2O3_SHA_256), record_by(FE2O3_SHA_512), record_by(FE2O3_SHA_512)};
+    struct fe2o3_scram_record records[3] = {record_by(FE2O3_SHA_256), record_by(FE2O3_SHA_512),
+        record_by(FE2O3_SHA_512)};
     struct fe2o3_sasl_login strong = login_by(FE2O3_SCRAM, FE2O3_SHA_512), usual = login_by(FE2O3_SCRAM, FE2O3_SHA_256);
     struct fe2o3_sasl_login weak = login_by(FE2O3_SCRAM, FE2O3_SHA_1), plain = login_by(FE2O3_PLAIN, 0);
     struct fe2o3_sasl_server_config config = config_of(&records[0]);
@@ -377,7 +390,8 @@ static void without_peer(const struct fe2o3_sasl_login *external, struct fe2o3_s
     told("EXTERNAL", "not offered without a peer", run(&one, external, &config) == FE2O3_NOT_IMPLEMENTED);
     told("EXTERNAL", "an init without a peer",
         fe2o3_sasl_server_step(&config, &server, TEXT("\2\1\0\0\0\x53\x41\xc0\x12\3\xa3\10EXTERNAL\x40\xa1\4host"),
-            server_nonce, &progress, ROOM(out)) == FE2O3_OK
+            server_nonce, &progress, ROOM(out))
+                == FE2O3_OK
             && progress == FE2O3_REFUSED_AUTH && spells(&out, TEXT(BARE_AUTH))
             && rejects(&server, FE2O3_REJECTION_MECHANISM_NOT_OFFERED));
     config.mechanisms = FE2O3_OFFER_EXTERNAL;
@@ -393,7 +407,8 @@ static void by_others(void)
     struct fe2o3_sasl_server_config config = config_of(&record);
     struct body name;
     struct exchange one;
-    told("PLAIN", "a login", ends(&plain, &config, FE2O3_AUTHENTICATED, &one) && names(&one.server, TEXT("user"))
+    told("PLAIN", "a login",
+        ends(&plain, &config, FE2O3_AUTHENTICATED, &one) && names(&one.server, TEXT("user"))
             && spells(&one.sent[1], TEXT("\2\1\0\0\0\x53\x41\xc0\x1c\3\xa3\5PLAIN\xa0\14\0user\0pencil\xa1\4host"))
             && spells(&one.sent[2], TEXT(BARE_OK)));
     told("PLAIN", "whom its init names",
@@ -405,9 +420,11 @@ static void by_others(void)
         ends_late(&plain, config, FE2O3_REJECTION_WRONG_PASSWORD));
     told("PLAIN", "a wrong password",
         ends(&plain, &config, FE2O3_REFUSED_AUTH, &one) && rejects(&one.server, FE2O3_REJECTION_WRONG_PASSWORD));
-    told("ANONYMOUS", "a login", ends(&anonymous, &config, FE2O3_AUTHENTICATED, &one) && names_no_user(&one.server)
+    told("ANONYMOUS", "a login",
+        ends(&anonymous, &config, FE2O3_AUTHENTICATED, &one) && names_no_user(&one.server)
             && spells(&one.sent[1], TEXT("\2\1\0\0\0\x53\x41\xc0\x13\3\xa3\11ANONYMOUS\x40\xa1\4host")));
-    told("EXTERNAL", "a login", ends(&external, &config, FE2O3_AUTHENTICATED, &one) && names(&one.server, TEXT("peer"))
+    told("EXTERNAL", "a login",
+        ends(&external, &config, FE2O3_AUTHENTICATED, &one) && names(&one.server, TEXT("peer"))
             && spells(&one.sent[1], TEXT("\2\1\0\0\0\x53\x41\xc0\x12\3\xa3\10EXTERNAL\x40\xa1\4host")));
     config.mechanisms = FE2O3_OFFER_SCRAM_SHA_256;
     told("EXTERNAL", "where it is not offered", run(&one, &external, &config) == FE2O3_NOT_IMPLEMENTED);
@@ -445,7 +462,8 @@ static void out_of_turn(void)
         heard(&plain, TEXT("\2\1\0"), &progress) == FE2O3_MALFORMED_FRAME && progress == 9);
     told("a server", "a frame that no client sends",
         fe2o3_sasl_server_step(&config, &server, TEXT(CHALLENGE), server_nonce, &progress, ROOM(out))
-            == FE2O3_NO_SASL_FRAME && progress == 9);
+                == FE2O3_NO_SASL_FRAME
+            && progress == 9);
     told("a server", "a response without a challenge is refused by an outcome",
         fe2o3_sasl_server_step(&config, &server, TEXT(RESPONSE), server_nonce, &progress, ROOM(out)) == FE2O3_OK
             && progress == FE2O3_REFUSED_AUTH && spells(&out, TEXT(BARE_AUTH))
@@ -466,12 +484,14 @@ static void cbind_flag_y(void)
     struct body out;
     uint32_t progress = 9;
     told("SCRAM-SHA-256", "the header `y,,` is refused",
-        fe2o3_sasl_server_step(&config, &server, TEXT(CBIND_FLAG_Y_INIT), server_nonce, &progress, ROOM(out)) == FE2O3_OK
+        fe2o3_sasl_server_step(&config, &server, TEXT(CBIND_FLAG_Y_INIT), server_nonce, &progress, ROOM(out))
+                == FE2O3_OK
             && progress == FE2O3_REFUSED_AUTH && spells(&out, TEXT(BARE_AUTH))
             && rejects(&server, FE2O3_REJECTION_CHANNEL));
     config.mechanisms = FE2O3_OFFER_SCRAM_SHA_256 | FE2O3_ACCEPT_CBIND_FLAG_Y;
     told("SCRAM-SHA-256", "the header `y,,` is taken on wish",
-        fe2o3_sasl_server_step(&config, &server, TEXT(CBIND_FLAG_Y_INIT), server_nonce, &progress, ROOM(out)) == FE2O3_OK
+        fe2o3_sasl_server_step(&config, &server, TEXT(CBIND_FLAG_Y_INIT), server_nonce, &progress, ROOM(out))
+                == FE2O3_OK
             && progress == FE2O3_IN_PROGRESS && spells(&out, TEXT(CHALLENGE))
             && fe2o3_sasl_server_step(&config, &server, TEXT(CBIND_FLAG_Y_RESPONSE), server_nonce, &progress, ROOM(out))
                 == FE2O3_OK
@@ -676,13 +696,12 @@ static void identities(const char *mechanism, uint32_t number)
         ends(&itself, &config, FE2O3_AUTHENTICATED, &one) && acts_for(&one.server, FE2O3_NONE));
     told(mechanism, "a server that accepts no identities",
         ends(&login, &no_identities, FE2O3_REFUSED_AUTH, &one)
-            && rejects(&one.server, number == FE2O3_PLAIN ? FE2O3_REJECTION_INVALID_MESSAGE
-                                                          : FE2O3_SERVER_CANNOT_PARSE_GS2_HEADER));
+            && rejects(&one.server,
+                number == FE2O3_PLAIN ? FE2O3_REJECTION_INVALID_MESSAGE : FE2O3_SERVER_CANNOT_PARSE_GS2_HEADER));
     config.identities_len = sizeof "other" - 1;
     told(mechanism, "a user who may not act for it",
         ends(&login, &config, FE2O3_REFUSED_AUTH, &one)
-            && rejects(&one.server,
-                number == FE2O3_PLAIN ? FE2O3_REJECTION_WRONG_PASSWORD : FE2O3_REJECTION_NO_RIGHT));
+            && rejects(&one.server, number == FE2O3_PLAIN ? FE2O3_REJECTION_WRONG_PASSWORD : FE2O3_REJECTION_NO_RIGHT));
     memset(commas, ',', sizeof commas);
     login.login.acts_for = commas;
     login.login.acts_for_len = sizeof commas;
@@ -715,8 +734,10 @@ static void identities_of_others(void)
     login.login.acts_for = (const uint8_t *)"app,=x";
     login.login.acts_for_len = 6;
     told("PLAIN", "the init of a client that names an identity",
-        run(&one, &login, &config) == FE2O3_OK && spells(&one.sent[1],
-            TEXT("\2\1\0\0\0\x53\x41\xc0\x22\3\xa3\5PLAIN\xa0\x12" "app,=x\0user\0pencil\xa1\4host")));
+        run(&one, &login, &config) == FE2O3_OK
+            && spells(&one.sent[1],
+                TEXT("\2\1\0\0\0\x53\x41\xc0\x22\3\xa3\5PLAIN\xa0\x12"
+                     "app,=x\0user\0pencil\xa1\4host")));
     for (size_t at = 0; at < sizeof rows / sizeof *rows; at++) {
         login.mechanism = rows[at].mechanism;
         holds &= run(&one, &login, &config) == rows[at].number;
@@ -759,8 +780,7 @@ static void channels(const char *mechanism, uint32_t version)
     told(mechanism, "data of the channel that are too long",
         fe2o3_sasl_server_offer(&config, ROOM(offer)) == FE2O3_CHANNEL_DATA_LENGTH);
     config.channels.binds_channel = 0;
-    told(mechanism, "which play no part where no channel is bound",
-        ends(&login, &config, FE2O3_AUTHENTICATED, &one));
+    told(mechanism, "which play no part where no channel is bound", ends(&login, &config, FE2O3_AUTHENTICATED, &one));
 }
 
 int main(void)

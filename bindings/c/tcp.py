@@ -41,7 +41,11 @@ def logged_in(program, mechanism, password, broker, piece):
         side.start()
         done = subprocess.run(
             [program, "127.0.0.1", port, mechanism, "user"],
-            input=password + "\n", capture_output=True, text=True, timeout=60, check=False,
+            input=password + "\n",
+            capture_output=True,
+            text=True,
+            timeout=60,
+            check=False,
         )
         side.join(20)
     return done.returncode, done.stdout.strip() or done.stderr.strip()
@@ -96,15 +100,20 @@ REFUSED = "not logged in: Connection: The login was rejected"
 #: What the log of server.c says of a wrong password.
 LOGGED = {"SCRAM-SHA-256": "rejected: FE2O3_REJECTION_WRONG_PROOF", "PLAIN": "rejected: FE2O3_REJECTION_WRONG_PASSWORD"}
 #: A name, a password, and what the server should say of them.
-WORDS = [*((name, word, f"logged in: {name}") for name, word in USERS.items()),
-         ("user", "pencils", REFUSED), ("nobody", "pencil", REFUSED)]
+WORDS = [
+    *((name, word, f"logged in: {name}") for name, word in USERS.items()),
+    ("user", "pencils", REFUSED),
+    ("nobody", "pencil", REFUSED),
+]
 
 
 @contextlib.contextmanager
 def server_program(server, logins, *words, log=None):
     """The program of server.c for that many logins, and its port."""
     lines = [
-        name.replace("=", "=3D").replace(",", "=2C") + " " + Secret(SHA_256, word, b"a salt of bytes!", 4096).record_text()
+        name.replace("=", "=3D").replace(",", "=2C")
+        + " "
+        + Secret(SHA_256, word, b"a salt of bytes!", 4096).record_text()
         for name, word in USERS.items()
     ]
     with tempfile.NamedTemporaryFile("w", suffix=".users") as file:
@@ -126,7 +135,11 @@ def to_the_server(client, server):
             for mechanism in ("SCRAM-SHA-256", "PLAIN"):
                 done = subprocess.run(
                     [client, "127.0.0.1", str(port), mechanism, name],
-                    input=word + "\n", capture_output=True, text=True, timeout=60, check=False,
+                    input=word + "\n",
+                    capture_output=True,
+                    text=True,
+                    timeout=60,
+                    check=False,
                 )
                 said = program.stdout.readline().strip()
                 yield f"{mechanism}, {name}", (done.returncode, said), (int(wanted == REFUSED), wanted)
@@ -158,9 +171,14 @@ def without_initial_response(server):
 
 
 #: The identity that a client names, the words of the server, and what the server should say of the user.
-IDENTITIES = [("", ["for:bob"], "logged in: user"), ("user", ["for:bob"], "logged in: user for user"),
-              ("bob", ["for:bob"], "logged in: user for bob"), ("carol", ["for:bob"], REFUSED),
-              ("bobby", ["for:bob"], REFUSED), ("bob", [], REFUSED)]
+IDENTITIES = [
+    ("", ["for:bob"], "logged in: user"),
+    ("user", ["for:bob"], "logged in: user for user"),
+    ("bob", ["for:bob"], "logged in: user for bob"),
+    ("carol", ["for:bob"], REFUSED),
+    ("bobby", ["for:bob"], REFUSED),
+    ("bob", [], REFUSED),
+]
 
 
 def for_identities(client, server):
@@ -170,7 +188,11 @@ def for_identities(client, server):
             with server_program(server, 1, mechanism, "", *words) as (program, port):
                 done = subprocess.run(
                     [client, "127.0.0.1", str(port), mechanism, "user", *([f"for:{identity}"] if identity else [])],
-                    input="pencil\n", capture_output=True, text=True, timeout=60, check=False,
+                    input="pencil\n",
+                    capture_output=True,
+                    text=True,
+                    timeout=60,
+                    check=False,
                 )
                 what = " ".join([f"{mechanism} as {identity or 'itself'}", *words])
                 yield what, (done.returncode, program.stdout.readline().strip()), (int(wanted == REFUSED), wanted)

@@ -35,8 +35,13 @@ static void run(size_t place, struct outcome *one)
 {
     static const uint32_t versions[VERSIONS] = {FE2O3_SHA_1, FE2O3_SHA_256, FE2O3_SHA_512};
     const struct fe2o3_scram_record *record = &records[place % VERSIONS];
-    struct fe2o3_login login = {.version = versions[place % VERSIONS], .min_iterations = 1, .max_iterations = 100,
-        .username = TEXT("user"), .acts_for = FE2O3_NONE, .password = TEXT("pencil"), .keys = &no_keys};
+    struct fe2o3_login login = {.version = versions[place % VERSIONS],
+        .min_iterations = 1,
+        .max_iterations = 100,
+        .username = TEXT("user"),
+        .acts_for = FE2O3_NONE,
+        .password = TEXT("pencil"),
+        .keys = &no_keys};
     struct fe2o3_scram_client client = {0};
     struct fe2o3_scram_server server = {0};
     uint8_t client_nonce[32] = {1}, server_nonce[32] = {2};
@@ -46,8 +51,8 @@ static void run(size_t place, struct outcome *one)
     memset(one, 0, sizeof *one);
     one->number = fe2o3_scram_client_first(&login, &client, client_nonce, ROOM(one->client_first));
     if (one->number == FE2O3_OK)
-        one->number = fe2o3_scram_server_first(
-            record, &server, server_nonce, GIVEN(one->client_first), ROOM(one->server_first));
+        one->number =
+            fe2o3_scram_server_first(record, &server, server_nonce, GIVEN(one->client_first), ROOM(one->server_first));
     if (one->number == FE2O3_OK)
         one->number = fe2o3_scram_client_final(&login, &client, GIVEN(one->server_first), ROOM(one->client_final));
     if (one->number == FE2O3_OK)
@@ -91,9 +96,12 @@ int main(void)
     struct share shares[THREADS];
     size_t logins = 0, differences = 0;
 
-    if (fe2o3_scram_record_make(FE2O3_SHA_1, FE2O3_TYPED, TEXT("pencil"), salt, sizeof salt, 100, &records[0]) != FE2O3_OK
-        || fe2o3_scram_record_make(FE2O3_SHA_256, FE2O3_TYPED, TEXT("pencil"), salt, sizeof salt, 100, &records[1]) != FE2O3_OK
-        || fe2o3_scram_record_make(FE2O3_SHA_512, FE2O3_TYPED, TEXT("pencil"), salt, sizeof salt, 100, &records[2]) != FE2O3_OK) {
+    if (fe2o3_scram_record_make(FE2O3_SHA_1, FE2O3_TYPED, TEXT("pencil"), salt, sizeof salt, 100, &records[0])
+            != FE2O3_OK
+        || fe2o3_scram_record_make(FE2O3_SHA_256, FE2O3_TYPED, TEXT("pencil"), salt, sizeof salt, 100, &records[1])
+            != FE2O3_OK
+        || fe2o3_scram_record_make(FE2O3_SHA_512, FE2O3_TYPED, TEXT("pencil"), salt, sizeof salt, 100, &records[2])
+            != FE2O3_OK) {
         printf("no record\n");
         return 1;
     }

@@ -60,7 +60,9 @@ def replaced(text, pattern, by):
 def module_of(soname):
     """The module's text, which loads the library beside it."""
     text = MODULE.read_text(encoding="utf-8")
-    text = replaced(text, r"otherwise the system's\s+`libfe2o3_sasl\.so\.\d+`", f"otherwise `{soname}`\nbeside this file")
+    text = replaced(
+        text, r"otherwise the system's\s+`libfe2o3_sasl\.so\.\d+`", f"otherwise `{soname}`\nbeside this file"
+    )
     beside = f'or os.path.join(os.path.dirname(os.path.abspath(__file__)), "{soname}")'
     return replaced(text, r'(?<=os\.environ\.get\("FE2O3_SASL_LIB"\) )or "libfe2o3_sasl\.so\.\d+"', beside)
 

@@ -1802,9 +1802,7 @@ class Record(_Stored):
         return cls._of(struct)
 
     @classmethod
-    def from_fields(
-        cls, version: int, salt: Bytes, iterations: int, stored_key: Bytes, server_key: Bytes
-    ) -> Record:
+    def from_fields(cls, version: int, salt: Bytes, iterations: int, stored_key: Bytes, server_key: Bytes) -> Record:
         """Returns the record of the fields that another server stores (RFC 5802, section 3), each as bytes, not in
         base64. Raises `Refused`, in this order: with NO_SUCH_VERSION; with TOO_LONG for a salt of more than 128 bytes;
         with ZERO_ITERATIONS; and with RECORD_KEY_LENGTH_MISMATCH if a key is not as long as a digest of the hash."""
@@ -2727,8 +2725,16 @@ class _ServerSide(_Login):
     """A server's login: what it offers, and its records."""
 
     __slots__ = (
-        "_attempt", "_channels", "_external_authcid", "_identities_of", "_iterations", "_mechanisms", "_mock",
-        "_mock_rejection", "_records_of", "_struct",
+        "_attempt",
+        "_channels",
+        "_external_authcid",
+        "_identities_of",
+        "_iterations",
+        "_mechanisms",
+        "_mock",
+        "_mock_rejection",
+        "_records_of",
+        "_struct",
     )
 
     def __init__(
@@ -2779,7 +2785,10 @@ class _ServerSide(_Login):
             raise ValueError("the iteration count is that of the mock records")
         self._identities_of = identities_of
         self._records_of, self._mechanisms = records_of, _number(mechanisms)
-        self._iterations, self._struct = _number(DEFAULT_ITERATIONS if iterations is None else iterations), self._fresh()
+        self._iterations, self._struct = (
+            _number(DEFAULT_ITERATIONS if iterations is None else iterations),
+            self._fresh(),
+        )
         self._external_authcid = _text("" if external_authcid is None else external_authcid)
         self._channels = _channels_of(channels)
         self._attempt: Optional[LoginAttempt] = None
@@ -2822,7 +2831,9 @@ class _ServerSide(_Login):
             records = (_ScramRecordStruct * len(copies))(*copies)
             stack.callback(_wipe, records)
             accepts = self._identities_of is not None
-            identities = _joined(self._identities_of(name) if self._identities_of is not None and name is not None else ())
+            identities = _joined(
+                self._identities_of(name) if self._identities_of is not None and name is not None else ()
+            )
             self._alive()  # (`records_of` can wipe this side)
             yield _SaslServerConfigStruct(
                 mechanisms=self._mechanisms,

@@ -31,8 +31,9 @@ OFFERS = {SHA_512: Offer.SCRAM_SHA_512, SHA_256: Offer.SCRAM_SHA_256, SHA_1: Off
 BOTH = Offer.SCRAM_SHA_512 | Offer.SCRAM_SHA_256
 
 
-def added(name: str, password: str = "pencil", hashes: tuple[int, ...] = ADDED, salt_length: int = 16,
-          iterations: int = 4096) -> str:
+def added(
+    name: str, password: str = "pencil", hashes: tuple[int, ...] = ADDED, salt_length: int = 16, iterations: int = 4096
+) -> str:
     """The lines of a user, as `scram users add` writes them, with fresh salts."""
     escaped = name.replace("=", "=3D").replace(",", "=2C")
     made = [Secret(hash, password, secrets.token_bytes(salt_length), iterations).record_text() for hash in hashes]
@@ -82,6 +83,7 @@ class Printed(unittest.TestCase):
         """What both sides of a login return or raise."""
         near, far = socket.socketpair()
         with near, far, ThreadPoolExecutor() as threads:
+
             def serve() -> Any:
                 try:
                     return self.code["serve"](far, store, SECRET, tls)
@@ -101,6 +103,7 @@ class Printed(unittest.TestCase):
     def asked(self, by: Side) -> Callable[[socket.socket], tuple[Optional[int], list[tuple[Optional[int], int]]]]:
         """A client that asks for its mechanism, also if it is not offered. Returns the code of the outcome, and the codes and
         lengths of what it received."""
+
         def log_in(sock: socket.socket) -> tuple[Optional[int], list[tuple[Optional[int], int]]]:
             by.begin(ask=True)
             received, answer = b"", by.open()
@@ -154,20 +157,29 @@ class Printed(unittest.TestCase):
     def test_names_are_not_shown(self) -> None:
         """A user with one record, one with all, and an unknown one get answers of the same kinds and lengths."""
         for salt_length, iterations in ((16, 4096), (32, 4096), (16, 10000)):
+
             def of(name: str, *hashes: int) -> str:
                 return added(name, "pencil", hashes, salt_length, iterations)
 
-            for lines in (of("one", SHA_256) + of("all", *ADDED), of("one", SHA_512) + of("all", *ADDED),
-                          of("one", *ADDED) + of("all", *ADDED)):
+            for lines in (
+                of("one", SHA_256) + of("all", *ADDED),
+                of("one", SHA_512) + of("all", *ADDED),
+                of("one", *ADDED) + of("all", *ADDED),
+            ):
                 store = RecordStore(lines)
                 for hash in (SHA_512, SHA_256, SHA_1):
-                    found = [self.serve(store, self.asked(Login(hash, name, "wrong")), tls=True)[0]
-                             for name in ("one", "all", "unknown")]
+                    found = [
+                        self.serve(store, self.asked(Login(hash, name, "wrong")), tls=True)[0]
+                        for name in ("one", "all", "unknown")
+                    ]
                     self.assertEqual(found, [found[0]] * 3)
                     self.assertEqual(found[0][0], 1)
                     is_offered = bool(store.hashes() & OFFERS[hash])
                     self.assertEqual([code for code, _ in found[0][1]], [None, 0x40, *[0x42] * is_offered, 0x44])
-                found = [self.serve(store, self.asked(Plain(name, "wrong")), tls=True)[0] for name in ("one", "all", "nobody")]
+                found = [
+                    self.serve(store, self.asked(Plain(name, "wrong")), tls=True)[0]
+                    for name in ("one", "all", "nobody")
+                ]
                 self.assertEqual(found, [found[0]] * 3)
 
 
@@ -186,7 +198,9 @@ class MockRecords(unittest.TestCase):
                     side = ServerConnection(self.store.records, mechanisms=mechanisms, mock=SECRET)
                     sent = answers(side, Login(hash, name, "wrong"))
                     found[name] = [kinds(one) for one in sent]
-                    self.assertEqual((side.progress, len(sent)), (Progress.FAILED, 3 if mechanisms & OFFERS[hash] else 2))
+                    self.assertEqual(
+                        (side.progress, len(sent)), (Progress.FAILED, 3 if mechanisms & OFFERS[hash] else 2)
+                    )
                     if len(sent) == 3:
                         challenge = fields_of(sent[1])[1][0] or b""
                         self.assertRegex(challenge, rb"^r=[^,]{88},s=[A-Za-z0-9+/]{22}==,i=4096$")
@@ -196,7 +210,9 @@ class MockRecords(unittest.TestCase):
         """The server of no other argument, and a client of the library that asks for SHA-512."""
         found = []
         for name in ("one", "nobody"):
-            side, by = ServerConnection(self.store.records, mock=SECRET), ClientConnection(Client(SHA_512, name, "pencil"))
+            side, by = ServerConnection(self.store.records, mock=SECRET), ClientConnection(
+                Client(SHA_512, name, "pencil")
+            )
             init, _ = by.receive(side.receive(by.open())[0])
             found.append((len(side.receive(init)[0]), side.progress))
         self.assertEqual(found, [found[0]] * 2)
@@ -205,7 +221,11 @@ class MockRecords(unittest.TestCase):
     def test_the_salts_are_those_of_the_secret(self) -> None:
         for name, hash in (("one", SHA_512), ("nobody", SHA_512), ("nobody", SHA_256), ("a,b=c", SHA_256)):
             salt = mac(SHA_512, SECRET, f"Salt:{MECHANISMS[hash]}:{name}".encode())
-            for settings, length, count in ((SECRET, 16, 4096), ((SECRET, 20, 5000), 20, 5000), (bytearray(SECRET), 16, 4096)):
+            for settings, length, count in (
+                (SECRET, 16, 4096),
+                ((SECRET, 20, 5000), 20, 5000),
+                (bytearray(SECRET), 16, 4096),
+            ):
                 side = ServerConnection(self.store.records, mock=settings)
                 challenge = fields_of(answers(side, Login(hash, name, "pencil"))[1])[1][0] or b""
                 self.assertEqual(challenge.split(b",")[1:], [b"s=" + base64_of(salt[:length]), b"i=%d" % count])
@@ -247,13 +267,16 @@ class MockRecords(unittest.TestCase):
         self.assertEqual(self.lent(three, "nobody", mock=SECRET), (4096, mocks))
         self.assertEqual(self.lent(three, "all", mock=SECRET), (4096, mocks))
         self.assertEqual(self.lent(three, "other", mock=SECRET), (4096, [mocks[1], mocks[0], mocks[2]]))
-        self.assertEqual(self.lent(BOTH, "nobody", mock=(SECRET, 20, 5000)), (5000, [(hash, 20, 5000) for hash in ADDED]))
+        self.assertEqual(
+            self.lent(BOTH, "nobody", mock=(SECRET, 20, 5000)), (5000, [(hash, 20, 5000) for hash in ADDED])
+        )
         self.assertEqual(self.lent(0, "nobody", mock=(SECRET, 20, 5000)), (5000, []))
         self.assertEqual(self.lent(BOTH, "nobody"), (4096, []))
         self.assertEqual(self.lent(BOTH, "nobody", iterations=5000), (5000, []))
 
     def test_records_of_that_returns_mock_records(self) -> None:
         """Callers that return mock records get what they got before, with `mock` and without."""
+
         def records_of(name: str) -> list[Record]:
             return self.store.records(name) or [Record.mock(hash, SECRET, name, salt_length=20) for hash in ADDED]
 
@@ -265,9 +288,16 @@ class MockRecords(unittest.TestCase):
                 self.assertEqual(challenge.split(b",")[1:], [b"s=" + base64_of(salt), b"i=4096"])
 
     def test_arguments(self) -> None:
-        for settings, kind in (((SECRET, 65, 4096), fe2o3_sasl.TooLong), ((SECRET, 16, 0), fe2o3_sasl.InvalidArgument),
-                               (SECRET[1:], ValueError), ((SECRET[1:], 16, 4096), ValueError), ((SECRET, -1, 1), ValueError),
-                               ((SECRET, 16), ValueError), ("x" * 32, TypeError), ((SECRET, 16, "4096"), TypeError)):
+        for settings, kind in (
+            ((SECRET, 65, 4096), fe2o3_sasl.TooLong),
+            ((SECRET, 16, 0), fe2o3_sasl.InvalidArgument),
+            (SECRET[1:], ValueError),
+            ((SECRET[1:], 16, 4096), ValueError),
+            ((SECRET, -1, 1), ValueError),
+            ((SECRET, 16), ValueError),
+            ("x" * 32, TypeError),
+            ((SECRET, 16, "4096"), TypeError),
+        ):
             for side in (ServerConnection, ServerSteps):
                 self.assertRaises(kind, side, self.store.records, mock=settings)
         self.assertRaises(ValueError, ServerConnection, self.store.records, mock=SECRET, iterations=4096)
@@ -340,8 +370,11 @@ class Rejections(unittest.TestCase):
             (Other("PLAIN"), {}, Rejection.NO_INITIAL_RESPONSE),
             (Other("EXTERNAL", b"other"), {"external_authcid": "peer"}, Rejection.OTHER_IDENTITY),
             (Login(SHA_1, "all", "pencil"), {}, Rejection.MECHANISM_NOT_OFFERED),
-            (Other("SCRAM-SHA-256", b"n,,n=all,r=nonce,i=4096"), {"mechanisms": Offer.REJECT_MISPLACED},
-             Rejection.SERVER_MISPLACED_ATTRIBUTE),
+            (
+                Other("SCRAM-SHA-256", b"n,,n=all,r=nonce,i=4096"),
+                {"mechanisms": Offer.REJECT_MISPLACED},
+                Rejection.SERVER_MISPLACED_ATTRIBUTE,
+            ),
             (Other("SCRAM-SHA-256", b"all"), {}, Rejection.SERVER_CANNOT_PARSE_GS2_HEADER),
         ]
         for by, options, reason in rows:
@@ -378,9 +411,17 @@ class Stores(unittest.TestCase):
 
     def test_hashes(self) -> None:
         one, two, three = Offer.SCRAM_SHA_1, Offer.SCRAM_SHA_256, Offer.SCRAM_SHA_512
-        for users, offer in (([], 0), ([ADDED], two | three), ([(SHA_512, SHA_256)], two | three), ([(SHA_256,)], two),
-                             ([ADDED, (SHA_256,)], two), ([(SHA_512,), ADDED], three), ([(SHA_512,), (SHA_256,)], 0),
-                             ([(SHA_1, SHA_256, SHA_512)] * 2, one | two | three), ([(SHA_1,), (SHA_1, SHA_256)], one)):
+        for users, offer in (
+            ([], 0),
+            ([ADDED], two | three),
+            ([(SHA_512, SHA_256)], two | three),
+            ([(SHA_256,)], two),
+            ([ADDED, (SHA_256,)], two),
+            ([(SHA_512,), ADDED], three),
+            ([(SHA_512,), (SHA_256,)], 0),
+            ([(SHA_1, SHA_256, SHA_512)] * 2, one | two | three),
+            ([(SHA_1,), (SHA_1, SHA_256)], one),
+        ):
             lines = "".join(added(f"user {at}", hashes=hashes, iterations=1) for at, hashes in enumerate(users))
             store = RecordStore(lines)
             self.assertEqual(store.hashes(), offer)
@@ -390,8 +431,10 @@ class Stores(unittest.TestCase):
         self.assertEqual(RecordStore("".join(halves)).hashes(), BOTH)
 
     def test_records(self) -> None:
-        lines = {name: added(name, hashes=(SHA_1, SHA_512, SHA_256), iterations=2)
-                 for name in ("", "user", "a,b=c d", "=2C", "J\u00fcrgen \U0001f600")}
+        lines = {
+            name: added(name, hashes=(SHA_1, SHA_512, SHA_256), iterations=2)
+            for name in ("", "user", "a,b=c d", "=2C", "J\u00fcrgen \U0001f600")
+        }
         for given in ("".join(lines.values()), "".join(lines.values()).encode()):
             store = RecordStore(given)
             for name, text in lines.items():
@@ -427,7 +470,8 @@ class Stores(unittest.TestCase):
     def test_lines_that_are_rejected(self) -> None:
         lines = added("user", iterations=1)
         for text, number, status in (
-            (lines[:-1], 2, Status.LINE_FEED_MISSING), (lines + "\n", 3, Status.SPACE_MISSING),
+            (lines[:-1], 2, Status.LINE_FEED_MISSING),
+            (lines + "\n", 3, Status.SPACE_MISSING),
             (added("a,b", iterations=1).replace("=2C", ","), 1, Status.INVALID_NAME),
             (lines.replace("SHA-512", "SHA-224"), 2, Status.RECORD_UNKNOWN_MECHANISM),
         ):
@@ -443,8 +487,13 @@ class Stores(unittest.TestCase):
             record = store.record("user", SHA_256)
         self.assertEqual(repr(store), "RecordStore(wiped)")
         self.assertRaises(Wiped, record.text)
-        for call in (store.hashes, store.forms, lambda: store.records("user"), lambda: store.record("user", SHA_256, SECRET),
-                     lambda: store.mock_settings(SECRET)):
+        for call in (
+            store.hashes,
+            store.forms,
+            lambda: store.records("user"),
+            lambda: store.record("user", SHA_256, SECRET),
+            lambda: store.mock_settings(SECRET),
+        ):
             self.assertRaisesRegex(Wiped, "the RecordStore is wiped", call)
         store.wipe()
 
@@ -460,7 +509,9 @@ class Nonces(unittest.TestCase):
             for name in ("client_receive", "server_receive", "client_step", "server_step"):
                 call = getattr(LIBRARY, f"fe2o3_sasl_{name}")
 
-                def seen(one: Any, state: Any, data: bytes, size: int, nonce: bytes, *more: Any, call: Any = call) -> int:
+                def seen(
+                    one: Any, state: Any, data: bytes, size: int, nonce: bytes, *more: Any, call: Any = call
+                ) -> int:
                     nonces.append(nonce)
                     return int(call(one, state, data, size, nonce, *more))
 
@@ -477,7 +528,9 @@ class Nonces(unittest.TestCase):
                     sent = client.open()
                     while sent:
                         answer = b"".join(side.receive(sent[at : at + piece])[0] for at in range(0, len(sent), piece))
-                        sent = b"".join(client.receive(answer[at : at + piece])[0] for at in range(0, len(answer), piece))
+                        sent = b"".join(
+                            client.receive(answer[at : at + piece])[0] for at in range(0, len(answer), piece)
+                        )
                     self.assertEqual((side.progress, client.progress), (Progress.AUTHENTICATED,) * 2)
         self.assertGreater(len(nonces), 500)
         self.check(nonces)

@@ -82,8 +82,11 @@ class HangUp(unittest.TestCase):
             hang_up(channel)
 
     def test_the_outcome_arrives(self) -> None:
-        clients = [(Login(SHA_256, "user", "pencil"), 3, 0), (Login(SHA_256, "user", "pencils"), 3, 1),
-                   (Plain("user", "pencil"), 2, 1)] * 5
+        clients = [
+            (Login(SHA_256, "user", "pencil"), 3, 0),
+            (Login(SHA_256, "user", "pencils"), 3, 1),
+            (Plain("user", "pencil"), 2, 1),
+        ] * 5
         with socket.create_server(("127.0.0.1", 0)) as listener:
             server = threading.Thread(target=self.serve, args=(listener, len(clients)), daemon=True)
             server.start()
@@ -195,9 +198,15 @@ class Broker(unittest.IsolatedAsyncioTestCase):
             self.assertEqual(await self.log_in(port, "user", ""), "no mechanism is allowed")
         by = "('SCRAM-SHA-512', user {!r}, host '127.0.0.1'{})"
         reasons = {"user": ", WRONG_PROOF", "nobody": ", UNKNOWN_USER", "a,b=c": ", WRONG_PROOF"}
-        self.assertEqual(self.told(), [f"logged in: {name!r} " + by.format(name, "") for name in ("user", "a,b=c")]
-                         + [f"not logged in: {refused}, 1 of {name!r} " + by.format(name, reason)
-                            for name, reason in reasons.items()] + [f"not logged in: {ENDED}"])
+        self.assertEqual(
+            self.told(),
+            [f"logged in: {name!r} " + by.format(name, "") for name in ("user", "a,b=c")]
+            + [
+                f"not logged in: {refused}, 1 of {name!r} " + by.format(name, reason)
+                for name, reason in reasons.items()
+            ]
+            + [f"not logged in: {ENDED}"],
+        )
 
     async def test_each_hash(self) -> None:
         async with self.running() as port:
@@ -279,8 +288,10 @@ class Broker(unittest.IsolatedAsyncioTestCase):
             for _ in range(5):
                 await self.log_in(port, "user", "pencils")
             for version in MECHANISMS:
-                challenges = [await asyncio.to_thread(challenged, port, version, name)
-                              for name in ("user", "a,b=c", "nobody", "nobody")]
+                challenges = [
+                    await asyncio.to_thread(challenged, port, version, name)
+                    for name in ("user", "a,b=c", "nobody", "nobody")
+                ]
                 salts = [fields[b"s"] for fields in challenges]
                 self.assertEqual([len(salt) for salt in salts], [24] * 4)
                 self.assertEqual({fields[b"i"] for fields in challenges}, {b"4096"})
@@ -491,11 +502,14 @@ class Client(unittest.IsolatedAsyncioTestCase):
 
     async def test_other_servers(self) -> None:
         name, refused = "SCRAM-SHA-256", frame_of(OUTCOME, b"\x50\1", short(0xA0, b"locked"))
-        for said, why in ((b"AMQP\0\1\0\0", r"(70): b'AMQP\x00\x01\x00\x00'"),
-                          (SASL_HEADER + b"\0\0\2\1", "(71)"),
-                          (SASL_HEADER + mechanisms_frame("PLAIN"), "the server offers no allowed mechanism"),
-                          (SASL_HEADER + mechanisms_frame(name) + refused, "(81): b'locked'"),
-                          (SASL_HEADER, f"{ENDED} (90)")):
+        for said, why in (
+            (b"AMQP\0\1\0\0", r"(70): b'AMQP\x00\x01\x00\x00'"),
+            (SASL_HEADER + b"\0\0\2\1", "(71)"),
+            (SASL_HEADER + mechanisms_frame("PLAIN"), "the server offers no allowed mechanism"),
+            (SASL_HEADER + mechanisms_frame(name) + refused, "(81): b'locked'"),
+            (SASL_HEADER, f"{ENDED} (90)"),
+        ):
+
             async def serve(reader: asyncio.StreamReader, writer: asyncio.StreamWriter) -> None:
                 await reader.readexactly(8)
                 writer.write(said)

@@ -152,7 +152,8 @@ class Logins(Case):
         self.assertEqual(rest, AMQP * 3)
         for peer in (Login(SHA_256, "user", "pencil"), Plain("user", "pencil")):
             _, rest = await self.joined(
-                of_side(peer), by(serve, ServerConnection(records_of, mechanisms=Offer.SCRAM_SHA_256 | Offer.PLAIN)))
+                of_side(peer), by(serve, ServerConnection(records_of, mechanisms=Offer.SCRAM_SHA_256 | Offer.PLAIN))
+            )
             self.assertEqual((peer.code, peer.logged_in, rest), (0, True, b""))
         # A client of PLAIN can send all of it at once.
         init = frame_of(0x41, short(0xA3, b"PLAIN"), short(0xA0, b"\0user\0pencil"))
@@ -227,8 +228,9 @@ class Rejections(Case):
         self.assertIsInstance(end, EndOfInput)
 
     async def test_many_iterations(self) -> None:
-        near, end = await self.joined(by(log_in, client(max_iterations=4095, min_iterations=1)),
-                                      by(serve, ServerConnection(records_of)))
+        near, end = await self.joined(
+            by(log_in, client(max_iterations=4095, min_iterations=1)), by(serve, ServerConnection(records_of))
+        )
         self.assertIsInstance(near, IterationCountError)
         self.assertIsInstance(end, EndOfInput)
 

@@ -296,8 +296,10 @@ class Copies(unittest.TestCase):
         self.assertTrue(seen.has(UTF8))
         self.assertEqual(seen.count(UTF8), 4)
         side.on_frame(mechanisms_frame("SCRAM-SHA-256")[4:])
-        self.assertEqual([memory.is_wiped() for memory in allowed], [name != "SCRAM-SHA-256" for name in
-                                                                    [*MECHANISMS.values(), "PLAIN"]])
+        self.assertEqual(
+            [memory.is_wiped() for memory in allowed],
+            [name != "SCRAM-SHA-256" for name in [*MECHANISMS.values(), "PLAIN"]],
+        )
 
 
 class Calls(unittest.TestCase):

@@ -16,8 +16,9 @@
 #define SALT_LEN 16
 
 /* Those of Cyrus SASL's own plugin, and its features. */
-#define SECURITY(bits) (SASL_SET_HASH_STRENGTH_BITS(bits) | SASL_SEC_NOPLAINTEXT | SASL_SEC_NOACTIVE \
-    | SASL_SEC_NOANONYMOUS | SASL_SEC_MUTUAL_AUTH)
+#define SECURITY(bits) \
+    (SASL_SET_HASH_STRENGTH_BITS(bits) | SASL_SEC_NOPLAINTEXT | SASL_SEC_NOACTIVE | SASL_SEC_NOANONYMOUS \
+        | SASL_SEC_MUTUAL_AUTH)
 #define FEATURES (SASL_FEAT_SUPPORTS_HTTP | SASL_FEAT_CHANNEL_BINDING | SASL_FEAT_ALLOWS_PROXY)
 #define EXPORTED __attribute__((visibility("default")))
 #define UNUSED __attribute__((unused))
@@ -62,10 +63,14 @@ static int code_of(uint32_t status)
 {
     switch (status) {
     case FE2O3_OUT_OF_MEMORY: return SASL_NOMEM;
-    case FE2O3_ROOM_TOO_SMALL: case FE2O3_TOO_LONG: return SASL_BUFOVER;
-    case FE2O3_NOT_PRINTABLE: case FE2O3_PROHIBITED_CHARACTER: case FE2O3_MIXED_DIRECTIONS: return SASL_NOVERIFY;
+    case FE2O3_ROOM_TOO_SMALL:
+    case FE2O3_TOO_LONG: return SASL_BUFOVER;
+    case FE2O3_NOT_PRINTABLE:
+    case FE2O3_PROHIBITED_CHARACTER:
+    case FE2O3_MIXED_DIRECTIONS: return SASL_NOVERIFY;
     case FE2O3_UNASSIGNED_CODE_POINT: return SASL_NOVERIFY;
-    case FE2O3_NOT_UTF8: case FE2O3_CLIENT_NORMALIZE_ERROR: return SASL_BADPARAM;
+    case FE2O3_NOT_UTF8:
+    case FE2O3_CLIENT_NORMALIZE_ERROR: return SASL_BADPARAM;
     case FE2O3_CLIENT_SERVER_SIGNATURE_MISMATCH: return SASL_BADSERV;
     case FE2O3_SERVER_AUTHENTICATION_FAILED: return SASL_BADAUTH;
     default: return SASL_BADPROT;
@@ -251,11 +256,18 @@ static int client_answer(struct exchange *one, enum expected expected, const sas
 {
     static const struct fe2o3_scram_keys no_keys;
     const sasl_utils_t *utils = params->utils;
-    struct fe2o3_login login = {.version = one->mechanism->version, .secret = FE2O3_BY_PASSWORD,
-        .form = one->prepares ? FE2O3_PREPARED : FE2O3_TYPED, .min_iterations = LEAST_ITERATIONS,
-        .max_iterations = MOST_ITERATIONS, .username = (const uint8_t *)who->authid, .username_len = who->alen,
-        .acts_for = (const uint8_t *)who->user, .acts_for_len = one->acts ? who->ulen : 0,
-        .password = (const uint8_t *)one->password, .password_len = one->password_len, .keys = &no_keys};
+    struct fe2o3_login login = {.version = one->mechanism->version,
+        .secret = FE2O3_BY_PASSWORD,
+        .form = one->prepares ? FE2O3_PREPARED : FE2O3_TYPED,
+        .min_iterations = LEAST_ITERATIONS,
+        .max_iterations = MOST_ITERATIONS,
+        .username = (const uint8_t *)who->authid,
+        .username_len = who->alen,
+        .acts_for = (const uint8_t *)who->user,
+        .acts_for_len = one->acts ? who->ulen : 0,
+        .password = (const uint8_t *)one->password,
+        .password_len = one->password_len,
+        .keys = &no_keys};
     uint8_t nonce[32];
     int code = expected == ENDED ? SASL_OK : say_channel(one, params, &login);
     if (code != SASL_OK)
@@ -265,14 +277,12 @@ static int client_answer(struct exchange *one, enum expected expected, const sas
         if (getentropy(nonce, sizeof nonce) != 0)
             return refused(one, utils, SASL_FAIL, "there are no random bytes");
         return told(one, utils, fe2o3_scram_client_first(&login, &one->client, nonce, ROOM(one)));
-    case SECOND:
-        return told(one, utils, fe2o3_scram_client_final(&login, &one->client, BYTES(in, in_len), ROOM(one)));
+    case SECOND: return told(one, utils, fe2o3_scram_client_final(&login, &one->client, BYTES(in, in_len), ROOM(one)));
     case THIRD:
         if (in_len >= 2 && memcmp(in, "e=", 2) == 0)
             return refused(one, utils, SASL_BADAUTH, "the server has refused the login");
         return told(one, utils, fe2o3_scram_client_verify(&login, &one->client, BYTES(in, in_len)));
-    default:
-        return refused(one, utils, SASL_FAIL, "the exchange has ended");
+    default: return refused(one, utils, SASL_FAIL, "the exchange has ended");
     }
 }
 
@@ -302,14 +312,18 @@ static int client_new(void *mechanism, sasl_client_params_t *params, void **cont
     return begin(mechanism, params->utils, context);
 }
 
-EXPORTED int sasl_client_plug_init(const sasl_utils_t *utils UNUSED, int most, int *version,
-    sasl_client_plug_t **list, int *count)
+EXPORTED int sasl_client_plug_init(const sasl_utils_t *utils UNUSED, int most, int *version, sasl_client_plug_t **list,
+    int *count)
 {
     static sasl_client_plug_t plugs[MECHANISMS];
     for (int i = 0; i < MECHANISMS; i++)
-        plugs[i] = (sasl_client_plug_t){.mech_name = mechanisms[i].name, .security_flags = mechanisms[i].security,
-            .features = FEATURES, .glob_context = (void *)&mechanisms[i], .mech_new = client_new,
-            .mech_step = client_step, .mech_dispose = dispose};
+        plugs[i] = (sasl_client_plug_t){.mech_name = mechanisms[i].name,
+            .security_flags = mechanisms[i].security,
+            .features = FEATURES,
+            .glob_context = (void *)&mechanisms[i],
+            .mech_new = client_new,
+            .mech_step = client_step,
+            .mech_dispose = dispose};
     *version = SASL_CLIENT_PLUG_VERSION;
     *list = plugs;
     *count = MECHANISMS;
@@ -343,8 +357,8 @@ static int from_password(struct exchange *one, const sasl_utils_t *utils, const 
         return code == SASL_BADPARAM ? SASL_NOVERIFY : code;
     if (len == 0)
         return refused(one, utils, SASL_NOVERIFY, "the password of the user is empty");
-    status = fe2o3_scram_record_mock(
-        version, secret, sizeof secret, BYTES(who->authid, who->alen), SALT_LEN, count, &one->record);
+    status = fe2o3_scram_record_mock(version, secret, sizeof secret, BYTES(who->authid, who->alen), SALT_LEN, count,
+        &one->record);
     memcpy(salt, one->record.salt, SALT_LEN);
     if (status == FE2O3_OK)
         status = fe2o3_scram_record_make(version, one->prepares ? FE2O3_PREPARED : FE2O3_TYPED, BYTES(password, len),
@@ -390,7 +404,8 @@ static int binds_kind(const char *in, unsigned in_len, const char *kind)
 }
 
 /* Why the header of a client-first message is refused. */
-static const char *why_header(const struct exchange *one, const sasl_server_params_t *params, const char *in, unsigned in_len)
+static const char *why_header(const struct exchange *one, const sasl_server_params_t *params, const char *in,
+    unsigned in_len)
 {
     const char *comma = memchr(in, ',', in_len);
     if (one->channel == SASL_CB_DISP_WANT && SASL_CB_PRESENT(params))
@@ -409,7 +424,8 @@ static const char *why_header(const struct exchange *one, const sasl_server_para
 /* Puts into the rules what the server accepts after a client's header: `y,,` only without a channel (RFC 5802, section 6),
  * and `p=` only with the application's channel. If there is a channel, every header has to stay in its place, so that
  * nobody moves from one message to another what a client says of its channel. */
-static int accept_channel(const struct exchange *one, const sasl_server_params_t *params, struct fe2o3_scram_rules *rules)
+static int accept_channel(const struct exchange *one, const sasl_server_params_t *params,
+    struct fe2o3_scram_rules *rules)
 {
     const sasl_channel_binding_t *binding = params->cbinding;
     struct channel channel;
@@ -442,11 +458,11 @@ static uint32_t read_names(struct exchange *one, const struct fe2o3_scram_rules 
 {
     uint8_t identity[sizeof one->server.acts_for];
     size_t identity_len = 0;
-    uint32_t status = fe2o3_scram_server_claimed_user_with_rules(
-        rules, BYTES(in, in_len), name, sizeof one->server.user, len);
+    uint32_t status =
+        fe2o3_scram_server_claimed_user_with_rules(rules, BYTES(in, in_len), name, sizeof one->server.user, len);
     if (status == FE2O3_OK)
-        status = fe2o3_scram_server_claimed_identity(
-            rules, BYTES(in, in_len), identity, sizeof identity, &identity_len);
+        status =
+            fe2o3_scram_server_claimed_identity(rules, BYTES(in, in_len), identity, sizeof identity, &identity_len);
     one->acts = identity_len > 0 && (identity_len != *len || memcmp(identity, name, *len) != 0);
     return status;
 }
@@ -460,8 +476,9 @@ static int server_first(struct exchange *one, sasl_server_params_t *params, cons
     size_t len = 0;
     uint32_t status;
     int code;
-    one->channel = in_len > 0 && *in == 'p' ? SASL_CB_DISP_USED : in_len > 0 && *in == 'y' ? SASL_CB_DISP_WANT
-        : SASL_CB_DISP_NONE;
+    one->channel = in_len > 0 && *in == 'p' ? SASL_CB_DISP_USED
+        : in_len > 0 && *in == 'y'          ? SASL_CB_DISP_WANT
+                                            : SASL_CB_DISP_NONE;
     code = accept_channel(one, params, &rules);
     if (code != SASL_OK)
         return code;
@@ -480,8 +497,8 @@ static int server_first(struct exchange *one, sasl_server_params_t *params, cons
         code = refused(one, utils, SASL_FAIL, "there are no random bytes");
     if (code != SASL_OK)
         return code;
-    status = fe2o3_scram_server_first_with_rules(
-        &rules, &one->record, &one->server, nonce, BYTES(in, in_len), ROOM(one));
+    status =
+        fe2o3_scram_server_first_with_rules(&rules, &one->record, &one->server, nonce, BYTES(in, in_len), ROOM(one));
     return told(one, utils, status);
 }
 
@@ -507,8 +524,8 @@ static int server_final(struct exchange *one, const sasl_server_params_t *params
     return code;
 }
 
-static int server_step(void *context, sasl_server_params_t *params, const char *in, unsigned in_len,
-    const char **out, unsigned *out_len, sasl_out_params_t *result)
+static int server_step(void *context, sasl_server_params_t *params, const char *in, unsigned in_len, const char **out,
+    unsigned *out_len, sasl_out_params_t *result)
 {
     struct exchange *one = context;
     enum expected expected = one ? one->expected : ENDED;
@@ -538,14 +555,18 @@ static int server_new(void *mechanism, sasl_server_params_t *params, const char 
     return begin(mechanism, params->utils, context);
 }
 
-EXPORTED int sasl_server_plug_init(const sasl_utils_t *utils UNUSED, int most, int *version,
-    sasl_server_plug_t **list, int *count)
+EXPORTED int sasl_server_plug_init(const sasl_utils_t *utils UNUSED, int most, int *version, sasl_server_plug_t **list,
+    int *count)
 {
     static sasl_server_plug_t plugs[MECHANISMS];
     for (int i = 0; i < MECHANISMS; i++)
-        plugs[i] = (sasl_server_plug_t){.mech_name = mechanisms[i].name, .security_flags = mechanisms[i].security,
-            .features = FEATURES, .glob_context = (void *)&mechanisms[i], .mech_new = server_new,
-            .mech_step = server_step, .mech_dispose = dispose};
+        plugs[i] = (sasl_server_plug_t){.mech_name = mechanisms[i].name,
+            .security_flags = mechanisms[i].security,
+            .features = FEATURES,
+            .glob_context = (void *)&mechanisms[i],
+            .mech_new = server_new,
+            .mech_step = server_step,
+            .mech_dispose = dispose};
     *version = SASL_SERVER_PLUG_VERSION;
     *list = plugs;
     *count = MECHANISMS;

@@ -168,8 +168,14 @@ class Sample(Programs):
         modes = termios.tcgetattr(its)
         modes[1] &= ~termios.OPOST
         termios.tcsetattr(its, termios.TCSANOW, modes)
-        with started(words, self.sides.env(side), stdin=subprocess.PIPE, stdout=its, stderr=subprocess.STDOUT,
-                     start_new_session=True) as process:
+        with started(
+            words,
+            self.sides.env(side),
+            stdin=subprocess.PIPE,
+            stdout=its,
+            stderr=subprocess.STDOUT,
+            start_new_session=True,
+        ) as process:
             os.close(its)
             with open(ours, "r", encoding="utf-8", errors="replace") as lines:
                 yield process, lines
@@ -472,7 +478,8 @@ def proton_client(port, mechanism):
     for name, password in (line.rstrip("\n").split("\t") for line in sys.stdin):
         try:
             connection = BlockingConnection(
-                f"127.0.0.1:{port}", timeout=20, user=name, password=password, allowed_mechs=mechanism, reconnect=False)
+                f"127.0.0.1:{port}", timeout=20, user=name, password=password, allowed_mechs=mechanism, reconnect=False
+            )
             connection.create_sender("here").send(Message(body="a message"))
             connection.close()
             print("sent", flush=True)

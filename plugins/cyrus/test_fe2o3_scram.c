@@ -156,8 +156,9 @@ static int may_act(sasl_conn_t *conn, void *context, const char *identity, unsig
     (void)realm_len;
     (void)properties;
     policy_calls++;
-    return now->flags & ALLOWS && is_name(now->user, identity, identity_len) && is_name(now->name, name, len) ? SASL_OK
-                                                                                                          : SASL_NOAUTHZ;
+    return now->flags & ALLOWS && is_name(now->user, identity, identity_len) && is_name(now->name, name, len)
+        ? SASL_OK
+        : SASL_NOAUTHZ;
 }
 
 static sasl_callback_t client_calls[] = {{SASL_CB_GETPATH, CALL(get_path), NULL}, {SASL_CB_LOG, CALL(quiet), NULL},
@@ -246,8 +247,10 @@ static int start_client(sasl_conn_t *conn, const char **out, unsigned *len, cons
     if (code != SASL_INTERACT)
         return code;
     for (sasl_interact_t *prompt = prompts; prompt->id != SASL_CB_LIST_END; prompt++) {
-        prompt->result = prompt->id == SASL_CB_PASS ? now->password : prompt->id == SASL_CB_AUTHNAME ? now->name
-            : now->user ? now->user : "";
+        prompt->result = prompt->id == SASL_CB_PASS ? now->password
+            : prompt->id == SASL_CB_AUTHNAME        ? now->name
+            : now->user                             ? now->user
+                                                    : "";
         prompt->len = (unsigned)strlen(prompt->result) + (prompt->id == SASL_CB_USER && now->flags & ZERO);
     }
     return sasl_client_start(conn, names, &prompts, out, len, chosen);
@@ -258,7 +261,8 @@ static sasl_channel_binding_t channel(char room[96], const char *kind, const cha
 {
     size_t before = by_ldap ? (size_t)snprintf(room, 96, "%s:", kind) : 0;
     memcpy(room + before, data, len);
-    return (sasl_channel_binding_t){.name = by_ldap ? "ldap" : kind, .len = before + len, .data = (unsigned char *)room};
+    return (
+        sasl_channel_binding_t){.name = by_ldap ? "ldap" : kind, .len = before + len, .data = (unsigned char *)room};
 }
 
 static void demand(sasl_conn_t *client, sasl_conn_t *server)
@@ -266,7 +270,10 @@ static void demand(sasl_conn_t *client, sasl_conn_t *server)
     static char of_client[96], of_server[96];
     static sasl_channel_binding_t binding, must;
     static const char data[65] = "0123";
-    static sasl_http_request_t request = {.method = "GET", .uri = "/", .entity = (const unsigned char *)"", .elen = 0,
+    static sasl_http_request_t request = {.method = "GET",
+        .uri = "/",
+        .entity = (const unsigned char *)"",
+        .elen = 0,
         .non_persist = 0};
     sasl_security_properties_t properties = {0, 0, 0, 0, NULL, NULL};
     const char *kind = now->flags & UNKNOWN_KIND ? "ldap" : now->flags & OTHER_KIND ? "tls-exporter" : "tls-unique";
@@ -296,7 +303,8 @@ static const char *property(sasl_conn_t *server, const char *name)
 {
     const char *names[] = {name, NULL};
     struct propval found[2] = {{NULL, NULL, 0, 0}};
-    int is_there = prop_getnames(sasl_auxprop_getctx(server), names, found) > 0 && found[0].values && found[0].values[0];
+    int is_there =
+        prop_getnames(sasl_auxprop_getctx(server), names, found) > 0 && found[0].values && found[0].values[0];
     return is_there ? found[0].values[0] : "";
 }
 
@@ -329,9 +337,8 @@ static void converse(sasl_conn_t *client, sasl_conn_t *server, struct run *run)
     }
     while (run->client == SASL_CONTINUE && run->server == SASL_CONTINUE) {
         carry(&to_server, turn, out, len, 0);
-        run->server = turn == 1 && !late
-            ? sasl_server_start(server, chosen, to_server.text, to_server.len, &out, &len)
-            : sasl_server_step(server, to_server.text, to_server.len, &out, &len);
+        run->server = turn == 1 && !late ? sasl_server_start(server, chosen, to_server.text, to_server.len, &out, &len)
+                                         : sasl_server_step(server, to_server.text, to_server.len, &out, &len);
         refuse_memory = NEITHER;
         if (turn == 1 && run->server == SASL_CONTINUE)
             snprintf(run->server_first, sizeof run->server_first, "%.*s", (int)len, out);
@@ -355,7 +362,8 @@ static int log_in(struct run *run)
 {
     sasl_conn_t *client = NULL, *server = NULL;
     unsigned flags = (now->flags & SEPARATE ? 0 : SASL_SUCCESS_DATA) | (now->flags & HTTP ? SASL_NEED_HTTP : 0)
-        | (now->flags & PROXY ? SASL_NEED_PROXY : 0), len;
+        | (now->flags & PROXY ? SASL_NEED_PROXY : 0),
+             len;
     static const char *wanted[] = {"identity", NULL};
     const char *out;
     int ended = 1;
@@ -391,8 +399,8 @@ static void is_so(int so, const char *what, const struct run *run)
     if (so)
         return;
     differences++;
-    printf("DIFFERS: %s, %s: client %d, server %d, \"%s\" for \"%s\" and \"%s\", %d calls of the policy, %s\n", mechanism,
-        what, run->client, run->server, run->name, run->acts_for, run->property, policy_calls, run->said);
+    printf("DIFFERS: %s, %s: client %d, server %d, \"%s\" for \"%s\" and \"%s\", %d calls of the policy, %s\n",
+        mechanism, what, run->client, run->server, run->name, run->acts_for, run->property, policy_calls, run->said);
 }
 
 /* Whether a login went as it should. */
@@ -439,7 +447,8 @@ static void salts(void)
     is_so(len > 0 && salt_of(&second, &two) == len && memcmp(one, two, len + 3) == 0, "a name keeps its salt", &second);
     is_so(salt_of(&third, &three) == len && memcmp(one, three, len + 3) != 0, "another name, another salt", &third);
     is_so(strlen(first.server_first) > 90 && strncmp(first.server_first, second.server_first, 46) != 0
-        && memcmp(one - 40, two - 40, 40) != 0, "each login has its nonces", &second);
+            && memcmp(one - 40, two - 40, 40) != 0,
+        "each login has its nonces", &second);
 }
 
 /* What both plugins state of a mechanism. */

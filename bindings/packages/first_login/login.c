@@ -35,8 +35,13 @@ static void fill(uint8_t *bytes, size_t len)
 int main(void)
 {
     struct fe2o3_scram_keys no_keys = {0};
-    struct fe2o3_login login = {.version = FE2O3_SHA_256, .min_iterations = 4096, .max_iterations = 100000,
-        .username = TEXT("user"), .acts_for = FE2O3_NONE, .password = TEXT("pencil"), .keys = &no_keys};
+    struct fe2o3_login login = {.version = FE2O3_SHA_256,
+        .min_iterations = 4096,
+        .max_iterations = 100000,
+        .username = TEXT("user"),
+        .acts_for = FE2O3_NONE,
+        .password = TEXT("pencil"),
+        .keys = &no_keys};
     struct fe2o3_scram_client client = {0};
     struct fe2o3_scram_server server = {0};
     struct fe2o3_scram_record record = {0};
@@ -46,8 +51,8 @@ int main(void)
     fill(client_nonce, sizeof client_nonce);
     fill(server_nonce, sizeof server_nonce);
 
-    check("record", fe2o3_scram_record_make(
-        FE2O3_SHA_256, FE2O3_TYPED, TEXT("pencil"), salt, sizeof salt, 4096, &record));
+    check("record",
+        fe2o3_scram_record_make(FE2O3_SHA_256, FE2O3_TYPED, TEXT("pencil"), salt, sizeof salt, 4096, &record));
     check("client-first", fe2o3_scram_client_first(&login, &client, client_nonce, ROOM(first)));
     check("server-first", fe2o3_scram_server_first(&record, &server, server_nonce, GIVEN(first), ROOM(challenge)));
     check("client-final", fe2o3_scram_client_final(&login, &client, GIVEN(challenge), ROOM(response)));
