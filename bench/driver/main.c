@@ -197,7 +197,7 @@ static int allocs(void)
 }
 static const char *answer_name(size_t answer)
 {
-    return answer == WANT ? "want of memory" : answer == REFUSED ? "another refusal" : "an answer";
+    return answer == WANT ? "out of memory" : answer == REFUSED ? "another refusal" : "an answer";
 }
 /* Each request of one call in turn, those of its preparation too: how many answers were wrong. */
 static int refuse_job(const struct job *job)
@@ -229,7 +229,7 @@ static int refuse_job(const struct job *job)
     if (!prepares(job))
         none = 0;
     printf("%-28s %4ld requests refused in turn, %ld of them in its preparation: %s\n", job->name, number - 1, none,
-        wrong ? "WRONG" : "want of memory each time, nothing lost");
+        wrong ? "WRONG" : "out of memory each time, nothing lost");
     return wrong;
 }
 static int refuse(void)

@@ -22,7 +22,7 @@ static const char known_record[] =
     "SCRAM-SHA-256$4096:W22ZaJ0SNY7soEsUEjb6gQ==$"
     "WG5d8oPm3OtcPnkdi4Uo7BkeZkBFzpcXkuLmtbsT4qY=:wfPLwcE6nTWhTAmQ7tl2KeoiWGPlZqQxSrmfPwDl2dU=";
 
-/* A password past ASCII as it is typed, what SASLprep prepares it to, and the records of that with this salt. The text
+/* A non-ASCII password as it is typed, what SASLprep prepares it to, and the records of that with this salt. The text
  * is that of Python's stringprep and unicodedata, and the keys are those of its hashlib and hmac. */
 #define TYPED "pe\xcc\x81nci\xc2\xadl"
 #define PREPARED "p\xc3\xa9ncil"
@@ -255,7 +255,7 @@ static void messages(uint32_t version)
             && fe2o3_external_verify(FE2O3_NONE, FE2O3_NONE) == FE2O3_SERVER_AUTHENTICATION_FAILED);
 }
 
-/* A password past ASCII: what it is prepared to, the record of that, and logins by it and by its keys. */
+/* A non-ASCII password: what it is prepared to, the record of that, and logins by it and by its keys. */
 static void prepared(uint32_t version, const char *words)
 {
     struct fe2o3_scram_keys no_keys = {0}, keys = {0}, made = {0};
@@ -271,7 +271,7 @@ static void prepared(uint32_t version, const char *words)
         .password = FE2O3_NONE,
         .keys = &no_keys};
 
-    told(version, "a password past ASCII is prepared",
+    told(version, "a non-ASCII password is prepared",
         fe2o3_saslprep(TEXT(TYPED), FE2O3_UNASSIGNED_REFUSED, ROOM(password)) == FE2O3_OK
             && spells(&password, PREPARED));
     told(version, "the record of a prepared password",

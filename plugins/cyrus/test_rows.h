@@ -53,7 +53,7 @@ struct login {
     const char *counter, *count;
 };
 
-/* Texts of 10, 100 and 300 bytes, and a password past ASCII. */
+/* Texts of 10, 100 and 300 bytes, and a non-ASCII password. */
 #define TEN "0123456789"
 #define HUNDRED TEN TEN TEN TEN TEN TEN TEN TEN TEN TEN
 #define LONG HUNDRED HUNDRED HUNDRED
@@ -75,7 +75,7 @@ static const struct login logins[] = {
     {.what = "by prompts", .name = "user", .password = "pencil", .flags = PROMPTS},
     {.what = "a comma and an equals sign", .name = "a,b=c,", .password = "pen,cil="},
     {.what = "a name that is made canonical", .name = "  user ", .password = "pencil"},
-    {.what = "past ASCII, the name", .name = "us\xc3\xa9r", .password = "pencil"},
+    {.what = "a non-ASCII name", .name = "us\xc3\xa9r", .password = "pencil"},
     {.what = "a stored record", .name = "recorded", .password = "pencil"},
     {.what = "a stored record, by another password",
         .name = "recorded",
@@ -144,7 +144,7 @@ static const struct login logins[] = {
         .ours = SASL_NOVERIFY,
         .theirs = SASL_FAIL,
         .says = "the password of the user is empty"},
-    {.what = "past ASCII, the typed password",
+    {.what = "non-ASCII, the typed password",
         .name = "user",
         .password = PAST,
         .side = CLIENT,
@@ -182,7 +182,7 @@ static const struct login logins[] = {
         .theirs = SASL_NOUSER,
         .says = "Invalid UTF-8",
         .flags = THEIR_CLIENT},
-    {.what = "past ASCII, the stored password",
+    {.what = "non-ASCII, the stored password",
         .name = "past",
         .password = "pencil",
         .side = SERVER,
@@ -810,8 +810,8 @@ static const struct login logins[] = {
         .flags = MAY_BIND | TWO_NAMES | THEIR_CLIENT},
     {.what = "ASCII, prepared", .name = "a,b=c,", .password = "pen,cil=", .flags = PREPARES},
     {.what = "a stored record, and a prepared password", .name = "recorded", .password = "pencil", .flags = PREPARES},
-    {.what = "past ASCII, prepared", .name = "past", .password = PAST, .flags = PREPARES},
-    {.what = "past ASCII, prepared, and the name", .name = "us\xc3\xa9r", .password = "pencil", .flags = PREPARES},
+    {.what = "non-ASCII, prepared", .name = "past", .password = PAST, .flags = PREPARES},
+    {.what = "non-ASCII, prepared, and the name", .name = "us\xc3\xa9r", .password = "pencil", .flags = PREPARES},
     {.what = "letters and marks, prepared", .name = "past", .password = APART, .flags = PREPARES | OUR_CLIENT},
     {.what = "letters and marks, not prepared",
         .name = "past",
@@ -851,7 +851,7 @@ static const struct login logins[] = {
         .ours = SASL_OK,
         .theirs = SASL_BADAUTH,
         .flags = PREPARES},
-    {.what = "another password past ASCII",
+    {.what = "another non-ASCII password",
         .name = "past",
         .password = PAST "s",
         .side = SERVER,

@@ -15,7 +15,7 @@ ghost use Rattle.connection_laws.specs.PolicyClients.{JoinedPolicySidesExist, Lo
 /// - `offered`: a client that has read a list of mechanisms from which a profile is selected has selected it.
 /// - `one`: a list of mechanisms has one such profile at most.
 ///
-/// So all laws of clients hold of it.
+/// All laws of a client of that profile then hold of the policy client.
 pub fn selected()
     ensures acts { SelectedClientsActAsProfile }
     ensures reverse { SelectedProfilesActAsClient }

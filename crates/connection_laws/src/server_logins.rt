@@ -49,9 +49,9 @@ pub fn costs()
     ensures retried { ServerConnectionsRetry }
 {}
 
-/// Bounds what a connection of a [`Server`](fe2o3_sasl_core::Server) sends and holds, whatever its bytes are and in whatever calls
-/// they are passed. It sends its header, its list of mechanisms, a challenge, an outcome, and one frame more for each extra
-/// challenge, each frame of at most 512 bytes. It holds less than eight bytes, or less than its limit of a frame.
+/// Bounds what a connection of a [`Server`](fe2o3_sasl_core::Server) sends and holds, whatever its bytes are and in whatever
+/// calls they are passed. It sends its header, its list of mechanisms, a challenge, an outcome, and one frame more for each
+/// extra challenge, each frame of at most 512 bytes. It holds less than eight bytes, or less than its limit of a frame.
 pub fn bounds()
     ensures { ServerConnectionsAreBounded }
 {}

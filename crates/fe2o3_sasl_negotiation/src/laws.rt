@@ -87,8 +87,9 @@ pub fn costs()
 
 /// Bounds what a connection sends and holds, whatever its bytes are and in whatever calls they are passed. Every frame
 /// that is sent has at most 512 bytes. A server sends its header, its list of mechanisms, the challenges of its acceptor
-/// and an outcome: with SCRAM, PLAIN or ANONYMOUS at most three frames. A client sends two frames after its header, and three if it accepts the server's
-/// signature in a challenge. Either holds less than eight bytes, or less than its limit of a frame.
+/// and an outcome: with SCRAM, PLAIN or ANONYMOUS at most three frames. A client sends two frames after its header, and
+/// three if it accepts the server's signature in a challenge. Either holds less than eight bytes, or less than its limit of
+/// a frame.
 ///
 /// In `servers` a measure of the states of an acceptor bounds its challenges. `server::laws::challenge_counts` of
 /// `fe2o3_sasl_core` has one.

@@ -16,6 +16,7 @@ use Rattle.fe2o3_sasl_core.specs.LoginAttempts.{ClaimAllocates, ClaimIn, ClaimsU
 use Rattle.fe2o3_sasl_core.specs.declared.server.options.ExtraChallenges.{ExtraChallenges}
 use Rattle.fe2o3_sasl_core.specs.SavedServers.{KeptStage, kept_stage, restored_stage}
 use Rattle.fe2o3_sasl_core.specs.Servers.{ServerAt, ServerSettings, offers_any, settings_with, way_name}
+use Rattle.fe2o3_sasl_core.specs.declared.server.options.Mechanisms.{Mechanisms}
 use Rattle.fe2o3_sasl_core.specs.declared.server.options.ServerOptions.{ServerOptions}
 use Rattle.fe2o3_sasl_core.specs.declared.server.ways.Way.{Way}
 use Rattle.fe2o3_sasl_core.specs.declared.rejection.Rejection.{Rejection}
@@ -76,6 +77,17 @@ sum_of choice = one_where choice.reject_misplaced 4096 + one_where choice.strict
     + one_where choice.signature_by_challenge 1024 + one_where choice.initial_response_by_challenge 512
     + mechanisms_sum choice
 
+-- the mechanisms that may be offered
+abbrev pub mechanisms_for : Choice → Mechanisms
+mechanisms_for choice = record {
+  scram_sha_512 = choice.sha_512;
+  scram_sha_256 = choice.sha_256;
+  scram_sha_1 = choice.sha_1;
+  plain = choice.plain;
+  anonymous = choice.anonymous;
+  external = choice.external;
+}
+
 -- the challenges that are sent beyond those of the mechanisms
 abbrev pub extra_for : Choice → ExtraChallenges
 extra_for choice = record {
@@ -110,14 +122,7 @@ version_of_first (user ∷ users) = user.1.version
 abbrev pub settings_for : Config → Choice → MultiRecords → ServerSettings
 settings_for config choice records = record {
   records = records;
-  mechanisms = record {
-    scram_sha_512 = choice.sha_512;
-    scram_sha_256 = choice.sha_256;
-    scram_sha_1 = choice.sha_1;
-    plain = choice.plain;
-    anonymous = choice.anonymous;
-    external = choice.external;
-  };
+  mechanisms = mechanisms_for choice;
   rules = record {
     accept_cbind_flag_y = choice.cbind_flag_y;
     strict = choice.strict;
@@ -340,14 +345,7 @@ side_in server = server_side state_of server
 -- this user may act for these identities
 abbrev pub HasOptions : Config → Choice → ScramVersion → List ℕ → List ℕ → ServerOptions → Type 0
 HasOptions config choice version user identities options = options ≡ record {
-  mechanisms = record {
-    scram_sha_512 = choice.sha_512;
-    scram_sha_256 = choice.sha_256;
-    scram_sha_1 = choice.sha_1;
-    plain = choice.plain;
-    anonymous = choice.anonymous;
-    external = choice.external;
-  };
+  mechanisms = mechanisms_for choice;
   mock = None;
   rights = rights_for user identities;
   accept_authzid = is_set config.accept_authzid;

@@ -10,7 +10,7 @@ ghost use Rattle.fe2o3_sasl_negotiation.specs.Snapshot.{IsServerKept, side_of};
 ghost use Rattle.fe2o3_sasl_negotiation.specs.Sides.{ServerConnectionSide, extended_in, server_side};
 ghost use Rattle.sasl_c.specs.Rejections.{state_of};
 ghost use Rattle.sasl_c.specs.Rules.{channels_of};
-ghost use Rattle.sasl_c.specs.SaslServer.{AddsRecord, AreSettings, HasNoServerWords, HasNone, IsNoConfig, IsPrepared, NotReceived, Received, ReceivesAsServer, RestoresStage, HasOptions, ServerTakes, ShowRecords, ShowsBy, config_tests, extra_for, settings_for, struct_by, sum_of, version_of_first};
+ghost use Rattle.sasl_c.specs.SaslServer.{AddsRecord, AreSettings, HasNoServerWords, HasNone, IsNoConfig, IsPrepared, NotReceived, Received, ReceivesAsServer, RestoresStage, HasOptions, ServerTakes, ShowRecords, ShowsBy, config_tests, extra_for, mechanisms_for, settings_for, struct_by, sum_of, version_of_first};
 ghost use Rattle.sasl_c.specs.declared.sasl_server.Choice.{Choice as Choices};
 ghost use Rattle.sasl_c.specs.Connection.{side_tests};
 ghost use Rattle.sasl_c.specs.Status.{AnswersText, AsksText, AsksWhere, FillsWithin};
@@ -179,14 +179,7 @@ impl Choice {
 
     /// The mechanisms.
     fn mechanisms(self) -> Mechanisms
-        ensures { result ≡ record {
-          scram_sha_512 = self.sha_512;
-          scram_sha_256 = self.sha_256;
-          scram_sha_1 = self.sha_1;
-          plain = self.plain;
-          anonymous = self.anonymous;
-          external = self.external;
-        } }
+        ensures { result ≡ mechanisms_for self }
     {
         Mechanisms {
             scram_sha_512: self.sha_512,
@@ -396,10 +389,7 @@ impl SaslServerConfig<'_> {
 /// What a side of a connection makes of bytes.
 #[derive(Drop)]
 struct TakenUp<A> {
-    /// How many it takes.
     taken: usize,
-
-    /// What is to be sent.
     sent: BytesMut,
 
     /// The side then.

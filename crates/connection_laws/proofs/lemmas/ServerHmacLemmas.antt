@@ -139,8 +139,8 @@ module _ (settings : ServerSettings) (most : ℕ) (counts : HasCountsUpTo settin
       → (answer.expected ≡ Frame turns.Response)
       × (after + left_at settings most counts next.stage ≤ before + left_at settings most counts server.stage)
   response_waits_too server next nonce unit answer before after same answers waits costs =
-      let (spelled, (body, steps, sends)) = challenge_of_answer sasl_machine offered_by_server turns.Response server next nonce unit
-      answer answers waits in
+      let (spelled, (body, steps, sends)) = challenge_of_answer sasl_machine offered_by_server turns.Response server next nonce
+      unit answer answers waits in
       let (text, spells) = response_of (drop 4 unit) spelled in
       let event : Given = record { body = drop 4 unit; nonce = nonce } in
       let c = challenge server next nonce (frames.Response text) body
@@ -223,7 +223,14 @@ module _ (settings : ServerSettings) (most : ℕ) (counts : HasCountsUpTo settin
         let (expected, paid) = response_waits_too side.state next.state nonce unit answer before after same answers
         (sym progress ∙ waits) costs in (
           left_at settings most counts next.state.stage,
-          (kept, inr (inl (due ∙ expected, refl, omega (arith, paid, few, least_of side.state (drop 4 unit) before after costs)))),
+          (
+            kept,
+            inr (inl (
+              due ∙ expected,
+              refl,
+              omega (arith, paid, few, least_of side.state (drop 4 unit) before after costs),
+            )),
+          ),
           least_of side.state (drop 4 unit) before after costs,
           paid,
         )

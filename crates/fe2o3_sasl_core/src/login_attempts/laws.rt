@@ -10,9 +10,9 @@ pub fn claims()
     ensures servers { ClaimsWhatServersRead }
 {}
 
-/// States which claim a [`Server`](crate::server::Server) keeps, over any list of bodies: that of the last init that it answered, also by a
-/// rejection. An init whose answer is an error leaves the claim unchanged. A response adds at most a user to a claim
-/// that has none.
+/// States which claim a [`Server`](crate::server::Server) keeps, over any list of bodies: that of the last init that it
+/// answered, also by a rejection. An init whose answer is an error leaves the claim unchanged. A response adds at most a user
+/// to a claim that has none.
 pub fn last_answered_init()
     ensures { LastAnsweredInitIsKept }
 {}

@@ -5,4 +5,5 @@ use Rattle.sasl_c.proofs.rejections.LoggedServerSaslAcceptor.on_response_metered
 
 pub returns-clause-ok : goal.returns-clause-ok
 returns-clause-ok c = responds (state_of c.args.self.now) _ (response_frame c.args.response)
-    c.on_response_metered.result c.on_response_metered.ensures.ok c.on_response_metered.ensures.reason c.on_response_metered.ensures.rejection
+    c.on_response_metered.result c.on_response_metered.ensures.ok c.on_response_metered.ensures.reason
+    c.on_response_metered.ensures.rejection
