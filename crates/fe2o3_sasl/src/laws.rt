@@ -9,8 +9,8 @@ ghost use Rattle.fe2o3_sasl.specs.examples.MemoryExamples.{AcceptorsAskForNone, 
 ghost use Rattle.fe2o3_sasl_core.specs.Profiles.{StepAllocates, ViewAllocates};
 ghost use Rattle.fe2o3_sasl_core.specs.Headline.{AnswersOkExactly, ReportsOkExactly, TakenVerifiersAgree};
 ghost use Rattle.fe2o3_sasl_core.specs.CostLaws.{ServerRunsCost, ClientRunsCost};
-ghost use Rattle.fe2o3_sasl_core.specs.AnyMechanismLaws.{AnyMechanismRunsAreSplit, ScramFirstAnswersOkExactly, ScramSecondAnswersOkExactly, OfferingRunsPassOn};
-ghost use Rattle.fe2o3_sasl_core.specs.AnyMechanismUsers.{AnyMechanismNamesUsers, OfferedNamesUsers};
+ghost use Rattle.fe2o3_sasl_core.specs.AnyMechanismLaws.{AnyMechanismRunsAreSplit, ScramFirstAnswersOkExactly, ScramSecondAnswersOkExactly};
+ghost use Rattle.fe2o3_sasl_core.specs.AnyMechanismUsers.{AnyMechanismNamesUsers};
 ghost use Rattle.fe2o3_sasl_core.specs.UnknownUsers.{MockRecordIsMet, SaltTextsDiffer, UnknownCostsAsMock, UnknownIsMock, UnknownIsMockInBoth};
 ghost use Rattle.fe2o3_sasl_core.specs.StepLaws.{OksLogIn, PlainOksLogIn, ReportedOksAreSigned, VerifiedOnSignature};
 ghost use Rattle.fe2o3_sasl_core.specs.Laws.{EveryServer, EveryClient, OneServerHistory, OneClientHistory, SomeServerHistory, SomeClientHistory, AcceptorRunsAreHistories, AcceptorRunsNameUsers, AgreedUsersAreNamed, ProfileRunsAreHistories, KeyedRunsAreRuns, KeyedRunsAreHistories, OksWithinChallenges, RepeatedResponsesAreRefused, OneResponseOneNonce, RefusalsLeaveOpen, PositionsAreUsedOnce, EqualMessagesAgree, NoShortExtensions, OneStrictSideIsEnough, EqualMessagesBindOneChannel, TakenVerifiersAreJudged, ShownProofsAreJudged, OneVerdictEach, OneAuditEach, RepeatedClientPositions, RepeatedServerPositions, RepeatedClientFindings, RepeatedServerFindings, ClientsLogIn, ServersLogIn, ServersWantMemory, ClientsWantMemory, ProfilesWantMemory};
@@ -97,18 +97,11 @@ pub fn scram_in_any_mechanism<A: HasMechanism>()
     ensures second { ScramSecondAnswersOkExactly A.names A.machine }
 {}
 
-/// A server that offers only some of its mechanisms, over any list of bodies: it passes a body on as `is_passed_on`
-/// says in the state before it. What it passes on is a run of its acceptor by itself, and the rest is rejected.
-pub fn restrict_mechanisms<A: HasMechanism>()
-    ensures { OfferingRunsPassOn A.names A.machine }
-{}
-
 /// States which user a server of several mechanisms names after a run. The name is that by the acceptor that was asked
-/// last, and an init of the run asked it, by a mechanism of that acceptor. If the server offers only some of its names,
-/// that mechanism was offered. The run of that acceptor is in `any_mechanism`.
+/// last, and an init of the run asked it, by a mechanism of that acceptor. The run of that acceptor is in
+/// `any_mechanism`.
 pub fn any_mechanism_users<A: HasMechanism, B: HasMechanism>()
-    ensures named { AnyMechanismNamesUsers A.names B.names A.machine B.machine }
-    ensures offered { OfferedNamesUsers A.names B.names A.machine B.machine }
+    ensures { AnyMechanismNamesUsers A.names B.names A.machine B.machine }
 {}
 
 /// States what a server with mock authentication shows of an unknown user. Without a record of a name it gives the same
