@@ -186,7 +186,8 @@ impl ScramClient {
     /// in the middle can have the client show an answer for the count 1, from which the password is soon guessed. RFC
     /// 7677, section 4, asks for at least 4096.
     pub fn with_min_iterations(self, min_iterations: u32) -> Self
-        ensures { result ≡ with_limits self (record { min_iterations = min_iterations; max_iterations = self.limits.max_iterations }) }
+        ensures { result ≡ with_limits self
+            (record { min_iterations = min_iterations; max_iterations = self.limits.max_iterations }) }
     {
         let limits = IterationLimits {
             min_iterations,

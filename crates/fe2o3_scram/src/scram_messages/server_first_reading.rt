@@ -51,7 +51,8 @@ impl<'a> ServerFirst<'a> {
     ) -> Result<Self, ScramErrorKind>
         ensures reads { Gives ScramErrorKind.OutOfMemory (ReachesSalt client_nonce.now text.now)
             server_first_values result
-            (ReadsServerFirst (client_of client_nonce.now (ByPassword (Typed password.now)) (up_to limit) plain_header false) text.now) }
+            (ReadsServerFirst
+            (client_of client_nonce.now (ByPassword (Typed password.now)) (up_to limit) plain_header false) text.now) }
         ensures count { IfOk result (λ first. (1 ≤ first.iterations) × (first.iterations ≤ limit)) }
     {
         let limits = IterationLimits::up_to(limit);

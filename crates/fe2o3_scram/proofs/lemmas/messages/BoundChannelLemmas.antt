@@ -58,8 +58,8 @@ shown_texts_agree side provider own text its init response verifier client accep
     let server = (server_knows provider its init response verifier accepted).0 in
     let keys = keys_known client in
     let stored = server.stored.stored_key in
-    let met = accepted_proof (server_against provider.version provider.rules provider.rights (challenge_known server) server.stored)
-    response server.final server.reads in (
+    let met = accepted_proof (server_against provider.version provider.rules provider.rights (challenge_known server)
+    server.stored) response server.final server.reads in (
       server,
       λ holds sized is shows.
           let mac = hmac_of keys.version (digest keys.version keys.client_key) (client_auth_message client) in
