@@ -23,9 +23,10 @@ pub record Given : Type 0 where
   pub nonce : List ℕ
 
 -- what a client logs in with: user name, secret and version, the iteration counts that it accepts, what it says of its
--- channel (RFC 5802, section 6), whom it acts for, or none if it acts for itself, whether it is set to be strict (it rejects an attribute that RFC 5802 defines in the
--- place of an extension), whether it accepts the server's signature in a challenge too (RFC 4422, section 5), and the
--- hostname that its init carries, if any (AMQP 1.0, part 5, section 5.3.3.2)
+-- channel (RFC 5802, section 6), whom it acts for, or none if it acts for itself, whether it is set to be strict (it
+-- rejects an attribute that RFC 5802 defines in the place of an extension), whether it accepts the server's signature
+-- in a challenge too (RFC 4422, section 5), and the hostname that its init carries, if any (AMQP 1.0, part 5, section
+-- 5.3.3.2)
 pub record Login : Type 0 where
   pub user : List ℕ
   pub secret : Secret
