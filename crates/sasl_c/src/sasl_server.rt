@@ -412,7 +412,8 @@ fn restore<A: AuthenticatedUser + Drop>(
         × ServerTakes kept.now.extended_headers A.names A.machine (side_of kept.now (A.state acceptor)) bytes.now nonce.now
         call.taken call.sent.items (server_side A.state call.side)
         × (extended_in call.side ≡ kept.now.extended_headers)) }
-    ensures err { IfErr result (λ status. status ≢ StatusOutOfMemory → (status ≡ StatusInvalidSnapshot) × ¬ IsServerKept kept.now) }
+    ensures err { IfErr result (λ status. status ≢ StatusOutOfMemory
+        → (status ≡ StatusInvalidSnapshot) × ¬ IsServerKept kept.now) }
 {
     let mut side = match ServerNegotiation::restore(alloc, acceptor, kept) {
         Ok(side) => side,
@@ -474,10 +475,11 @@ fn taken<A: Shows + Drop>(
         (side_of kept.now (A.state acceptor)) bytes.now nonce.now made.taken made.sent.items (server_side A.state next)
         × (extended_in next ≡ kept.now.extended_headers) × ShowsBy A.state A.shows made.next next
         × (made.next ≡ struct_by A.state A.written_for next)) }
-    ensures err { IfErr result (λ status. status ≢ StatusOutOfMemory → ((status ≡ StatusInvalidSnapshot) × ¬ IsServerKept kept.now)
+    ensures err { IfErr result (λ status. status ≢ StatusOutOfMemory
+        → ((status ≡ StatusInvalidSnapshot) × ¬ IsServerKept kept.now)
         ⊎ ((status ≡ StatusTooLong) × ((next : ServerConnectionSide A) × (taken : ℕ) × (sent : List ℕ)
-        × ServerTakes kept.now.extended_headers A.names A.machine (side_of kept.now (A.state acceptor)) bytes.now nonce.now taken sent
-        (server_side A.state next) × HasNone A.state A.shows next))) }
+        × ServerTakes kept.now.extended_headers A.names A.machine (side_of kept.now (A.state acceptor)) bytes.now nonce.now
+        taken sent (server_side A.state next) × HasNone A.state A.shows next))) }
 {
     let call = match restore(alloc, acceptor, kept, bytes, nonce, meter) {
         Ok(call) => call,

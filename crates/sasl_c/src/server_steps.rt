@@ -247,8 +247,9 @@ fn compute_claimed_user(alloc: Global, server: &ScramServer, body: &[u8]) -> Res
 }
 
 /// Writes the user name that a frame body claims: that of an init for SCRAM or PLAIN, for a response that of the open
-/// challenge of SCRAM, and for the response to an empty challenge that of the initial response. Nobody is authenticated yet: use it only to look up the record for
-/// `fe2o3_sasl_server_step`. Returns FE2O3_NAMES_NO_USER if the body claims no name; then no record is needed.
+/// challenge of SCRAM, and for the response to an empty challenge that of the initial response. Nobody is authenticated
+/// yet: use it only to look up the record for `fe2o3_sasl_server_step`. Returns FE2O3_NAMES_NO_USER if the body claims
+/// no name; then no record is needed.
 #[unsafe(no_mangle)]
 #[tactic(auto, using(crate::proofs::StatusLemmas::written))]
 pub extern "C" fn fe2o3_sasl_server_step_claimed_user(
