@@ -155,7 +155,7 @@ abbrev pub started : ClientSide → List ℕ → ClientSide
 started side nonce = with_state side (ClientFirstSent (base64_text nonce)
     (client_first_bare side.user (base64_text nonce)))
 
--- a client is strict if it binds a channel or acts for somebody else, or is set to
+-- a client is strict if it binds a channel or sends an authorization identity, or is set to
 abbrev pub is_strict_client : ClientSide → Bool
 is_strict_client side = needs_strict (header_in side) || side.strict
 

@@ -1,4 +1,5 @@
--- That a client which has a channel cannot be talked out of binding it, and what a proof means that a server accepted.
+-- That an attacker cannot make a client that has a channel skip channel binding, and what a proof means that a server
+-- accepted.
 use Rattle.std.proofs.Common.{◌≡◌, ◌≢◌, ◌<◌, ◌^◌, Bool, ℕ, List, [], ◌∷◌, ◌++◌, Option, Some, None, length, refl, sym, ap, ◌∙◌, subst, Ok, inl, append_assoc, codes}
 use Rattle.std.specs.Fmt.{decimal}
 use Rattle.std.specs.Prelude.{slice_get}
