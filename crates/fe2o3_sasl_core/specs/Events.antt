@@ -46,7 +46,7 @@ login_mechanism login = mechanism_of login.version (is_bound login.channel)
 abbrev pub login_header : Login → ClientHeader
 login_header login = record { channel = login.channel; acts_for = login.acts_for }
 
--- a login is strict if it binds a channel or acts for somebody else, or is set to
+-- a login is strict if it binds a channel or sends an authorization identity, or is set to
 abbrev pub is_strict_login : Login → Bool
 is_strict_login login = needs_strict (login_header login) || login.strict
 
