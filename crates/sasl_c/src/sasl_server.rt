@@ -388,7 +388,7 @@ impl SaslServerConfig<'_> {
 
 /// What a side of a connection makes of bytes.
 #[derive(Drop)]
-struct TakenUp<A> {
+struct RestoredResult<A> {
     taken: usize,
     sent: BytesMut,
 
@@ -405,7 +405,7 @@ fn restore<A: AuthenticatedUser + Drop>(
     bytes: &[u8],
     nonce: &[u8; 32],
     meter: &mut Meter,
-) -> Result<TakenUp<A>, Status>
+) -> Result<RestoredResult<A>, Status>
     requires meter { meter.old ≤ 2 ^ 63 }
     requires wanting { kept.now.progress ≡ InProgress }
     ensures ok { IfOk result (λ call. IsServerKept kept.now
@@ -423,7 +423,7 @@ fn restore<A: AuthenticatedUser + Drop>(
     };
     let mut sent = BytesMut::new(alloc);
     let received = side.receive(alloc, bytes, nonce, meter, &mut sent)?;
-    Ok(TakenUp {
+    Ok(RestoredResult {
         taken: received.taken,
         sent,
         side,
@@ -449,7 +449,7 @@ impl SaslServer {
 
 /// What a call makes of bytes.
 #[derive(Drop)]
-struct Made {
+struct ReceiveResult {
     /// How many it takes.
     taken: usize,
 
@@ -468,7 +468,7 @@ fn taken<A: Shows + Drop>(
     bytes: &[u8],
     nonce: &[u8; 32],
     meter: &mut Meter,
-) -> Result<Made, Status>
+) -> Result<ReceiveResult, Status>
     requires meter { meter.old ≤ 2 ^ 63 }
     requires wanting { kept.now.progress ≡ InProgress }
     ensures ok { IfOk result (λ made. (next : ServerConnectionSide A) × ServerTakes kept.now.extended_headers A.names A.machine
@@ -488,7 +488,7 @@ fn taken<A: Shows + Drop>(
     let Some(next) = SaslServer::of(&call.side) else {
         return Err(Status::TooLong);
     };
-    Ok(Made {
+    Ok(ReceiveResult {
         taken: call.taken,
         sent: call.sent,
         next,
@@ -504,7 +504,7 @@ fn received(
     bytes: &[u8],
     nonce: &[u8; 32],
     meter: &mut Meter,
-) -> Result<Made, Status>
+) -> Result<ReceiveResult, Status>
     requires { meter.old ≤ 2 ^ 63 }
     ensures ok { IfOk result (λ made. Received config.now bytes.now nonce.now server.now made.next made.taken
         made.sent.items) }
