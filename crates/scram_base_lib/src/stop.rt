@@ -95,7 +95,8 @@ pub enum Stop {
     DanglingLink,
 
     /// Another program is writing the new file, or was stopped while it was writing.
-    #[error("This new file exists: a change is under way, or was stopped. Wait with --wait, or remove it if no program is changing the file.")]
+    #[error("This new file exists: a change is under way, or was stopped. Wait with --wait, or remove it if no program \
+        is changing the file.")]
     Busy,
 
     /// The new file cannot be written. The old one stays.

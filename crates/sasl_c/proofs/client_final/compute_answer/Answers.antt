@@ -1,9 +1,9 @@
 use Rattle.std.proofs.Common.{rules}
 use Rattle.sasl_c.proofs.ClientLemmas.{mapped_err, no_login, tested_header}
-use Rattle.sasl_c.proofs.client_final.answered.Goals as goal
+use Rattle.sasl_c.proofs.client_final.compute_answer.Goals as goal
 
 pub returns-clause-err : goal.returns-clause-err
-returns-clause-err c = mapped_err _ _ c.answered_of.result c.answered_of.ensures.err
+returns-clause-err c = mapped_err _ _ c.answer_of_login.result c.answer_of_login.ensures.err
     (λ status held other. held other c.in-Ok.ensures.ok.1.0 c.in-Ok.ensures.ok.0 c.in-Ok-header.ensures.tested.0
     (search rules))
 

@@ -3,7 +3,7 @@ use Rattle.fe2o3_sasl_wire.specs.FrameView.{shown}
 use Rattle.fe2o3_sasl_core.specs.SaslProfile.{profile_of}
 use Rattle.sasl_c.proofs.StatusLemmas.{err_so, ok_so}
 use Rattle.sasl_c.proofs.StepLemmas.{client_no_hostname, client_no_profile, client_not_stepped, client_stepped, client_steps_short}
-use Rattle.sasl_c.proofs.client_steps.answered.Goals as goal
+use Rattle.sasl_c.proofs.client_steps.compute_step.Goals as goal
 
 pub returns-in-Err-clause-err : goal.returns-in-Err-clause-err
 returns-in-Err-clause-err c = λ other. client_no_hostname c.args.login.now _ c.args.client.now c.in-Err.status

@@ -3,7 +3,7 @@ use Rattle.sasl_c.specs.Rejections.{state_of}
 use Rattle.sasl_c.specs.SaslServer.{AreSettings}
 use Rattle.sasl_c.proofs.StatusLemmas.{carried}
 use Rattle.sasl_c.proofs.StepLemmas.{server_no_config, server_not_stepped, server_stepped, server_steps_short}
-use Rattle.sasl_c.proofs.server_steps.answered.Goals as goal
+use Rattle.sasl_c.proofs.server_steps.compute_step.Goals as goal
 
 pub returns-in-Err-clause-err : goal.returns-in-Err-clause-err
 returns-in-Err-clause-err c = λ other. server_no_config c.args.config.now _ c.args.server.now c.in-Err.status

@@ -3,7 +3,7 @@ use Rattle.fe2o3_scram.specs.ClientFinal.{answer_values}
 use Rattle.fe2o3_scram.specs.ClientFirst.{client_first_bare}
 use Rattle.fe2o3_scram.specs.ClientSecret.{secret_of}
 use Rattle.sasl_c.proofs.ClientLemmas.{answered_by, refused_by}
-use Rattle.sasl_c.proofs.client_final.answered_by.Goals as goal
+use Rattle.sasl_c.proofs.client_final.answer_with_secret.Goals as goal
 
 pub returns-in-Ok-clause-ok : goal.returns-in-Ok-clause-ok
 returns-in-Ok-clause-ok c =
