@@ -28,7 +28,7 @@ check: kit
 # the programs that the borrow checker has to reject; and the tests of these tools.
 LINT = gate/refused generate/audit_pages $(patsubst tools/%.py,%,$(wildcard tools/gate/tests/*.py)) \
     gate/layout gate/meters gate/circles gate/names gate/quoted generate/header generate/notices generate/signatures
-LINT += gate/prose gate/pages gate/versions gate/links gate/widths
+LINT += gate/prose gate/pages gate/versions gate/links gate/theorem_links gate/widths
 
 # The models that made the rows of tests: those that need a few seconds, and those that need a minute, GNU libidn
 # (Debian's package idn) or GNU SASL (gsasl).
