@@ -6,9 +6,9 @@
 
 A link names what its line declares, [`NAME`](FILE#L12): a definition of specs/; a function, or a method as `TYPE::METHOD`;
 a type; or a clause by its name, or as `ensures` if it has none. A clause is one of the function that the link before it
-names. Each item of a list that has such a link ends with four or more: a function, one or more pairs of a clause and the
-definition that it uses, and the public function of which the clause speaks. A clause has to name its definition, and its
-file has to import it from the file of the link.
+names. Each item of the sections of laws, and any other with such a link, ends with four or more: a function, one or more
+pairs of a clause and the definition that it uses, and the public function of which the clause speaks. A clause has to name
+its definition, and its file has to import it from the file of the link.
 
 An item may explain words, and link files of specs/ without a line. The words before its colon are declared there.
 
@@ -26,6 +26,8 @@ from prose import top_of
 from trusted_definitions import imports_of
 
 PAGE = "docs/THEOREMS.md"
+# The sections in which each item is a law.
+LAWS = ("## The theorem", "## Over bytes", "## Over frame bodies")
 LINK = re.compile(r"\[`([^`\]]+)`\]\(([^()#\s]+\.(?:rt|antt))#L(\d+)\)")
 FILE = re.compile(r"\]\(([^()#\s]+\.antt)\)")
 ITEM = re.compile(r"(?:- |\d+\. )")
@@ -128,11 +130,12 @@ class Sources:
 
 
 def items_of(text):
-    """The items of the page's lists that have links: where each begins, and its links with their kinds."""
-    at = 0
+    """The items of the page's lists that have links or need them: where each begins, and its links with their kinds."""
+    at, section = 0, ""
     for block in re.split(r"(?<=\n)(?=- |\d+\. |\n)", text):
         found = list(LINK.finditer(block))
-        if found and ITEM.match(block):
+        section = block.strip() if block.strip().startswith("## ") else section
+        if ITEM.match(block) and (found or section in LAWS):
             yield at, [
                 Link(at + it.start(), it[1], it[2], int(it[3]), kind_of(it, found[place + 1 :]))
                 for place, it in enumerate(found)
@@ -151,9 +154,8 @@ def form_fault(links):
     order = "".join({"function": "f", "clause": "c", "definition": "d"}[link.kind] for link in links)
     if re.fullmatch(r"(?:f(?:cd)+)+f", order):
         return None
-    return "an item has a function, then clauses each with a definition, and last a call; this one has " + ", ".join(
-        f"{link.kind} {link.name}" for link in links
-    )
+    found = ", ".join(f"{link.kind} {link.name}" for link in links) or "no link"
+    return f"an item has a function, then clauses each with a definition, and last a call; this one has {found}"
 
 
 def resolved(sources, links):

@@ -111,6 +111,8 @@ class TheoremLinks(unittest.TestCase):
         for names in (("sums",), ("sums", "first", "IsSum"), ("sums", "Fits", "Counter"), ("sums", "Counter")):
             with self.subTest(names=names):
                 self.assertIn("an item has a function, then clauses", self.faults(item(*names))[0])
+        law = "## Over bytes\n\n- A law.\n\n## Premises\n\n- Another.\n"
+        self.assertEqual([fault.endswith("this one has no link") for fault in self.faults(law)], [True])
 
     def test_names(self):
         for text, fault in (
