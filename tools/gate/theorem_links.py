@@ -8,7 +8,7 @@ A link names what its line declares, [`NAME`](FILE#L12): a definition of specs/;
 a type; or a clause by its name, or as `ensures` if it has none. A clause is one of the function that the link before it
 names. Each item of the sections of laws, and any other with such a link, ends with four or more: a function, one or more
 pairs of a clause and the definition that it uses, and the public function of which the clause speaks. A clause has to name
-its definition, and its file has to import it from the file of the link.
+its definition, and its file has to import it from the file of the link. Any other link to a line of a source is a fault.
 
 An item may explain words, and link files of specs/ without a line. The words before its colon are declared there.
 
@@ -30,6 +30,7 @@ PAGE = "docs/THEOREMS.md"
 LAWS = ("## The theorem", "## Over bytes", "## Over frame bodies")
 LINK = re.compile(r"\[`([^`\]]+)`\]\(([^()#\s]+\.(?:rt|antt))#L(\d+)\)")
 FILE = re.compile(r"\]\(([^()#\s]+\.antt)\)")
+TO_LINE = re.compile(r"\[[^\]]*\]\([^()\s]*\.(?:rt|antt)#L[^()\s]*\)|^ *\[[^\]]*\]: \S*\.(?:rt|antt)#L.*", re.M)
 ITEM = re.compile(r"(?:- |\d+\. )")
 FUNCTION = r"\s*(?:pub(?:\(\w+\))? )?(?:const )?(?:extern \"C\" )?fn {}\b"
 TYPE = r"(?:pub )?(?:struct|enum|trait|type|const) {}\b"
@@ -188,10 +189,19 @@ def word_faults(sources, text):
                 yield at, str(why)
 
 
+def form_faults(text, items):
+    """The links to lines that are of another form, or outside the items of lists."""
+    checked = {link.start for _, links in items for link in links}
+    for found in TO_LINE.finditer(text):
+        if found.start() not in checked:
+            yield text.count("\n", 0, found.start()) + 1, f"nothing checks the line of {found[0]}"
+
+
 def check(top, text):
     """The faults of the page, each with its line; the page with the right numbers; and how many links it has."""
-    sources, faults, changes, count = Sources(top), [], [], 0
-    for start, links in items_of(text):
+    items = list(items_of(text))
+    sources, faults, changes, count = Sources(top), list(form_faults(text, items)), [], 0
+    for start, links in items:
         place, count = text.count("\n", 0, start) + 1, count + len(links)
         try:
             if fault := form_fault(links):

@@ -128,6 +128,16 @@ class TheoremLinks(unittest.TestCase):
             with self.subTest(fault=fault):
                 self.assertEqual([fault in it for it in self.faults(text)], [True])
 
+    def test_links_that_are_not_checked(self):
+        for text in (
+            "See [`sums`](../crates/a/src/laws.rt#L5).\n",
+            "- [sums](../crates/a/src/laws.rt#L5)\n",
+            "[`sums`]: ../crates/a/src/laws.rt#L5\n",
+            "- [`sums`](../crates/a/src/laws.rt#L5-L7)\n",
+        ):
+            with self.subTest(text=text):
+                self.assertEqual(["nothing checks the line" in it for it in self.faults(text)], [True])
+
     def test_the_file_of_a_definition(self):
         other = self.top / "crates/a/specs/Others.antt"
         other.write_text(SUMS, encoding="utf-8")
