@@ -13,7 +13,7 @@ ghost use Rattle.fe2o3_sasl_wire.specs.declared.sasl_frames.error.Error.TheVaria
 ghost use Rattle.fe2o3_sasl_negotiation.specs.declared.progress.Expected.TheVariants.{Header};
 ghost use Rattle.fe2o3_sasl_negotiation.specs.declared.progress.Progress.TheVariants.{InProgress, Authenticated};
 
-use crate::framing::{MAX_FRAME, Step, is_sasl, refuse_header, read_expected, send};
+use crate::framing::{MAX_FRAME, Step, is_sasl, read_expected, refuse_header, send};
 use crate::progress::{CloseReason, Expected, FrameKind, Progress};
 use crate::side::{ConnectionSide, Endpoint, Role};
 use crate::snapshot::{RestoreError, Snapshot, is_name};
