@@ -1,5 +1,5 @@
 use Rattle.connection_laws.proofs.lemmas.HostileLemmas as lemma
-use Rattle.connection_laws.proofs.hostile.none.Goals as goal
+use Rattle.connection_laws.proofs.hostile.no_server_misbehaves.Goals as goal
 
 pub returns-clause-ignores_init : goal.returns-clause-ignores_init
 returns-clause-ignores_init g c = lemma.no_init_is_ignored g.A.SaslAcceptor.machine
