@@ -1,5 +1,6 @@
 //! Why a database of users cannot be used.
 
+use std::io::ErrorKind;
 use thiserror::Error;
 
 /// Why a database of users cannot be used.
@@ -13,17 +14,21 @@ pub enum DatabaseFault {
     #[error("it does not exist")]
     Missing,
 
+    /// The name is that of a folder, a pipe or a device.
+    #[error("it is not a regular file")]
+    NotAFile,
+
     /// Another program had the file open during the whole wait.
     #[error("another program has it open")]
     Locked,
 
-    /// SQLite left a rollback journal, which only SQLite can play back.
+    /// A change of SQLite's was cut off, which only SQLite can take back.
     #[error("it has a rollback journal: open it with sqlite3 first")]
     Journal,
 
-    /// The file or its log cannot be opened for reading and writing.
-    #[error("it or its log cannot be opened for reading and writing")]
-    Unopened,
+    /// The file, its folder or its log cannot be opened.
+    #[error("it, its folder or its log cannot be opened: {0}")]
+    Unopened(ErrorKind),
 
     /// The file is not a SQLite database, or its header or its free list is damaged.
     #[error("it is not a SQLite database")]
@@ -34,7 +39,7 @@ pub enum DatabaseFault {
     OtherSchema,
 
     /// A page of the table is damaged.
-    #[error("it is damaged")]
+    #[error("a page is damaged: sqlite3 FILE 'PRAGMA integrity_check' shows where")]
     Damaged,
 
     /// The user's row does not have the columns of a record.
