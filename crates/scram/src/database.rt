@@ -2,18 +2,15 @@
 
 use fe2o3_scram::{MultiRecordStore, ScramCredentialProvider, ScramRecord, ScramVersion};
 use scram_base_lib::database::{Database, WAIT};
-use scram_base_lib::database_fault::DatabaseFault;
 use scram_base_lib::lines;
 use scram_base_lib::shown::shown;
 use scram_base_lib::stop::Stop;
 use scram_base_lib::store::{Change, Changed};
 use scram_db_lib::error::DatabaseError;
-use scram_db_lib::row::{Columns, StoredUser, lend};
+use scram_db_lib::row::{Columns, StoredUser};
 use scram_db_lib::scan::Walk;
 use scram_db_lib::{file, schema, table};
 use sqlite_pages::Pages;
-use sqlite_value::row::Row;
-use sqlite_value::value::ValueRef;
 use std::alloc::Global;
 use std::cell::Cell;
 use std::io::Write;
@@ -61,11 +58,11 @@ impl Database<HostRuntime> for SqliteFile {
         let mut pages = file::read(rt, path, WAIT).map_err(stop_of)?;
         let (mut walk, mut text) = (walk(alloc, &mut pages)?, String::new(alloc));
         for _ in 0..u64::MAX {
-            let Some(row) = walk.next(alloc, &mut pages).map_err(stop_of)? else {
+            if !walk.next(alloc, &mut pages).map_err(stop_of)? {
                 break;
-            };
-            if !push_row(alloc, &row, &mut text)? {
-                tell(rt, path, bytes_in(&row, 0), bytes_in(&row, 1))?;
+            }
+            if !push_row(alloc, &walk, &mut text)? {
+                tell(rt, path, walk.name(), walk.mechanism())?;
                 self.has_wrong_rows.set(true);
             }
         }
@@ -107,11 +104,10 @@ fn user_lines<P: Pages>(
     for known in &VERSIONS {
         if version.is_none_or(|version| version == *known) {
             let mechanism = known.mechanism().as_bytes();
-            let is_read = match table::fetch(alloc, pages, root, name.as_bytes(), mechanism) {
-                Ok(Some(user)) => push_line(alloc, name, record_of(*known, user), &mut text)?,
-                Ok(None) => true,
-                Err(DatabaseError::WrongRow) => false,
-                Err(error) => return Err(stop_of(error)),
+            let found = table::fetch(alloc, pages, root, name.as_bytes(), mechanism);
+            let is_read = match found.transpose() {
+                Some(found) => push_user(alloc, name, *known, found, &mut text)?,
+                None => true,
             };
             if !is_read {
                 tell(rt, path, name.as_bytes(), mechanism)?;
@@ -122,23 +118,40 @@ fn user_lines<P: Pages>(
     Ok(text)
 }
 
-/// Appends the line of a record, and returns whether there is one: its salt, count and keys may be none of a record's.
-fn push_line(
+/// Appends the line of a record that was read, and returns whether there is one: its salt, count and keys may be none of a
+/// record's.
+fn push_user(
     alloc: Global,
     name: &str,
-    record: ScramRecord,
+    version: ScramVersion,
+    read: Result<StoredUser, DatabaseError>,
     text: &mut String,
 ) -> Result<bool, Stop> {
-    let line = lines::line_of(alloc, name, record).and_then(|line| {
-        lines::test(alloc, &line)?;
-        Ok(line)
-    });
-    match line {
+    let user = match read {
+        Ok(user) => user,
+        Err(DatabaseError::WrongRow) => return Ok(false),
+        Err(error) => return Err(stop_of(error)),
+    };
+    let record = ScramRecord::from_parts(
+        version,
+        user.salt,
+        user.iterations,
+        user.stored_key,
+        user.server_key,
+    );
+    match valid_line(alloc, name, record) {
         Ok(line) => text.push_str(&line)?,
         Err(Stop::OutOfMemory) => return Err(Stop::OutOfMemory),
         Err(_) => return Ok(false),
     }
     Ok(true)
+}
+
+/// Returns the line of a record, if a file of lines can have it.
+fn valid_line(alloc: Global, name: &str, record: ScramRecord) -> Result<String, Stop> {
+    let line = lines::line_of(alloc, name, record)?;
+    MultiRecordStore::parse_lines(alloc, &line)?;
+    Ok(line)
 }
 
 /// Prints, on the errors, whose row is no record.
@@ -152,17 +165,6 @@ fn tell(rt: &HostRuntime, path: &str, name: &[u8], mechanism: &[u8]) -> Result<(
     // The command goes on or stops, whether or not that can be written.
     let _ = rt.stderr().write_all(&line);
     Ok(())
-}
-
-/// Returns the record of a row for a mechanism.
-fn record_of(version: ScramVersion, user: StoredUser) -> ScramRecord {
-    ScramRecord::from_parts(
-        version,
-        user.salt,
-        user.iterations,
-        user.stored_key,
-        user.server_key,
-    )
 }
 
 /// Changes the rows of a user.
@@ -211,10 +213,10 @@ fn push_first<P: Pages>(
 ) -> Result<(), Stop> {
     let mut walk = walk(alloc, pages)?;
     for _ in 0..u64::MAX {
-        let Some(row) = walk.next(alloc, pages).map_err(stop_of)? else {
+        if !walk.next(alloc, pages).map_err(stop_of)? {
             break;
-        };
-        if bytes_in(&row, 1) == version.mechanism().as_bytes() && push_row(alloc, &row, text)? {
+        }
+        if walk.mechanism() == version.mechanism().as_bytes() && push_row(alloc, &walk, text)? {
             break;
         }
     }
@@ -256,50 +258,25 @@ fn put<P: Pages>(
     Ok(())
 }
 
-/// Appends the line of a row, and returns whether it is a record.
-fn push_row(alloc: Global, row: &Row, text: &mut String) -> Result<bool, Stop> {
+/// Appends the line of the row of a walk, and returns whether it is a record.
+fn push_row(alloc: Global, walk: &Walk, text: &mut String) -> Result<bool, Stop> {
     let (Ok(name), Ok(mechanism)) = (
-        str::from_utf8(bytes_in(row, 0)),
-        str::from_utf8(bytes_in(row, 1)),
+        str::from_utf8(walk.name()),
+        str::from_utf8(walk.mechanism()),
     ) else {
         return Ok(false);
     };
-    let (Some(version), Some(found)) = (ScramVersion::from_mechanism(mechanism), lend(row)) else {
-        return Ok(false);
-    };
-    let record = ScramRecord::from_parts(
-        version,
-        found.salt.to_vec(alloc)?,
-        found.iterations,
-        found.stored_key.to_vec(alloc)?,
-        found.server_key.to_vec(alloc)?,
-    );
-    push_line(alloc, name, record, text)
-}
-
-/// Returns the bytes of a text in a row, or none if the column is no text.
-fn bytes_in(row: &Row, at: usize) -> &[u8] {
-    match row.get(at) {
-        ValueRef::Text(bytes) => bytes,
-        _ => b"",
+    match ScramVersion::from_mechanism(mechanism) {
+        Some(version) => push_user(alloc, name, version, walk.user(alloc), text),
+        None => Ok(false),
     }
 }
 
 /// Converts the error of a database.
 fn stop_of(error: DatabaseError) -> Stop {
-    Stop::Database(match error {
-        DatabaseError::OutOfMemory => return Stop::OutOfMemory,
-        DatabaseError::DanglingLink => return Stop::DanglingLink,
-        DatabaseError::Missing => DatabaseFault::Missing,
-        DatabaseError::NotAFile => DatabaseFault::NotAFile,
-        DatabaseError::Locked => DatabaseFault::Locked,
-        DatabaseError::Journal => DatabaseFault::Journal,
-        DatabaseError::Unopened(kind) => DatabaseFault::Unopened(kind),
-        DatabaseError::NotADatabase => DatabaseFault::NotADatabase,
-        DatabaseError::OtherSchema => DatabaseFault::OtherSchema,
-        DatabaseError::Damaged => DatabaseFault::Damaged,
-        DatabaseError::WrongRow => DatabaseFault::WrongRow,
-        DatabaseError::Io => DatabaseFault::Io,
-        DatabaseError::Full => DatabaseFault::Full,
-    })
+    match error {
+        DatabaseError::OutOfMemory => Stop::OutOfMemory,
+        DatabaseError::DanglingLink => Stop::DanglingLink,
+        error => Stop::Database(error.text()),
+    }
 }

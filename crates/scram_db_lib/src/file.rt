@@ -6,7 +6,7 @@ ghost use Rattle.sqlite_pool.specs.Opening.{AreUsable};
 ghost use Rattle.sqlite_pool.specs.Pool.{state, usable};
 ghost use Rattle.sqlite_pool.specs.File.{SameButHeader, in_use};
 
-use crate::error::{DatabaseError, of_system};
+use crate::error::{DatabaseError, of_pages, of_system};
 use crate::read_only::Reading;
 use crate::{new_file, read_only, schema};
 use sqlite_disk::{Disk, Files};
@@ -127,8 +127,8 @@ fn whole<D: Disk + Drop>(
     Ok(pool)
 }
 
-/// Recovers the database of files. Where there is none yet, or where a crash left a part of its first page, makes one
-/// without a table if `makes` is set.
+/// Recovers the database of files: its header and its free list are checked, and no table. Where there is none yet, or
+/// where a crash left a part of its first page, makes one without a table if `makes` is set.
 fn opened<D: Disk + Drop>(
     alloc: Global,
     mut files: Files<D>,
@@ -138,14 +138,32 @@ fn opened<D: Disk + Drop>(
     requires log { IsTrue (D.Disk.is_usable files.log) }
     requires db { IsTrue (D.Disk.is_usable files.db) }
 {
-    let Some(size) = PageSize::new(NEW_PAGE) else {
+    let Some(new) = PageSize::new(NEW_PAGE) else {
         return Err(DatabaseError::NotADatabase);
     };
-    match probe_blank(alloc, &mut files, size, false) {
-        Ok(false) => recovered(alloc, files, options),
-        Ok(true) if makes => created(alloc, files, size, options),
-        Ok(true) => Err(DatabaseError::Missing),
-        Err(error) => Err(DatabaseError::of_probe(error)),
+    let is_blank = match probe_blank(alloc, &mut files, new, false) {
+        Ok(is_blank) => is_blank,
+        Err(error) => return Err(DatabaseError::of_probe(error)),
+    };
+    if is_blank && !makes {
+        return Err(DatabaseError::Missing);
+    }
+    let size = match probe_page_size(&mut files) {
+        _ if is_blank => new,
+        Ok(Some(size)) => size,
+        Ok(None) => return Err(DatabaseError::NotADatabase),
+        Err(_) => return Err(DatabaseError::Io),
+    };
+    let mut pool = pool(alloc, files, size, options)?;
+    let opened = if is_blank {
+        pool.create()
+    } else {
+        pool.recover(false)
+    };
+    match opened {
+        Ok(()) => Ok(pool),
+        Err(Error::Corrupt) => Err(DatabaseError::NotADatabase),
+        Err(error) => Err(of_pages(error)),
     }
 }
 
@@ -154,44 +172,6 @@ fn options(rt: &HostRuntime) -> Result<Options, DatabaseError> {
     match RandomState::new(rt) {
         Ok(state) => Ok(Options::new(state.hash_one(&0u8))),
         Err(error) => Err(of_system(error)),
-    }
-}
-
-/// Recovers the log of a database. The header and the free list are checked, and no table.
-fn recovered<D: Disk + Drop>(
-    alloc: Global,
-    mut files: Files<D>,
-    options: Options,
-) -> Result<Pool<D>, DatabaseError>
-    requires log { IsTrue (D.Disk.is_usable files.log) }
-    requires db { IsTrue (D.Disk.is_usable files.db) }
-{
-    let size = match probe_page_size(&mut files) {
-        Ok(Some(size)) => size,
-        Ok(None) => return Err(DatabaseError::NotADatabase),
-        Err(_) => return Err(DatabaseError::Io),
-    };
-    let mut pool = pool(alloc, files, size, options)?;
-    match pool.recover(false) {
-        Ok(()) => Ok(pool),
-        Err(error) => Err(of_opening(error)),
-    }
-}
-
-/// Makes a database without a table.
-fn created<D: Disk + Drop>(
-    alloc: Global,
-    files: Files<D>,
-    size: PageSize,
-    options: Options,
-) -> Result<Pool<D>, DatabaseError>
-    requires log { IsTrue (D.Disk.is_usable files.log) }
-    requires db { IsTrue (D.Disk.is_usable files.db) }
-{
-    let mut pool = pool(alloc, files, size, options)?;
-    match pool.create() {
-        Ok(()) => Ok(pool),
-        Err(error) => Err(of_opening(error)),
     }
 }
 
@@ -252,13 +232,5 @@ fn pool<D: Disk + Drop>(
     match Pool::new(alloc, pager, false) {
         Ok(pool) => Ok(pool),
         Err(_) => Err(DatabaseError::OutOfMemory),
-    }
-}
-
-/// Converts the error of an open.
-fn of_opening(error: Error) -> DatabaseError {
-    match error {
-        Error::Corrupt => DatabaseError::NotADatabase,
-        other => DatabaseError::from(other),
     }
 }

@@ -43,7 +43,10 @@ pub fn remove_old_log(rt: &HostRuntime, path: &str) -> Result<(), DatabaseError>
 /// Removes a file of SQLite's beside a database, if it is there.
 pub fn remove_beside(rt: &HostRuntime, path: &str, kind: &str) -> Result<(), DatabaseError> {
     let real = fs::canonicalize(rt, path).map_err(of_system)?;
-    match fs::remove_file(rt, format!(in rt.alloc(); "{}-{kind}", real.as_str())?.as_str()) {
+    match fs::remove_file(
+        rt,
+        format!(in rt.alloc(); "{}-{kind}", real.as_str())?.as_str(),
+    ) {
         Err(error) if error.kind() != ErrorKind::NotFound => Err(of_system(error)),
         _ => Ok(()),
     }

@@ -69,36 +69,34 @@ pub fn open(rt: &HostRuntime, path: &str) -> Result<Files<Reading>, DatabaseErro
 /// Copies the log of a file. While the copy is held, SQLite copies no page of the log into the file.
 fn log_beside(rt: &HostRuntime, real: &str) -> Result<Reading, DatabaseError> {
     let alloc = rt.alloc();
-    let (mut copy, mut memory) = (Memory::new(alloc), None);
     let name = format!(in alloc; "{real}-wal")?;
-    // A log without bytes may still have another owner and mode than the file.
-    if has_bytes(rt, name.as_str())? {
-        memory = opened(rt, format!(in alloc; "{real}-shm")?)?;
-        if let Some(memory) = &memory {
+    let mut log = ReadOnly {
+        file: None,
+        copy: Memory::new(alloc),
+        memory: None,
+        failed: 0,
+    };
+    // A log without bytes may not yet have the owner and the mode of the file.
+    if fs::metadata(rt, name.as_str()).is_ok_and(|found| found.len() == 0) {
+        return Ok(log);
+    }
+    if let Some(file) = opened(rt, name)? {
+        log.memory = opened(rt, format!(in alloc; "{real}-shm")?)?;
+        if let Some(memory) = &log.memory {
             lock(memory, RangeLock::Shared, CHECKPOINT, 1)?;
         }
-        fill(alloc, opened(rt, name)?, &mut copy)?;
+        fill(alloc, file, &mut log.copy)?;
     }
-    Ok(ReadOnly {
-        file: None,
-        copy,
-        memory,
-        failed: 0,
-    })
+    Ok(log)
 }
 
 /// Copies a log to an empty disk. A log that SQLite begins again meanwhile is `Locked`.
-fn fill<D: Disk>(alloc: Global, log: Option<File>, copy: &mut D) -> Result<(), DatabaseError> {
-    let (mut bytes, mut again) = (Vec::new(alloc), [0; 32]);
-    let Some(mut log) = log else {
-        return Ok(());
-    };
+fn fill<D: Disk>(alloc: Global, mut log: File, copy: &mut D) -> Result<(), DatabaseError> {
+    let (mut bytes, mut head) = (Vec::new(alloc), [0; 32]);
     log.read_to_end(&mut bytes).map_err(of_system)?;
-    if bytes.len() >= again.len() {
-        log.read_exact_at(&mut again, 0).map_err(of_system)?;
-        if !bytes.as_slice().starts_with(&again) {
-            return Err(DatabaseError::Locked);
-        }
+    let len = log.read_at(&mut head, 0).map_err(of_system)?;
+    if !bytes.as_slice().starts_with(&head[..len]) {
+        return Err(DatabaseError::Locked);
     }
     if !copy.may_be_used() {
         return Err(DatabaseError::Io);
@@ -132,15 +130,6 @@ pub fn lock(file: &File, kind: RangeLock, start: u64, len: u64) -> Result<(), Da
         return Ok(());
     }
     Err(of_system(Error::from_raw_os_error(os::errno())))
-}
-
-/// Returns whether a file is there and has bytes.
-fn has_bytes(rt: &HostRuntime, name: &str) -> Result<bool, DatabaseError> {
-    match fs::metadata(rt, name) {
-        Ok(found) => Ok(found.len() > 0),
-        Err(error) if error.kind() == ErrorKind::NotFound => Ok(false),
-        Err(error) => Err(of_system(error)),
-    }
 }
 
 /// Opens a file to read it, if it is there.
@@ -213,7 +202,10 @@ impl<D: Disk> Disk for ReadOnly<D> {
 
     fn len(&mut self) -> io::Result<usize> {
         match &self.file {
-            Some(file) => count(&mut self.failed, length(file)),
+            Some(file) => count(
+                &mut self.failed,
+                file.metadata().map(|found| found.len() as usize),
+            ),
             None => self.copy.len(),
         }
     }
@@ -252,9 +244,4 @@ impl<D: Disk> Disk for ReadOnly<D> {
     fn sync(&mut self) -> io::Result<()> {
         self.copy.sync()
     }
-}
-
-/// Returns the length of a file.
-fn length(file: &File) -> io::Result<usize> {
-    Ok(file.metadata()?.len() as usize)
 }

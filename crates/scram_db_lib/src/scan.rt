@@ -5,12 +5,13 @@ ghost use Rattle.sqlite_record.specs.Record.{decode};
 ghost use Rattle.scram_db_lib.specs.Users.{side_after};
 
 use crate::error::DatabaseError;
-use crate::row::row_of;
+use crate::row::{StoredUser, row_of, user_of};
 use sqlite_btree::{Batch, Probe, Scratch, index};
 use sqlite_pages::Pages;
 use sqlite_record::compare::with_key;
 use sqlite_value::keys::Order;
 use sqlite_value::row::Row;
+use sqlite_value::value::ValueRef;
 use std::alloc::Global;
 use std::cmp::Ordering;
 
@@ -53,18 +54,14 @@ impl Walk {
         }
     }
 
-    /// Returns the columns of the next row, or `None` after the last. A row out of order is `Damaged`, so a walk ends.
-    pub fn next<P: Pages>(
-        &mut self,
-        alloc: Global,
-        pages: &mut P,
-    ) -> Result<Option<Row>, DatabaseError> {
+    /// Goes to the next row, and returns whether there is one. A row out of order is `Damaged`, so a walk ends.
+    pub fn next<P: Pages>(&mut self, alloc: Global, pages: &mut P) -> Result<bool, DatabaseError> {
         let after = AfterKey { key: &self.key };
         if !self.batch.next(pages)? {
             let scratch = &mut Scratch::new(alloc);
             index::fill(pages, scratch, self.root, &after, &mut self.batch)?;
             if !self.batch.next(pages)? {
-                return Ok(None);
+                return Ok(false);
             }
         }
         if after.compare(self.batch.payload()) != Ordering::Greater {
@@ -74,6 +71,29 @@ impl Walk {
         self.key.clear();
         self.key.push(row.get(0))?;
         self.key.push(row.get(1))?;
-        Ok(Some(row))
+        Ok(true)
+    }
+
+    /// Returns the name of the row, or no bytes if it is no text.
+    pub fn name(&self) -> &[u8] {
+        text(self.key.get(0))
+    }
+
+    /// Returns the mechanism of the row, or no bytes if it is no text.
+    pub fn mechanism(&self) -> &[u8] {
+        text(self.key.get(1))
+    }
+
+    /// Returns the record of the row.
+    pub fn user(&self, alloc: Global) -> Result<StoredUser, DatabaseError> {
+        user_of(alloc, self.batch.payload())
+    }
+}
+
+/// Returns the bytes of a text, or none of another value.
+fn text(value: ValueRef<'_>) -> &[u8] {
+    match value {
+        ValueRef::Text(bytes) => bytes,
+        _ => b"",
     }
 }
