@@ -27,6 +27,9 @@ const PAUSE: u64 = 10;
 /// The number of pauses in a second.
 const PAUSES: u64 = 100;
 
+/// The number of pages that are kept in memory.
+const CACHE: usize = 64;
+
 /// The page size of a new file, in bytes.
 const NEW_PAGE: usize = 4096;
 
@@ -169,10 +172,11 @@ fn opened<D: Disk + Drop>(
 
 /// Returns the options of the pager, with a random number for the log.
 fn options(rt: &HostRuntime) -> Result<Options, DatabaseError> {
-    match RandomState::new(rt) {
-        Ok(state) => Ok(Options::new(state.hash_one(&0u8))),
-        Err(error) => Err(of_system(error)),
-    }
+    let state = RandomState::new(rt).map_err(of_system)?;
+    let mut options = Options::new(state.hash_one(&0u8));
+    // A look-up reads a few pages, and the memory for them is cleared at each open.
+    options.cache_pages = CACHE;
+    Ok(options)
 }
 
 /// Makes the table of users in a database without a table. A crash leaves the whole table or none.

@@ -211,11 +211,10 @@ impl<D: Disk> Disk for ReadOnly<D> {
     }
 
     fn read_at(&mut self, at: usize, buf: &mut [u8]) -> io::Result<()> {
-        let read = match &self.file {
-            Some(file) => file.read_exact_at(buf, at as u64),
-            None => self.copy.read_at(at, buf),
-        };
-        count(&mut self.failed, read)
+        match &self.file {
+            Some(file) => count(&mut self.failed, file.read_exact_at(buf, at as u64)),
+            None => count(&mut self.failed, self.copy.read_at(at, buf)),
+        }
     }
 
     fn read_checked(&mut self, key: u64, want: u64, at: usize, buf: &mut [u8]) -> io::Result<()> {
