@@ -261,7 +261,9 @@ def at_once(folder):
         for number in range(8):
             changed.append(scram("users", "add", "--db", path, f"new{number}", "--iterations", "1", "--wait", "30")[:2])
 
-    threads = [threading.Thread(target=one, args=(number,)) for number in range(100)] + [threading.Thread(target=change)]
+    threads = [threading.Thread(target=one, args=(number,)) for number in range(100)] + [
+        threading.Thread(target=change)
+    ]
     for thread in threads:
         thread.start()
     for thread in threads:
@@ -274,7 +276,9 @@ def at_once(folder):
 def is_plain(path):
     """Whether a file is in rollback-journal mode and has no log."""
     with open(path, "rb") as file:
-        return file.read(20)[18:] == b"\1\1" and not any(os.path.exists(path + end) for end in ("-wal", "-shm", "-journal"))
+        return file.read(20)[18:] == b"\1\1" and not any(
+            os.path.exists(path + end) for end in ("-wal", "-shm", "-journal")
+        )
 
 
 class Sqlite:
@@ -305,7 +309,10 @@ def beside_sqlite(folder):
         assert log_in(path, "user0000007")[:2] == (0, 0)
         assert add(path, f"new{number}") == (0, "added\n") and is_plain(path)
         assert beside.do("SELECT count(*) FROM users; PRAGMA integrity_check;") == f"{502 + 2 * number}\nok\n"
-    for begin in ("BEGIN; SELECT 1 FROM users LIMIT 1;", "BEGIN IMMEDIATE; DELETE FROM users WHERE name = 'user0000008';"):
+    for begin in (
+        "BEGIN; SELECT 1 FROM users LIMIT 1;",
+        "BEGIN IMMEDIATE; DELETE FROM users WHERE name = 'user0000008';",
+    ):
         beside.do(begin)
         assert log_in(path, "user0000008")[:2] == (0, 0)
         assert len(scram("users", "list", "--db", path)[1].splitlines()) == 506
@@ -349,7 +356,10 @@ def beside_a_log(folder):
     assert log_in(path, "in the log")[1] == 3
     assert scram("users", "add", "--db", path, "new", "--wait", "0")[0] == 4
     if os.fork() == 0:
-        os.execvp("sqlite3", ["sqlite3", path, "INSERT INTO users SELECT 'more', mechanism, salt, 1, salt, salt FROM users LIMIT 1;"])
+        os.execvp(
+            "sqlite3",
+            ["sqlite3", path, "INSERT INTO users SELECT 'more', mechanism, salt, 1, salt, salt FROM users LIMIT 1;"],
+        )
     assert os.wait()[1] == 0
     beside.process.kill()
     beside.process.wait()
