@@ -3,7 +3,6 @@
 ghost use Rattle.std.specs.Prelude.{◌≡◌, ◌≤◌, option_map};
 ghost use Rattle.scram_base_lib.specs.Stop.{at_line, status_of, suffix_of};
 
-use crate::database_fault::DatabaseFault;
 use fe2o3_sasl_negotiation::CloseReason;
 use fe2o3_scram::{
     ClientSecretError, ReadLinesError, ReadLinesErrorKind, RecordError, ScramErrorKind,
@@ -115,9 +114,9 @@ pub enum Stop {
     #[error("The secret for mock records cannot be used: {0}. Correct its file, or remove it for a new secret.")]
     Secret(SecretError),
 
-    /// The database of users cannot be used.
+    /// The database of users cannot be used, and why.
     #[error("The database cannot be used: {0}.")]
-    Database(DatabaseFault),
+    Database(&'static str),
 
     /// No record has the name.
     #[error("The file has no such record. scram users list shows its records.")]
