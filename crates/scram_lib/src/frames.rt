@@ -1,10 +1,11 @@
 //! `--frames`: a login over the bytes of an AMQP connection.
 
-ghost use Rattle.std.specs.Prelude.{◌≡◌, IfOk, IfSome, OnOk, box_value};
+ghost use Rattle.std.specs.Prelude.{◌≡◌, [], IfOk, IfSome, OnOk, box_value};
 ghost use Rattle.fe2o3_sasl_core.specs.Profiles.{ScramProfile};
 ghost use Rattle.fe2o3_sasl_negotiation.specs.Sides.{client_side, server_side, connection_side};
 ghost use Rattle.fe2o3_sasl_negotiation.specs.declared.progress.Progress.TheVariants.{Authenticated};
-ghost use Rattle.scram_lib.specs.Done.{HasLoggedIn, HasServed, IsWaiting};
+ghost use Rattle.fe2o3_scram.specs.ScramServer.{provider_in, rules_in};
+ghost use Rattle.scram_lib.specs.Done.{HasLoggedIn, HasServed, IsWaiting, acceptor_of};
 
 use crate::client::Login;
 use crate::done::Done;
@@ -174,7 +175,10 @@ where
 }
 
 /// Returns a server's side without users, which offers the mechanism.
-fn opener(alloc: Global, service: &Service<'_, '_>, rules: ServerRules) -> Side {
+fn opener(alloc: Global, service: &Service<'_, '_>, rules: ServerRules) -> Side
+    ensures rules { rules_in (acceptor_of result) ≡ rules }
+    ensures nobody { provider_in (acceptor_of result) ≡ record { version = service.now.version; records = [] } }
+{
     let nobody = RecordStore::new(alloc, service.version);
     ServerNegotiation::new(alloc, ScramAuthenticator::new(nobody).with_rules(rules))
 }
@@ -244,6 +248,7 @@ fn continued(
     server: ScramAuthenticator<RecordStore>,
 ) -> Result<Side, Stop>
     requires { IsWaiting opener.now }
+    ensures { IfOk result (λ side. acceptor_of side ≡ server) }
 {
     match ServerNegotiation::restore(alloc, server, &opener.snapshot()) {
         Ok(side) => Ok(side),

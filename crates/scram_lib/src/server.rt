@@ -1,10 +1,13 @@
 //! `server`: the server side of a login, for the users of a file. The input has the client's messages.
 
-ghost use Rattle.std.specs.Prelude.{◌≡◌, ◌↔◌, ℕ, List, Option, Ok, Some, IsSome, IfOk, IfSome, OnOk, false, true, map, option_map};
+ghost use Rattle.std.specs.Prelude.{◌≡◌, ◌↔◌, ℕ, List, Option, Ok, Some, None, IsSome, IfOk, IfSome, OnOk, false, is_some, true, map, option_map};
 ghost use Rattle.std.specs.List.{list_all};
-ghost use Rattle.fe2o3_scram.specs.ScramServer.{ChallengesFrom, ConcludesFrom, provider_in, rights_in, rules_in, state_in};
+ghost use Rattle.fe2o3_scram.specs.ChannelBinding.{mechanism_of};
+ghost use Rattle.fe2o3_scram.specs.ScramServer.{ChallengesFrom, ConcludesFrom, provider_in, rights_in, rules_in, mock_in, state_in};
+ghost use Rattle.mock_secret.specs.Secrets.{IsRead};
 ghost use Rattle.scram_lib.specs.Acting.{AreRightsOf, names_both};
-ghost use Rattle.scram_lib.specs.Done.{AreRulesOf, AreUsers, HasAccepted, IsMessage, IsSameServer, IsServerAsked, HasServed, provider_of};
+ghost use Rattle.scram_lib.specs.Done.{AreRulesOf, AreSettingsOf, AreUsers, HasAccepted, IsClaim, IsMessage, IsSameServer, IsServerAsked, IsServerFor, HasServed, provider_of};
+ghost use Rattle.scram_lib.specs.OwnLines.{AreLinesFor, text_in};
 
 mod acting;
 mod login_line;
@@ -125,7 +128,9 @@ pub(crate) fn tell_user<E: Write>(
 
 impl Service<'_, '_> {
     /// Returns the name of the mechanism, with `-PLUS` if the server binds a channel.
-    fn mechanism(&self) -> &'static str {
+    fn mechanism(&self) -> &'static str
+        ensures { result.now ≡ mechanism_of self.now.version (is_some self.now.channel) }
+    {
         self.version.mechanism_with(self.channel.is_some())
     }
 
@@ -148,7 +153,9 @@ impl Service<'_, '_> {
 
     /// Returns the secret of mock records, or `None` if mock authentication is off.
     fn secret<R: Files + RandomSource + AllocGlobal>(&self, rt: &R) -> Result<Option<Vec<u8>>, Stop>
-        ensures off { IfOk result (λ secret. IsSome secret ↔ (self.now.tells_unknown_users ≡ false)) }
+        ensures off { IfOk result (λ secret.
+            IsSome (option_map (λ secret. secret.items) secret) ↔ (self.now.tells_unknown_users ≡ false)) }
+        ensures held { IfOk result (λ secret. IfSome secret (λ bytes. IsRead R.File.remaining bytes.items)) }
     {
         if self.tells_unknown_users {
             return Ok(None);
@@ -166,7 +173,9 @@ pub(crate) fn server_for<R: AllocGlobal, D: Database<R>>(
     source: &Source<'_, D>,
     claimed: Option<&str>,
 ) -> Result<ScramAuthenticator<RecordStore>, Stop>
-    ensures { AreRulesOf service.now rules → IfOk result (λ server. IsServerAsked service.now server) }
+    ensures { AreSettingsOf service.now rules (option_map (λ secret. secret.items) secret) → IfOk result
+        (IsServerFor service.now (text_in source.now) (option_map (λ sent. sent.now) claimed.entry)
+        (option_map (λ secret. secret.items) secret)) }
 {
     let own = source.lines_for(rt, service, claimed)?;
     let text = match source {
@@ -187,14 +196,14 @@ fn server(
     secret: Option<Vec<u8>>,
     form: Form,
     text: &str,
-    lines: &str,
+    own: &str,
 ) -> Result<ScramAuthenticator<RecordStore>, Stop>
-    ensures { AreRulesOf service.now rules → (claimed : Option (List ℕ))
-        → AreRightsOf service.now.saslprep
+    ensures { AreSettingsOf service.now rules (option_map (λ secret. secret.items) secret) → (held claimed : Option (List ℕ))
+        → AreLinesFor service.now.saslprep held claimed own.now → AreRightsOf service.now.saslprep
         (option_map (λ words. map (λ word. word.now) words.now) service.now.may_act) claimed rights
-        → IfOk result (λ server. IsServerAsked service.now server) }
+        → IfOk result (IsServerFor service.now held claimed (option_map (λ secret. secret.items) secret)) }
 {
-    let users = users_of(alloc, service, text, lines)?;
+    let users = users_of(alloc, service, text, own)?;
     let server = with_mock(ScramAuthenticator::new(users), secret, form);
     let rights = Arc::new(alloc, rights)?;
     Ok(server.with_rules(rules).with_acting_rights(rights))
@@ -206,7 +215,9 @@ fn with_mock(
     secret: Option<Vec<u8>>,
     form: Form,
 ) -> ScramAuthenticator<RecordStore>
-    ensures { (provider_in result ≡ provider_in server) × (state_in result ≡ state_in server) }
+    ensures secret { mock_in server ≡ None → option_map (λ mock. mock.secret) (mock_in result)
+        ≡ option_map (λ secret. secret.items) secret }
+    ensures same { (provider_in result ≡ provider_in server) × (state_in result ≡ state_in server) }
 {
     match secret {
         Some(secret) => hide(server, secret, form),
@@ -220,19 +231,22 @@ fn users_of(
     alloc: Global,
     service: &Service<'_, '_>,
     text: &str,
-    lines: &str,
+    own: &str,
 ) -> Result<RecordStore, Stop>
-    ensures { IfOk result (λ users. (lines : List ℕ) × AreUsers service.now.version lines users) }
+    ensures { IfOk result (AreUsers service.now.version own.now) }
 {
-    match users(alloc, service, lines) {
-        Err(Stop::Line(_)) => users(alloc, service, text),
+    match users(alloc, service, own) {
+        Err(Stop::Line(fault)) => {
+            users(alloc, service, text)?;
+            Err(Stop::Line(fault))
+        }
         found => found,
     }
 }
 
 /// Parses the users of a text that have records for the mechanism.
 fn users(alloc: Global, service: &Service<'_, '_>, text: &str) -> Result<RecordStore, Stop>
-    ensures { IfOk result (λ users. AreUsers service.now.version text.now users) }
+    ensures { IfOk result (AreUsers service.now.version text.now) }
 {
     let users = MultiRecordStore::parse_lines(alloc, text)?;
     Ok(users.for_version(service.version).clone()?)
@@ -255,7 +269,8 @@ where
     O: Write,
     E: Write,
     D: Database<R>,
-    ensures { AreRulesOf service.now rules → IfOk result (λ done. HasServed service.now done) }
+    ensures { AreSettingsOf service.now rules (option_map (λ secret. secret.items) secret)
+        → IfOk result (HasServed service.now) }
 {
     let message = wire::receive_first(rt.alloc(), service.mechanism(), input)?;
     let claimed = claimed_user(rt.alloc(), service.mechanism(), &message)?;
@@ -278,7 +293,8 @@ where
     I: BufRead,
     O: Write,
     E: Write,
-    ensures { IsServerAsked service.now server → IfOk result (λ done. HasServed service.now done) }
+    ensures { (claimed : Option (List ℕ)) → IsClaim service.now message.now claimed
+        → IsServerAsked service.now claimed server → IfOk result (HasServed service.now) }
 {
     let alloc = rt.alloc();
     let mut server = Box::new(alloc, server)?;
@@ -298,7 +314,7 @@ fn exchange<I: BufRead, O: Write>(
     input: &mut I,
     output: &mut O,
 ) -> Result<(), Stop>
-    ensures { OnOk result (HasAccepted server.old server.new) }
+    ensures { OnOk result (HasAccepted message.now server.old server.new) }
 {
     challenge(alloc, server, message, nonce, output)?;
     conclude(alloc, server, input, output)?;
