@@ -7,6 +7,6 @@ abbrev pub IsNumber : List ℕ → Type 0
 IsNumber text = IsNumeral 10 (without_leading_plus text) × (digits_value 10 (without_leading_plus text) < 2 ^ 32)
 
 -- the number of an option: that of its text, or this one if the text is no number
-abbrev pub IsCount : List ℕ → ℕ → ℕ → Type 0
-IsCount text otherwise count = (IsNumber text → count ≡ digits_value 10 (without_leading_plus text))
+abbrev pub IsCountOf : List ℕ → ℕ → ℕ → Type 0
+IsCountOf text otherwise count = (IsNumber text → count ≡ digits_value 10 (without_leading_plus text))
     × (¬ IsNumber text → count ≡ otherwise)

@@ -70,7 +70,8 @@ AreSettingsOf service rules secret = AreRulesOf service rules × (IsSome secret 
 
 -- a server that these arguments ask for, which has sent nothing: of the lines of the user of a claimed name, in the text of a
 -- file or of a database, and of no others; with the rights of that user; and with mock records by this secret, if any
-pub record IsServerFor (service : Service) (held claimed secret : Option (List ℕ)) (server : ScramAuthenticator Store) : Type 0 where
+pub record IsServerFor (service : Service) (held claimed secret : Option (List ℕ)) (server : ScramAuthenticator Store)
+    : Type 0 where
   pub own : List ℕ
   pub lines : AreLinesFor service.saslprep held claimed own
   pub users : AreUsers service.version own (provider_in server)
@@ -80,7 +81,7 @@ pub record IsServerFor (service : Service) (held claimed secret : Option (List �
   pub mock : option_map (λ mock. mock.secret) (mock_in server) ≡ secret
   pub state : state_in server ≡ Initial
 
--- such a server, of some text and with some secret
+-- a server that these arguments ask for, of some text and with some secret
 abbrev pub IsServerAsked : Service → Option (List ℕ) → ScramAuthenticator Store → Type 0
 IsServerAsked service claimed server = (held : Option (List ℕ)) × (secret : Option (List ℕ))
     × IsServerFor service held claimed secret server

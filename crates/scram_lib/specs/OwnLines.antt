@@ -23,9 +23,9 @@ AreLinesAs text name other own = (lines : List (List ℕ)) × (text ≡ concat l
     × (own ≡ flat_map (line_as (head_of name) (head_of other)) lines)
 
 -- the text of the file of lines that a source is; none for a database
-abbrev pub text_in : {D : Type 0} → Source D → Option (List ℕ)
-text_in (sources.Text text) = Some (string_bytes text)
-text_in (sources.Database db) = None
+abbrev pub source_text : {D : Type 0} → Source D → Option (List ℕ)
+source_text (sources.Text text) = Some (string_bytes text)
+source_text (sources.Database db) = None
 
 -- the text of a file of lines, or one that a database gives for a name
 abbrev pub IsHeld : Option (List ℕ) → List ℕ → Type 0

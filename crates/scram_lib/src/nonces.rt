@@ -1,7 +1,7 @@
 //! Nonces: 32 random bytes, or those of an argument, for tests.
 
 ghost use Rattle.std.specs.Prelude.{ℕ, List, IfOk, OnOk, option_map};
-ghost use Rattle.scram_lib.specs.Nonces.{IsNonce};
+ghost use Rattle.scram_lib.specs.Nonces.{IsNonceFor};
 
 use hex::FromHex;
 use scram_base_lib::stop::Stop;
@@ -29,7 +29,7 @@ impl<R: RandomSource> Random for R {
 
 /// Returns the nonce of the argument, or a random one.
 pub fn nonce<R: Random>(rt: &R, word: Option<&str>) -> Result<[u8; 32], Stop>
-    ensures { IfOk result (IsNonce (R.gives rt.now) (option_map (λ digits. digits.now) word.entry)) }
+    ensures { IfOk result (IsNonceFor (R.gives rt.now) (option_map (λ digits. digits.now) word.entry)) }
 {
     match word {
         Some(digits) => <[u8; 32] as FromHex>::from_hex(digits).map_err(|_| Stop::WrongNonce),

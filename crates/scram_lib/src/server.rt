@@ -7,7 +7,7 @@ ghost use Rattle.fe2o3_scram.specs.ScramServer.{ChallengesFrom, ConcludesFrom, p
 ghost use Rattle.mock_secret.specs.Secrets.{IsRead};
 ghost use Rattle.scram_lib.specs.Acting.{AreRightsOf, names_both};
 ghost use Rattle.scram_lib.specs.Done.{AreRulesOf, AreSettingsOf, AreUsers, HasAccepted, IsClaim, IsMessage, IsSameServer, IsServerAsked, IsServerFor, HasServed, provider_of};
-ghost use Rattle.scram_lib.specs.OwnLines.{AreLinesFor, text_in};
+ghost use Rattle.scram_lib.specs.OwnLines.{AreLinesFor, source_text};
 
 mod acting;
 mod login_line;
@@ -174,7 +174,7 @@ pub(crate) fn server_for<R: AllocGlobal, D: Database<R>>(
     claimed: Option<&str>,
 ) -> Result<ScramAuthenticator<RecordStore>, Stop>
     ensures { AreSettingsOf service.now rules (option_map (λ secret. secret.items) secret) → IfOk result
-        (IsServerFor service.now (text_in source.now) (option_map (λ sent. sent.now) claimed.entry)
+        (IsServerFor service.now (source_text source.now) (option_map (λ sent. sent.now) claimed.entry)
         (option_map (λ secret. secret.items) secret)) }
 {
     let own = source.lines_for(rt, service, claimed)?;

@@ -2,7 +2,7 @@
 
 ghost use Rattle.std.specs.Prelude.{◌≡◌, ℕ, List, true, false, Some, None, IfOk, codes, is_some, map, option_map};
 ghost use Rattle.clap.specs.Matches.{first_value, found_of, matched_of, one_text, raw_values};
-ghost use Rattle.scram_lib.specs.Counts.{IsCount};
+ghost use Rattle.scram_lib.specs.Counts.{IsCountOf};
 ghost use Rattle.scram_lib.specs.Done.{IsDone};
 
 use crate::client::{Login, log_in};
@@ -264,7 +264,7 @@ fn login<'a>(matches: &ArgMatches<'a>) -> Login<'a>
         → result.strict ≡ true }
     ensures default_min { one_text (found_of matches.now) (codes "min-iterations") ≡ None → result.min_iterations ≡ 4096 }
     ensures typed_min { (text : List ℕ) → one_text (found_of matches.now) (codes "min-iterations") ≡ Some text
-        → IsCount text 4096 result.min_iterations }
+        → IsCountOf text 4096 result.min_iterations }
 {
     Login {
         version: version_of(matches, "M").unwrap_or(ScramVersion::Sha256),
@@ -289,7 +289,7 @@ fn max_iterations(matches: &ArgMatches<'_>) -> u32 {
 /// Returns the number of an option, or this one if the option is absent.
 fn count_of(matches: &ArgMatches<'_>, id: &str, otherwise: u32) -> u32
     ensures absent { one_text (found_of matches.now) id.now ≡ None → result ≡ otherwise }
-    ensures typed { (text : List ℕ) → one_text (found_of matches.now) id.now ≡ Some text → IsCount text otherwise result }
+    ensures typed { (text : List ℕ) → one_text (found_of matches.now) id.now ≡ Some text → IsCountOf text otherwise result }
 {
     matches.get_one::<u32>(id).unwrap_or(otherwise)
 }

@@ -1,7 +1,7 @@
 //! Where the records of a server are, of which it holds only those of the user that a client claims.
 
 ghost use Rattle.std.specs.Prelude.{◌≡◌, ◌++◌, IfOk, OnOk, option_map, string_bytes};
-ghost use Rattle.scram_lib.specs.OwnLines.{AreLinesAs, AreLinesFor, head_of, line_as, text_in};
+ghost use Rattle.scram_lib.specs.OwnLines.{AreLinesAs, AreLinesFor, head_of, line_as, source_text};
 
 use crate::form::{Form, has_several};
 use crate::server::Service;
@@ -46,7 +46,7 @@ impl<'a, D> Source<'a, D> {
     ) -> Result<String, Stop>
     where
         D: Database<R>,
-        ensures { IfOk result (λ own. AreLinesFor service.now.saslprep (text_in self.now)
+        ensures { IfOk result (λ own. AreLinesFor service.now.saslprep (source_text self.now)
             (option_map (λ sent. sent.now) claimed.entry) (string_bytes own)) }
     {
         let alloc = rt.alloc();
