@@ -31,16 +31,9 @@ impl<R: RandomSource> Random for R {
 pub fn nonce<R: Random>(rt: &R, word: Option<&str>) -> Result<[u8; 32], Stop>
     ensures { IfOk result (IsNonceFor (R.gives rt.now) (option_map (λ digits. digits.now) word.entry)) }
 {
-    match word {
-        Some(digits) => <[u8; 32] as FromHex>::from_hex(digits).map_err(|_| Stop::WrongNonce),
-        None => random_nonce(rt),
+    if let Some(digits) = word {
+        return <[u8; 32] as FromHex>::from_hex(digits).map_err(|_| Stop::WrongNonce);
     }
-}
-
-/// Returns 32 random bytes.
-fn random_nonce<R: Random>(rt: &R) -> Result<[u8; 32], Stop>
-    ensures { IfOk result (R.gives rt.now) }
-{
     let mut bytes = [0; 32];
     rt.fill(&mut bytes).map_err(Stop::of_random)?;
     Ok(bytes)

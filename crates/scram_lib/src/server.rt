@@ -1,30 +1,29 @@
 //! `server`: the server side of a login, for the users of a file. The input has the client's messages.
 
-ghost use Rattle.std.specs.Prelude.{◌≡◌, ◌↔◌, ℕ, List, Option, Ok, Some, None, IsSome, IfOk, IfSome, OnOk, false, is_some, true, map, option_map};
+ghost use Rattle.std.specs.Prelude.{◌≡◌, ◌↔◌, ℕ, List, Option, Ok, Some, IsSome, IfOk, IfSome, OnOk, false, is_some, true, map, option_map};
 ghost use Rattle.std.specs.List.{list_all};
 ghost use Rattle.fe2o3_scram.specs.ChannelBinding.{mechanism_of};
-ghost use Rattle.fe2o3_scram.specs.ScramServer.{ChallengesFrom, ConcludesFrom, provider_in, rights_in, rules_in, mock_in, state_in};
+ghost use Rattle.fe2o3_scram.specs.ScramServer.{ChallengesFrom, ConcludesFrom, provider_in, rights_in, rules_in, state_in};
 ghost use Rattle.mock_secret.specs.Secrets.{IsRead};
-ghost use Rattle.scram_lib.specs.Acting.{AreRightsOf, names_both};
+ghost use Rattle.scram_lib.specs.Acting.{names_both};
 ghost use Rattle.scram_lib.specs.Done.{AreRulesOf, AreSettingsOf, AreUsers, HasAccepted, IsClaim, IsMessage, IsSameServer, IsServerAsked, IsServerFor, HasServed, provider_of};
-ghost use Rattle.scram_lib.specs.OwnLines.{AreLinesFor, source_text};
+ghost use Rattle.scram_lib.specs.OwnLines.{source_text};
 
 mod acting;
 mod login_line;
-pub mod mock;
+mod mock;
 mod names;
 pub mod source;
 
 use crate::done::Done;
-use crate::form::Form;
 use crate::server::login_line::login_line;
-use crate::server::mock::hide;
+use crate::server::mock::with_mock;
 use crate::server::source::Source;
 use crate::{frames, nonces};
 use fe2o3_sasl_negotiation::{AuthenticatedUser, claimed_user};
 use fe2o3_scram::{
-    ActingRights, MultiRecordStore, RecordStore, ScramAuthenticator, ScramVersion, ServerError,
-    ServerRules, ServerScramErrorKind,
+    MultiRecordStore, RecordStore, ScramAuthenticator, ScramVersion, ServerError, ServerRules,
+    ServerScramErrorKind,
 };
 use mock_secret::secret_of;
 use scram_base_lib::channel::server_rules;
@@ -177,52 +176,17 @@ pub(crate) fn server_for<R: AllocGlobal, D: Database<R>>(
         (IsServerFor service.now (source_text source.now) (option_map (λ sent. sent.now) claimed.entry)
         (option_map (λ secret. secret.items) secret)) }
 {
+    let alloc = rt.alloc();
     let own = source.lines_for(rt, service, claimed)?;
     let text = match source {
         Source::Text(text) => text.as_str(),
         Source::Database(_) => own.as_str(),
     };
-    let rights = service.rights(rt.alloc(), claimed)?;
     let form = source.form(rt, service)?;
-    server(rt.alloc(), service, rules, rights, secret, form, text, &own)
-}
-
-/// Returns the server of the users in these lines of a text, with these rules and these rights. Mock records have this form.
-fn server(
-    alloc: Global,
-    service: &Service<'_, '_>,
-    rules: ServerRules,
-    rights: ActingRights,
-    secret: Option<Vec<u8>>,
-    form: Form,
-    text: &str,
-    own: &str,
-) -> Result<ScramAuthenticator<RecordStore>, Stop>
-    ensures { AreSettingsOf service.now rules (option_map (λ secret. secret.items) secret) → (held claimed : Option (List ℕ))
-        → AreLinesFor service.now.saslprep held claimed own.now → AreRightsOf service.now.saslprep
-        (option_map (λ words. map (λ word. word.now) words.now) service.now.may_act) claimed rights
-        → IfOk result (IsServerFor service.now held claimed (option_map (λ secret. secret.items) secret)) }
-{
-    let users = users_of(alloc, service, text, own)?;
+    let rights = Arc::new(alloc, service.rights(alloc, claimed)?)?;
+    let users = users_of(alloc, service, text, &own)?;
     let server = with_mock(ScramAuthenticator::new(users), secret, form);
-    let rights = Arc::new(alloc, rights)?;
     Ok(server.with_rules(rules).with_acting_rights(rights))
-}
-
-/// Returns this server, with mock authentication if there is a secret. Mock records have this form.
-fn with_mock(
-    server: ScramAuthenticator<RecordStore>,
-    secret: Option<Vec<u8>>,
-    form: Form,
-) -> ScramAuthenticator<RecordStore>
-    ensures secret { mock_in server ≡ None → option_map (λ mock. mock.secret) (mock_in result)
-        ≡ option_map (λ secret. secret.items) secret }
-    ensures same { (provider_in result ≡ provider_in server) × (state_in result ≡ state_in server) }
-{
-    match secret {
-        Some(secret) => hide(server, secret, form),
-        None => server,
-    }
 }
 
 /// Parses the users in these lines of a text that have records for the mechanism. The error at a malformed line is that of
