@@ -129,10 +129,6 @@ HasLoggedIn login (dones.Client client) = (fresh : ClientSide) × IsClientAsked 
 HasLoggedIn login (dones.ClientOfFrames side) = (client_side (box_value side)).progress ≡ Authenticated
 HasLoggedIn login done = ⊥
 
--- the server of a side
-abbrev pub acceptor_of : ServerConnectionSide (ScramAuthenticator Store) → ScramAuthenticator Store
-acceptor_of side = (server_side (λ server. server) side).state
-
 -- a server's side waits for its client
 abbrev pub IsWaiting : ServerConnectionSide (ScramAuthenticator Store) → Type 0
 IsWaiting side = (server_side (λ server. server) side).progress ≡ InProgress
