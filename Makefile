@@ -27,7 +27,7 @@ check: kit
 # each other in a circle, no name of specs/ has two meanings, and no line is too wide; which functions make a meter or hash;
 # the programs that the borrow checker has to reject; and the tests of these tools.
 LINT = gate/refused generate/audit_pages $(patsubst tools/%.py,%,$(wildcard tools/gate/tests/*.py)) \
-    gate/layout gate/meters gate/circles gate/names gate/quoted generate/header generate/notices generate/signatures
+    gate/layout gate/meters gate/stores gate/circles gate/names gate/quoted generate/header generate/notices generate/signatures
 LINT += gate/prose gate/pages gate/versions gate/links gate/theorem_links gate/widths
 
 # The models that made the rows of tests: those that need a few seconds, and those that need a minute, GNU libidn

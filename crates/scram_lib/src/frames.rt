@@ -1,9 +1,10 @@
 //! `--frames`: a login over the bytes of an AMQP connection.
 
-ghost use Rattle.std.specs.Prelude.{◌≡◌, IfOk, IfSome, OnOk, box_value};
+ghost use Rattle.std.specs.Prelude.{◌≡◌, [], IfOk, IfSome, OnOk, box_value};
 ghost use Rattle.fe2o3_sasl_core.specs.Profiles.{ScramProfile};
-ghost use Rattle.fe2o3_sasl_negotiation.specs.Sides.{client_side, server_side, connection_side};
+ghost use Rattle.fe2o3_sasl_negotiation.specs.Sides.{acceptor_in, client_side, server_side, connection_side};
 ghost use Rattle.fe2o3_sasl_negotiation.specs.declared.progress.Progress.TheVariants.{Authenticated};
+ghost use Rattle.fe2o3_scram.specs.ScramServer.{provider_in, rules_in};
 ghost use Rattle.scram_lib.specs.Done.{HasLoggedIn, HasServed, IsWaiting};
 
 use crate::client::Login;
@@ -163,7 +164,8 @@ where
     ensures { IfOk result (λ done. HasServed service.now done) }
 {
     let alloc = rt.alloc();
-    let mut opener = Box::new(alloc, opener(alloc, service, rules))?;
+    let opener = opener(alloc, service, rules);
+    let mut opener = Box::new(alloc, ServerNegotiation::new(alloc, opener))?;
     let claimed = receive_init(rt, service, &mut *opener, input, output)?;
     let server = server_for(rt, service, rules, secret, source, claimed.as_deref())?;
     let mut server = Box::new(alloc, continued(alloc, &opener, server)?)?;
@@ -173,10 +175,16 @@ where
     Ok(Done::ServerOfFrames(server))
 }
 
-/// Returns a server's side without users, which offers the mechanism.
-fn opener(alloc: Global, service: &Service<'_, '_>, rules: ServerRules) -> Side {
-    let nobody = RecordStore::new(alloc, service.version);
-    ServerNegotiation::new(alloc, ScramAuthenticator::new(nobody).with_rules(rules))
+/// Returns a server without users, which answers up to the client's init.
+fn opener(
+    alloc: Global,
+    service: &Service<'_, '_>,
+    rules: ServerRules,
+) -> ScramAuthenticator<RecordStore>
+    ensures rules { rules_in result ≡ rules }
+    ensures nobody { provider_in result ≡ record { version = service.now.version; records = [] } }
+{
+    ScramAuthenticator::new(RecordStore::new(alloc, service.version)).with_rules(rules)
 }
 
 /// Answers the client up to its init, and returns the user name that the init claims, if any. The init is not taken.
@@ -244,6 +252,7 @@ fn continued(
     server: ScramAuthenticator<RecordStore>,
 ) -> Result<Side, Stop>
     requires { IsWaiting opener.now }
+    ensures { IfOk result (λ side. acceptor_in side ≡ server) }
 {
     match ServerNegotiation::restore(alloc, server, &opener.snapshot()) {
         Ok(side) => Ok(side),

@@ -1,7 +1,8 @@
 //! The task that the arguments ask for.
 
-ghost use Rattle.std.specs.Prelude.{◌≡◌, true, false, Some, None, IfOk, codes, is_some, map, option_map};
+ghost use Rattle.std.specs.Prelude.{◌≡◌, ℕ, List, true, false, Some, None, IfOk, codes, is_some, map, option_map};
 ghost use Rattle.clap.specs.Matches.{first_value, found_of, matched_of, one_text, raw_values};
+ghost use Rattle.scram_lib.specs.Counts.{IsCountOf};
 ghost use Rattle.scram_lib.specs.Done.{IsDone};
 
 use crate::client::{Login, log_in};
@@ -261,14 +262,15 @@ fn login<'a>(matches: &ArgMatches<'a>) -> Login<'a>
         → result.channel_not_offered ≡ true }
     ensures strict { (one_text (found_of matches.now) (codes "strict") ≡ Some (codes "true"))
         → result.strict ≡ true }
+    ensures default_min { one_text (found_of matches.now) (codes "min-iterations") ≡ None → result.min_iterations ≡ 4096 }
+    ensures typed_min { (text : List ℕ) → one_text (found_of matches.now) (codes "min-iterations") ≡ Some text
+        → IsCountOf text 4096 result.min_iterations }
 {
     Login {
         version: version_of(matches, "M").unwrap_or(ScramVersion::Sha256),
         user: text(matches, "USER"),
         acts_for: matches.get_str("acts-for"),
-        min_iterations: matches
-            .get_one::<u32>("min-iterations")
-            .unwrap_or(DEFAULT_SCRAM_ITERATIONS),
+        min_iterations: count_of(matches, "min-iterations", DEFAULT_SCRAM_ITERATIONS),
         max_iterations: max_iterations(matches),
         keys: matches.get_str("keys"),
         channel: matches.get_str("channel"),
@@ -281,9 +283,15 @@ fn login<'a>(matches: &ArgMatches<'a>) -> Login<'a>
 
 /// Returns the maximum iteration count, or its default.
 fn max_iterations(matches: &ArgMatches<'_>) -> u32 {
-    matches
-        .get_one::<u32>("max-iterations")
-        .unwrap_or(1_000_000)
+    count_of(matches, "max-iterations", 1_000_000)
+}
+
+/// Returns the number of an option, or this one if the option is absent.
+fn count_of(matches: &ArgMatches<'_>, id: &str, otherwise: u32) -> u32
+    ensures absent { one_text (found_of matches.now) id.now ≡ None → result ≡ otherwise }
+    ensures typed { (text : List ℕ) → one_text (found_of matches.now) id.now ≡ Some text → IsCountOf text otherwise result }
+{
+    matches.get_one::<u32>(id).unwrap_or(otherwise)
 }
 
 /// Returns the arguments of `server`.
