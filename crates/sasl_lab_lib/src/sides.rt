@@ -14,7 +14,8 @@ use crate::sides::half::{Given, Half};
 use crate::sides::sentences::sentence_of;
 use fe2o3_sasl::audit::{AuditError, Finding, FindingKind, Verdict, audit_limited};
 use fe2o3_sasl::{scram_client_run_limited, scram_server_run};
-use fe2o3_scram::{MultiRecordStore, RecordStore, ScramCredentialProvider, ScramVersion, saslprep};
+use fe2o3_scram::{MultiRecordStore, RecordStore, ScramCredentialProvider, ScramVersion};
+use saslprep::Unassigned;
 use scram_base_lib::audited::Audited;
 use scram_base_lib::explain::body_of;
 use scram_base_lib::stop::Stop;
@@ -53,9 +54,9 @@ where
     O: Write,
 {
     let alloc = rt.alloc();
-    let password = input::password(alloc, input)?;
-    if saslprep(password.as_str()).is_err() {
-        return Err(Stop::WrongPassword);
+    let password = input::password(alloc, input, Unassigned::Allowed)?;
+    if !password.as_str().is_ascii() {
+        return Err(Stop::NotAscii);
     }
     let users = lines::users(rt, asked.file)?;
     let mut sides = Sides {

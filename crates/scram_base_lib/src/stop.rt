@@ -376,11 +376,11 @@ impl From<ScramErrorKind> for Stop {
     }
 }
 
-impl From<Rejection> for Stop {
-    fn from(reason: Rejection) -> Stop {
-        match reason {
-            Rejection::Scram(ServerScramErrorKind::OutOfMemory) => Stop::OutOfMemory,
-            _ => Stop::Rejected(reason),
+impl From<ServerScramErrorKind> for Stop {
+    fn from(kind: ServerScramErrorKind) -> Stop {
+        match kind {
+            ServerScramErrorKind::OutOfMemory => Stop::OutOfMemory,
+            _ => Stop::Rejected(Rejection::Scram(kind)),
         }
     }
 }

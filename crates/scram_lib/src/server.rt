@@ -10,15 +10,17 @@ mod acting;
 mod login_line;
 pub mod mock;
 mod names;
+pub(crate) mod rejected;
 pub mod source;
 
 use crate::done::Done;
 use crate::form::Form;
 use crate::server::login_line::login_line;
 use crate::server::mock::hide;
+use crate::server::rejected::{reason_of, tell_rejected};
 use crate::server::source::Source;
 use crate::{frames, nonces};
-use fe2o3_sasl_negotiation::{AuthenticatedUser, claimed_user};
+use fe2o3_sasl_negotiation::{AuthenticatedUser, FrameView, Rejection, claimed_user};
 use fe2o3_scram::{
     ActingRights, MultiRecordStore, RecordStore, ScramAuthenticator, ScramVersion, ServerError,
     ServerRules, ServerScramErrorKind,
@@ -77,7 +79,7 @@ pub struct Service<'a, 'm> {
     pub frames: bool,
 }
 
-/// Serves a login, and prints on the errors who has logged in.
+/// Serves a login, and prints on the errors who has logged in, or whose login is rejected.
 pub fn serve<R, I, O, E, D>(
     rt: &R,
     db: &D,
@@ -260,7 +262,11 @@ where
     let message = wire::receive_first(rt.alloc(), service.mechanism(), input)?;
     let claimed = claimed_user(rt.alloc(), service.mechanism(), &message)?;
     let server = server_for(rt, service, rules, secret, source, claimed.as_deref())?;
-    log_in(rt, service, server, &message, input, output, errors)
+    let done = log_in(rt, service, server, &message, input, output, errors);
+    if let Err(stop) = &done {
+        tell_rejected(rt.alloc(), service, claimed.as_deref(), stop, errors)?;
+    }
+    done
 }
 
 /// Answers the messages of a login, of which the first is received.
@@ -318,7 +324,12 @@ fn challenge<O: Write>(
     ensures keeps { IsSameServer server.old server.new }
 {
     let answer = server.compute_server_first_message(alloc, message, nonce);
-    reply(alloc, answer, output)
+    let frame = FrameView::Init {
+        mechanism: server.mechanism(),
+        initial_response: Some(message),
+        hostname: None,
+    };
+    with_reason(alloc, server, &frame, reply(alloc, answer, output))
 }
 
 /// Answers the client's response with the signature. After `Ok` the server has accepted a proof.
@@ -334,7 +345,23 @@ fn conclude<I: BufRead, O: Write>(
 {
     let message = wire::receive(alloc, input)?;
     let answer = server.compute_server_final_message(alloc, &message);
-    reply(alloc, answer, output)
+    let frame = FrameView::Response(&message);
+    with_reason(alloc, server, &frame, reply(alloc, answer, output))
+}
+
+/// Returns what became of a reply. If the server has rejected the frame, the error has the library's reason.
+fn with_reason(
+    alloc: Global,
+    server: &ScramAuthenticator<RecordStore>,
+    frame: &FrameView<'_>,
+    replied: Result<(), Stop>,
+) -> Result<(), Stop>
+    ensures { OnOk result (replied ≡ Ok tt) }
+{
+    match replied {
+        Err(Stop::Rejected(_)) => Err(Stop::Rejected(reason_of(alloc, server, frame)?)),
+        other => other,
+    }
 }
 
 /// Sends an answer, or the error (RFC 5802, section 7, `server-error`).
@@ -349,7 +376,7 @@ fn reply<O: Write>(
         Ok(Some(message)) => wire::send(alloc, output, &message),
         Ok(None) => {
             wire::send(alloc, output, b"e=unknown-user")?;
-            Err(Stop::UnknownUser)
+            Err(Stop::Rejected(Rejection::UnknownUser))
         }
         Err(kind) => {
             wire::send(alloc, output, ServerError::of(kind).message().as_bytes())?;
