@@ -23,34 +23,24 @@ use std::rt::{Clock, Files};
 pub struct Login<'a> {
     /// The mechanism.
     pub version: ScramVersion,
-
     /// The user name, not escaped.
     pub user: &'a str,
-
     /// The identity that the client asks to act for, not escaped, if any.
     pub acts_for: Option<&'a str>,
-
     /// The minimum iteration count that the client accepts.
     pub min_iterations: u32,
-
     /// The maximum iteration count that the client accepts.
     pub max_iterations: u32,
-
     /// The key file, if any.
     pub keys: Option<&'a str>,
-
     /// The channel that the client binds, `KIND:HEX`, if any.
     pub channel: Option<&'a str>,
-
     /// Whether the client has a channel, but was offered no mechanism with `-PLUS`. It has no effect beside `channel`.
     pub channel_not_offered: bool,
-
     /// Whether the client is strict.
     pub strict: bool,
-
     /// The nonce in hexadecimal, or `None` for a random one.
     pub nonce: Option<&'a str>,
-
     /// Whether the input has the bytes of an AMQP connection in place of lines.
     pub frames: bool,
 }

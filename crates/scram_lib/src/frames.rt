@@ -54,33 +54,6 @@ where
     Ok(received)
 }
 
-/// Passes bytes to a side and from it until the login ends, and returns its progress.
-fn carry<R, E, K, I, O>(
-    rt: &R,
-    side: &mut ConnectionSide<E, K>,
-    word: Option<&str>,
-    sent: &mut BytesMut,
-    input: &mut I,
-    output: &mut O,
-) -> Result<Progress, Stop>
-where
-    R: RandomSource + AllocGlobal,
-    E: Endpoint<K>,
-    K: Role,
-    I: BufRead,
-    O: Write,
-    ensures { IfOk result (λ progress. progress ≡ (connection_side E.state side.new).progress) }
-{
-    send(output, sent).map_err(Stop::of_output)?;
-    for _ in 0..u64::MAX {
-        let received = pass(rt, side, word, sent, input, output)?;
-        if received.taken == 0 || received.progress != Progress::InProgress {
-            return Ok(received.progress);
-        }
-    }
-    Err(Stop::Ended)
-}
-
 /// Sends the pending bytes.
 fn send<O: Write>(output: &mut O, sent: &mut BytesMut) -> Written<()> {
     output.write_all(sent.as_slice())?;
@@ -124,12 +97,18 @@ where
 {
     let mut sent = BytesMut::new(rt.alloc());
     ClientNegotiation::open(&mut sent)?;
-    match carry(rt, client, login.nonce, &mut sent, input, output)? {
-        Progress::Authenticated => Ok(()),
-        Progress::InProgress => Err(Stop::Ended),
-        Progress::Failed(CloseReason::Refused(_)) => Err(Stop::RefusedByServer),
-        Progress::Failed(why) => Err(Stop::Closed(why)),
+    send(output, &mut sent).map_err(Stop::of_output)?;
+    for _ in 0..u64::MAX {
+        let received = pass(rt, client, login.nonce, &mut sent, input, output)?;
+        match received.progress {
+            Progress::Authenticated => return Ok(()),
+            Progress::Failed(CloseReason::Refused(_)) => return Err(Stop::RefusedByServer),
+            Progress::Failed(why) => return Err(Stop::Closed(why)),
+            Progress::InProgress if received.taken == 0 => return Err(Stop::Ended),
+            Progress::InProgress => {}
+        }
     }
+    Err(Stop::Ended)
 }
 
 /// Returns the client's side. Its mechanism is that of the client, with its channel.

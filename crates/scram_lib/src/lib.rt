@@ -63,41 +63,21 @@ where
     requires { A.IsAlwaysCallable audit }
     ensures { result ≤ 4 }
 {
+    let parsed = match manual(rt.alloc()) {
+        Ok(manual) => manual.try_get_matches_from(words),
+        Err(_) => return tell(Stop::OutOfMemory, errors),
+    };
+    let matches = match parsed {
+        Ok(matches) => matches,
+        Err(error) => return show(&error, output, errors),
+    };
     let mut streams = Streams {
         is_terminal,
         input,
         output,
         db,
     };
-    let ended = read_words(rt, words, &mut streams, errors, audit);
-    match ended {
-        Ok(status) => status,
-        Err(stop) => tell(stop, errors),
-    }
-}
-
-/// Reads the words, does what they ask, and returns the exit status.
-fn read_words<R, I, O, E, A, D>(
-    rt: &R,
-    words: &[String],
-    streams: &mut Streams<'_, '_, I, O, D>,
-    errors: &mut E,
-    audit: A,
-) -> Result<u8, Stop>
-where
-    R: Files + Clock + RandomSource + AllocGlobal,
-    I: BufRead,
-    O: Write,
-    E: Write,
-    A: FnOnce(&R, &Audited<'_>, &mut I, &mut O) -> Result<(), Stop>,
-    D: Database<R>,
-    requires { A.IsAlwaysCallable audit }
-    ensures { IfOk result (λ status. status ≤ 4) }
-{
-    match manual(rt.alloc())?.try_get_matches_from(words) {
-        Ok(matches) => Ok(obey(rt, &matches, streams, errors, audit)),
-        Err(error) => show(&error, streams.output, errors),
-    }
+    obey(rt, &matches, &mut streams, errors, audit)
 }
 
 /// Does what the parsed words ask, and returns the exit status.
@@ -186,20 +166,23 @@ fn prompt<E: Write>(is_terminal: bool, echo: Option<bool>, errors: &mut E) -> Re
     }
 }
 
-/// Prints help or the version, which were asked for, to the output, and a mistake in the words to the errors.
-fn show<O: Write, E: Write>(error: &clap::Error, output: &mut O, errors: &mut E) -> Result<u8, Stop>
-    ensures { IfOk result (λ status. status ≤ 4) }
+/// Prints help or the version, which were asked for, to the output, and a mistake in the words to the errors. Returns the
+/// exit status.
+fn show<O: Write, E: Write>(error: &clap::Error, output: &mut O, errors: &mut E) -> u8
+    ensures { result ≤ 4 }
 {
     if error.kind() == ErrorKind::OutOfMemory {
-        return Err(Stop::OutOfMemory);
+        return tell(Stop::OutOfMemory, errors);
     }
     if error.use_stderr() {
         // The words are rejected, whether or not that can be written.
         let _ = write!(errors, "{error}");
-        return Ok(2);
+        return 2;
     }
-    write!(output, "{error}").map_err(Stop::of_output)?;
-    Ok(0)
+    match write!(output, "{error}") {
+        Ok(()) => 0,
+        Err(error) => tell(Stop::of_output(error), errors),
+    }
 }
 
 /// Prints why the program stops, and returns the exit status. A server has printed itself that it rejects a login.

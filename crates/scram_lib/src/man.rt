@@ -1,6 +1,6 @@
 //! The manual page, in roff, made from the table of words.
 
-use crate::manual::{ABOUT, USERS};
+use crate::manual::{ABOUT, NOTES, USERS};
 use crate::words::{COMMANDS, Kind, USERS_COMMANDS, Word, Words};
 use std::io::{Result, Write};
 
@@ -69,25 +69,11 @@ scram users check users.txt
 socat TCP\-LISTEN:5000,reuseaddr,fork SYSTEM:\(aqscram server SCRAM\-SHA\-256 users.txt; true\(aq
 (cat password.txt bodies.txt) | scram explain \-\-audit users.txt
 .EE
-.SH EXIT STATUS
-.TP
-0
-Success.
-.TP
-1
-The other side rejects the login or closes.
-.TP
-2
-Wrong arguments, or a password at a terminal without \-\-echo.
-.TP
-3
-This side rejects the login, an audit finds no complete login, or a user or a password is not that of a record.
-.TP
-4
-The input cannot be read or audited, or a file, the output, memory or the random source fails.
-.SH SEE ALSO
-fail2ban\-regex(1), getfacl(1), setfacl(1), socat(1), sqlite3(1); RFC 4013, RFC 5802, RFC 5803, RFC 7677
 "#;
+
+/// What else to read.
+static SEE_ALSO: &str =
+    "fail2ban\\-regex(1), getfacl(1), setfacl(1), socat(1), sqlite3(1); RFC 4013, RFC 5802, RFC 5803, RFC 7677";
 
 /// Prints the manual page.
 pub fn print<O: Write>(output: &mut O) -> Result<()> {
@@ -96,7 +82,10 @@ pub fn print<O: Write>(output: &mut O) -> Result<()> {
     print_commands(output, "scram", &COMMANDS)?;
     write!(output, ".SS scram users\n{USERS}.\n")?;
     print_commands(output, "scram users", &USERS_COMMANDS)?;
-    output.write_all(SECTIONS.as_bytes())
+    write!(
+        output,
+        "{SECTIONS}.SH EXIT STATUS\n{NOTES}\n.SH SEE ALSO\n{SEE_ALSO}\n"
+    )
 }
 
 /// Prints commands.
@@ -114,12 +103,6 @@ fn print_commands<O: Write>(output: &mut O, above: &str, commands: &[Words]) -> 
 /// Prints a word.
 fn print_word<O: Write>(output: &mut O, word: &Word) -> Result<()> {
     let (name, value, help) = (word.name, word.value, word.help);
-    let default = match word.kind {
-        Kind::DefaultMechanism => "; default SCRAM-SHA-256",
-        Kind::Iterations => "; default 4096",
-        Kind::SaltLen => "; default 16",
-        _ => "",
-    };
     match word.kind {
         Kind::Place | Kind::OptionalPlace | Kind::MechanismPlace => write!(
             output,
@@ -131,7 +114,7 @@ fn print_word<O: Write>(output: &mut O, word: &Word) -> Result<()> {
         }
         _ => {
             print_option(output, ".BI", name)?;
-            write!(output, " \" {value}\"\n{help}{default}.\n")
+            write!(output, " \" {value}\"\n{help}.\n")
         }
     }
 }

@@ -14,10 +14,10 @@ pub static ABOUT: &str =
 
 /// What applies to every command.
 pub static NOTES: &str = "\
-A password is the first line of standard input, never an argument, and is prepared by SASLprep (RFC 4013). A terminal shows
-it, so it is read there only with --echo; scram man shows how to ask for it without an echo. Exit status: 0 success,
-1 the other side rejects the login or closes, 2 wrong arguments, 3 this side rejects the login or an audit finds no
-complete login, 4 the input cannot be read or audited, or a file, the output, memory or the random source fails.";
+A password is the first line of standard input, never an argument; scram man shows how to type one without an echo. Exit
+status: 0 success, 1 the other side rejects the login or closes, 2 wrong arguments, 3 this side rejects the login, an audit
+finds no complete login, or a user or a password is not that of a record, 4 the input cannot be read or audited, or a file,
+the output, memory or the random source fails.";
 
 /// What `users` does.
 pub static USERS: &str = "Manages a file of records, each on a line: NAME RECORD";
@@ -36,10 +36,7 @@ impl Word {
             Kind::Text => self.option(arg),
             Kind::Texts => self.option(arg).action(ArgAction::Append),
             Kind::Mechanism => mechanism(self.option(arg)),
-            Kind::DefaultMechanism => mechanism(self.option(arg)).default_value("SCRAM-SHA-256"),
-            Kind::Iterations => count(self.option(arg)).default_value("4096"),
-            Kind::SaltLen => salt_len(self.option(arg)).default_value("16"),
-            Kind::SaltLenOf => salt_len(self.option(arg)),
+            Kind::SaltLen => salt_len(self.option(arg)),
             Kind::Count => count(self.option(arg)),
             Kind::Seconds => seconds(self.option(arg)),
             Kind::CountOf(other) => return count(self.option(arg)).requires_arg(other),

@@ -41,40 +41,28 @@ use std::sync::Arc;
 pub struct Service<'a, 'm> {
     /// The mechanism.
     pub version: ScramVersion,
-
     /// The file of records.
     pub file: &'a str,
-
     /// Whether the file is a database.
     pub is_db: bool,
-
     /// Whether the names that clients send are prepared by SASLprep before the look-up.
     pub saslprep: bool,
-
     /// Whether an unknown user is answered with an error, and not like a known one.
     pub tells_unknown_users: bool,
-
     /// The channel that clients have to bind, `KIND:HEX`, if any.
     pub channel: Option<&'a str>,
-
     /// Whether the GS2 header `y,,` is accepted too. It has no effect beside `channel`.
     pub accept_y: bool,
-
     /// Whether the server rejects what is no extension in the place of one. A server with a channel does so in any case.
     pub reject_misplaced: bool,
-
     /// Whether a client may name an identity to act for.
     pub accept_authzid: bool,
-
     /// The rights to act for identities, each `USER:IDENTITY`, if any. They have no effect without `accept_authzid`.
     pub may_act: Option<&'m [&'a str]>,
-
     /// Whether the server is strict.
     pub strict: bool,
-
     /// The nonce in hexadecimal, or `None` for a random one.
     pub nonce: Option<&'a str>,
-
     /// Whether the input has the bytes of an AMQP connection in place of lines.
     pub frames: bool,
 }

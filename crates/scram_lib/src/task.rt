@@ -30,10 +30,8 @@ use std::rt::{Clock, Files};
 pub struct Streams<'a, 'd, I, O, D> {
     /// Whether the input is a terminal.
     pub is_terminal: bool,
-
     pub input: &'a mut I,
     pub output: &'a mut O,
-
     /// The databases of `--db`.
     pub db: &'d D,
 }
@@ -43,7 +41,6 @@ pub struct Streams<'a, 'd, I, O, D> {
 pub enum Command<'a, 'm> {
     /// A task of this library.
     Task(Task<'a, 'm>),
-
     /// An audit of both sides of a login, which the caller does.
     Audit(Audited<'a>),
 }
@@ -53,37 +50,26 @@ pub enum Command<'a, 'm> {
 pub enum Task<'a, 'm> {
     /// Prints a record.
     Record(ScramVersion, NewRecord<'a>),
-
     /// Adds a user's records to a file. The flag says that the name may be empty or have spaces at its ends.
     Add(Named<'a>, NewRecord<'a>, bool),
-
     /// Changes a user's password in a file.
     ChangePassword(Named<'a>, NewRecord<'a>),
-
     /// Removes a user's records from a file.
     Remove(Named<'a>),
-
     /// Lists the records of a file.
     List(Listed<'a>),
-
     /// Lists the mechanisms for which all users of a file have records.
     ListHashes(Listed<'a>),
-
     /// Checks a password.
     Check(Named<'a>),
-
     /// Checks whether the records of a file look alike.
     CheckFile(Listed<'a>),
-
     /// Logs in.
     Client(Login<'a>),
-
     /// Serves a login.
     Server(Service<'a, 'm>),
-
     /// Explains messages. The flag says that the lines are frame bodies.
     Explain(bool),
-
     /// Prints the manual page.
     Man,
 }

@@ -15,14 +15,8 @@ pub enum Kind {
     Texts,
     /// An option with the name of a mechanism.
     Mechanism,
-    /// An option with the name of a mechanism, by default SCRAM-SHA-256.
-    DefaultMechanism,
-    /// An option with an iteration count, by default 4096.
-    Iterations,
-    /// An option with the length of a salt, by default 16.
-    SaltLen,
     /// An option with the length of a salt.
-    SaltLenOf,
+    SaltLen,
     /// An option with an iteration count.
     Count,
     /// An option with an iteration count that requires another option.
@@ -42,13 +36,10 @@ pub enum Kind {
 pub struct Word {
     /// The kind.
     pub kind: Kind,
-
     /// The name.
     pub name: &'static str,
-
     /// The placeholder for the value.
     pub value: &'static str,
-
     /// The help text.
     pub help: &'static str,
 }
@@ -58,10 +49,8 @@ pub struct Word {
 pub struct Words {
     /// The name.
     pub name: &'static str,
-
     /// What the command does.
     pub about: &'static str,
-
     /// The words of the command.
     pub words: &'static [Word],
 }
@@ -100,7 +89,7 @@ const TAKEN_ITERATIONS: Word =
     for the mechanism, 4096 in a new file; warns of another");
 
 const TAKEN_SALT_LENGTH: Word =
-    word!(SaltLenOf "salt-length" "N" "The length of the salt in bytes; default that of the \
+    word!(SaltLen "salt-length" "N" "The length of the salt in bytes; default that of the \
     file's first record for the mechanism, 16 in a new file; warns of another");
 
 const SALT: Word = word!(Text "salt" "HEX" "The salt, for tests; default random bytes");
@@ -120,9 +109,9 @@ pub static COMMANDS: [Words; 5] = [
         name: "record",
         about: "Prints the record of a password (RFC 5803)",
         words: &[
-            word!(DefaultMechanism "mechanism" "M" "The mechanism of the record"),
-            word!(Iterations "iterations" "N" "The iteration count"),
-            word!(SaltLen "salt-length" "N" "The length of the salt in bytes"),
+            word!(Mechanism "mechanism" "M" "The mechanism of the record; default SCRAM-SHA-256"),
+            word!(Count "iterations" "N" "The iteration count; default 4096"),
+            word!(SaltLen "salt-length" "N" "The length of the salt in bytes; default 16"),
             SALT,
             NEW_ECHO,
         ],
