@@ -165,7 +165,7 @@ def whole(login, client=(11, 7), server=9, all_of=True):
 
 
 NOTHING = "The two sides have no login in common."
-NOT_AUTHENTICATED = "The client does not authenticate the server that accepts it."
+NOT_AUTHENTICATED = "The server accepted the client, but the client does not verify its signature."
 UNFIT = "The bodies cannot be audited: "
 NONCES = UNFIT + "a nonce is not the base64 of 32 bytes."
 NONE = "the two sides have no login in common"
@@ -381,13 +381,13 @@ def others():
         3,
     )
     bob = Login(user=b"bob", count=1)
-    yield row("A user without a record.", users, apart(bob.bodies, bob.bodies), [], "The user is unknown.", 3)
+    yield row("A user without a record.", users, apart(bob.bodies, bob.bodies), [], "The user has no record for the mechanism.", 3)
     yield row(
         "A record for another mechanism.",
         [Login("SCRAM-SHA-512", count=1).line()],
         apart(alice.bodies, alice.bodies),
         [],
-        "The user is unknown.",
+        "The user has no record for the mechanism.",
         3,
     )
     nonce = body("Challenge", b"r=x" + model.read(alice.challenge)[1][0][2:])
@@ -503,7 +503,7 @@ def unfit():
         users,
         [],
         [],
-        "The password is not printable ASCII.",
+        "The password has a character that SASLprep forbids, such as a tab, or mixes directions of writing.",
         4,
         password="pencil\\t",
     )
@@ -512,7 +512,7 @@ def unfit():
         None,
         [],
         [],
-        "users.txt: The file cannot be read: entity not found. Check its name and its mode.",
+        "users.txt: The file cannot be read: it does not exist. Check its name and its mode.",
         4,
     )
 
