@@ -23,6 +23,8 @@ def claimed(mechanism, message):
     found = FIRST.match(message)
     if not found or found[1].startswith(b"p=") != mechanism.endswith("-PLUS"):
         return "no user"
+    if re.search(rb"=(?!2C|3D)", found[3]):
+        return "no user"
     more = found[4] or b""
     if (found[2] or found[1].startswith(b"p=")) and re.match(rb",[nmrcsipva]=", more):
         return "no user"
