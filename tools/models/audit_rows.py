@@ -131,9 +131,10 @@ def apart(client, server):
     return [("client", it) for it in client] + [("server", it) for it in server]
 
 
-def row(name, users, came, audit, refused=None, status=0, password="pencil", words=(), mark="", last=None):
-    """A run: its users' lines, its bodies with their sides, and what is printed after what they say."""
-    told = [f"> {side}: {line}" for side, data in came for line in explained(data)]
+def row(name, users, came, audit, refused=None, status=0, password="pencil", words=(), mark="", last=None, said=None):
+    """A run: its users' lines, its bodies with their sides, and what is printed after what they say. `said` has the bodies
+    in another order, in which they are explained."""
+    told = [f"> {side}: {line}" for side, data in said or came for line in explained(data)]
     if last is not None:
         came = came + [last[0]]
         told += [f"> {line}" for line in last[1]]
@@ -185,6 +186,17 @@ def logins():
         whole(alice, (6, 4), 10),
         mark="?",
     )
+    once = [(side, it) for it, side in zip(alice.bodies, ("client", "server", "client", "server", "client"))]
+    yield row("What each side received, each frame once.", [alice.line()], once, whole(alice, (6, 4), 5))
+    yield row(
+        "The same, the server's frames first.",
+        [alice.line()],
+        sorted(once, reverse=True, key=lambda it: it[0]),
+        whole(alice, (6, 5), 3),
+        said=once,
+    )
+    bare = once[1:]
+    yield row("The same, without the list of mechanisms.", [alice.line()], bare, whole(alice, (5, 3), 4))
     for mechanism in ("SCRAM-SHA-1", "SCRAM-SHA-512"):
         login = Login(mechanism, count=1)
         yield row(
