@@ -67,7 +67,7 @@ Of fail2ban, this is the failregex: \fB^\es*<ADDR> scram: login rejected: \fP
 scram users add users.txt alice <password.txt
 scram users check users.txt
 socat TCP\-LISTEN:5000,reuseaddr,fork SYSTEM:\(aqscram server SCRAM\-SHA\-256 users.txt; true\(aq
-(cat password.txt bodies.txt) | scram explain \-\-audit users.txt
+cat password.txt bodies.txt | scram explain \-\-audit users.txt
 .EE
 "#;
 
