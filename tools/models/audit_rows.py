@@ -393,7 +393,14 @@ def others():
         3,
     )
     bob = Login(user=b"bob", count=1)
-    yield row("A user without a record.", users, apart(bob.bodies, bob.bodies), [], "The user has no record for the mechanism.", 3)
+    yield row(
+        "A user without a record.",
+        users,
+        apart(bob.bodies, bob.bodies),
+        [],
+        "The user has no record for the mechanism.",
+        3,
+    )
     yield row(
         "A record for another mechanism.",
         [Login("SCRAM-SHA-512", count=1).line()],

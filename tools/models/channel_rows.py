@@ -334,7 +334,9 @@ def strict():
     login = plain("n,,", client_more=",i=1")
     first, challenged, last, signed = login.texts()
     rows.append(server("A server that is not strict.", "", [first, last], [challenged, signed], *LOGGED_IN))
-    rows.append(server("A strict server.", "--strict", [first], ["e=other-error"], *server_refuses("SCRAM: " + MISPLACED)))
+    rows.append(
+        server("A strict server.", "--strict", [first], ["e=other-error"], *server_refuses("SCRAM: " + MISPLACED))
+    )
     login = bound("tls-exporter", client_more=",i=1")
     rows.append(
         server(
@@ -348,7 +350,11 @@ def strict():
     login = plain("y,,", client_more=",i=1")
     rows.append(
         server(
-            "Both options.", "--accept-y --strict", [login.client_first], ["e=other-error"], *server_refuses("SCRAM: " + MISPLACED)
+            "Both options.",
+            "--accept-y --strict",
+            [login.client_first],
+            ["e=other-error"],
+            *server_refuses("SCRAM: " + MISPLACED),
         )
     )
     return [*rows, *misplaced()]
@@ -421,7 +427,13 @@ def misplaced():
     )
     first = plain("n,,", client_more=",i=1")
     rows.append(
-        server("The first message.", option, [first.client_first], ["e=other-error"], *server_refuses("SCRAM: " + MISPLACED))
+        server(
+            "The first message.",
+            option,
+            [first.client_first],
+            ["e=other-error"],
+            *server_refuses("SCRAM: " + MISPLACED),
+        )
     )
     more = plain("n,,", client_more=",x=1", last_more=",y=2")
     rows.append(
@@ -523,11 +535,7 @@ def over_frames():
         )
     )
     rows.append(server_frames("A server that accepts `y,,`.", "--accept-y", client_sent, server_sent, *LOGGED_IN))
-    rows.append(
-        server_frames(
-            "A server that does not.", "", client_sent[:1], [offer(SHA_256), AUTH], *OTHER_CHANNEL
-        )
-    )
+    rows.append(server_frames("A server that does not.", "", client_sent[:1], [offer(SHA_256), AUTH], *OTHER_CHANNEL))
     login = plain("n,,", server_more=",s=AAAA")
     rows.append(
         client_frames(

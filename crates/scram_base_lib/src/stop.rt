@@ -38,7 +38,7 @@ pub enum Stop {
     LongLine,
     #[error("A line of standard input is not UTF-8.")]
     NotText,
-    #[error("Standard input is a terminal, which shows the password. Give --echo, or in bash: IFS= read -rsp 'Password: ' p; scram .. <<<\"$p\"")]
+    #[error("Standard input is a terminal, which shows the password. Give --echo, or in bash: read -rs p; scram .. <<<\"$p\"")]
     Terminal,
     #[error("Standard input is closed.")]
     InputClosed,
@@ -66,7 +66,7 @@ pub enum Stop {
     NotRegular,
     #[error("The file is a link to a file that does not exist. Make that file, or remove the link.")]
     DanglingLink,
-    #[error("This file exists: another program is changing the file, or was interrupted. Wait with --wait, or remove it if no program is.")]
+    #[error("It exists: another program is changing the file, or was interrupted. Wait with --wait, or remove it.")]
     Busy,
     /// The old file stays.
     #[error("The file is not changed: the new one beside it cannot be written: {}. Check the folder and its space.", cause(.0))]
@@ -78,9 +78,9 @@ pub enum Stop {
     Unsynced(ErrorKind),
     #[error("The secret for mock records cannot be used: {0}. Correct its file, or remove it for a new secret.")]
     Secret(SecretError),
-    #[error("The secret for mock records cannot be read: {}. Give the file to the server's user (chown), with mode 0600.", cause(.0))]
+    #[error("The secret for mock records cannot be read: {}. Give the file to the server's user (chown).", cause(.0))]
     SecretUnreadable(ErrorKind),
-    #[error("The secret for mock records cannot be made: {}. Run scram server once as a user who may write the folder, then chown it.", cause(.0))]
+    #[error("The secret for mock records cannot be made: {}. Run scram server once as root, then chown it.", cause(.0))]
     SecretUnwritten(ErrorKind),
     #[error("The database cannot be used: {0}.")]
     Database(DatabaseFault),
@@ -112,7 +112,7 @@ pub enum Stop {
     NotBase64At(u64),
     #[error("Standard input has a line after the four messages.")]
     ExtraLine,
-    #[error("The key file is not a line of keys, as scram client writes it. Name another, or remove it and log in with the password.")]
+    #[error("The key file is not a line of keys. Name another, or remove it and log in with the password.")]
     WrongKeys,
     #[error("The key file is for another mechanism. Use its mechanism, or another file.")]
     OtherMechanism,

@@ -122,8 +122,8 @@ fn negotiation(
     Ok(Box::new(alloc, ClientNegotiation::new(alloc, profile, None))?)
 }
 
-/// Serves a login, and prints on the errors who has logged in, or whose login is rejected. The server is made at the client's init, which claims a
-/// user name.
+/// Serves a login, and prints on the errors who has logged in, or whose login is rejected. The server is made at the
+/// client's init, which claims a user name.
 pub(crate) fn serve<R, I, O, E, D>(
     rt: &R,
     service: &Service<'_, '_>,

@@ -155,7 +155,8 @@ pub static COMMANDS: [Words; 5] = [
                 a mechanism with -PLUS"),
             word!(Flag "reject-misplaced" "" "Rejects text in the place of an extension that is none, as with --channel; use it \
                 beside a server that offers a mechanism with -PLUS"),
-            word!(Flag "accept-authzid" "" "Accepts clients that name an identity to act for; each user may act for its own name"),
+            word!(Flag "accept-authzid" "" "Accepts clients that name an identity to act for; each user may act for its own \
+                name"),
             word!(Texts "may-act" "USER:IDENTITY" "Lets this user act for this identity too, and implies --accept-authzid; can \
                 be repeated"),
             STRICT,
@@ -228,8 +229,8 @@ pub static USERS_COMMANDS: [Words; 5] = [
         words: &[
             FILE,
             DB,
-            word!(Flag "hashes" "" "Prints the mechanisms for which each user has a record, which a server can offer, and nothing \
-                else"),
+            word!(Flag "hashes" "" "Prints the mechanisms for which each user has a record, which a server can offer, and \
+                nothing else"),
         ],
     },
     Words {
