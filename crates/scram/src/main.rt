@@ -15,7 +15,7 @@ use std::{env, io};
 /// Returns the program's arguments, with its own name first.
 fn words<R: Env + AllocGlobal>(rt: &R) -> Result<Vec<String>, Stop> {
     let mut words = Vec::new(rt.alloc());
-    for word in env::args(rt).map_err(Stop::of_input)? {
+    for word in env::args(rt).map_err(Stop::of_words)? {
         words.push(word)?;
     }
     Ok(words)

@@ -13,14 +13,16 @@ mod acting;
 mod login_line;
 mod mock;
 mod names;
+pub(crate) mod rejected;
 pub mod source;
 
 use crate::done::Done;
 use crate::server::login_line::login_line;
 use crate::server::mock::with_mock;
+use crate::server::rejected::{reason_of, tell_rejected};
 use crate::server::source::Source;
 use crate::{frames, nonces};
-use fe2o3_sasl_negotiation::{AuthenticatedUser, claimed_user};
+use fe2o3_sasl_negotiation::{AuthenticatedUser, FrameView, Rejection, claimed_user};
 use fe2o3_scram::{
     MultiRecordStore, RecordStore, ScramAuthenticator, ScramVersion, ServerError, ServerRules,
     ServerScramErrorKind,
@@ -41,45 +43,33 @@ use std::sync::Arc;
 pub struct Service<'a, 'm> {
     /// The mechanism.
     pub version: ScramVersion,
-
     /// The file of records.
     pub file: &'a str,
-
     /// Whether the file is a database.
     pub is_db: bool,
-
     /// Whether the names that clients send are prepared by SASLprep before the look-up.
     pub saslprep: bool,
-
     /// Whether an unknown user is answered with an error, and not like a known one.
     pub tells_unknown_users: bool,
-
     /// The channel that clients have to bind, `KIND:HEX`, if any.
     pub channel: Option<&'a str>,
-
     /// Whether the GS2 header `y,,` is accepted too. It has no effect beside `channel`.
     pub accept_y: bool,
-
     /// Whether the server rejects what is no extension in the place of one. A server with a channel does so in any case.
     pub reject_misplaced: bool,
-
     /// Whether a client may name an identity to act for.
     pub accept_authzid: bool,
-
     /// The rights to act for identities, each `USER:IDENTITY`, if any. They have no effect without `accept_authzid`.
     pub may_act: Option<&'m [&'a str]>,
-
     /// Whether the server is strict.
     pub strict: bool,
-
     /// The nonce in hexadecimal, or `None` for a random one.
     pub nonce: Option<&'a str>,
-
     /// Whether the input has the bytes of an AMQP connection in place of lines.
     pub frames: bool,
 }
 
-/// Serves a login, and prints on the errors who has logged in.
+/// Serves a login, and prints on the errors who has logged in, or whose login is rejected.
 pub fn serve<R, I, O, E, D>(
     rt: &R,
     db: &D,
@@ -239,7 +229,11 @@ where
     let message = wire::receive_first(rt.alloc(), service.mechanism(), input)?;
     let claimed = claimed_user(rt.alloc(), service.mechanism(), &message)?;
     let server = server_for(rt, service, rules, secret, source, claimed.as_deref())?;
-    log_in(rt, service, server, &message, input, output, errors)
+    let done = log_in(rt, service, server, &message, input, output, errors);
+    if let Err(stop) = &done {
+        tell_rejected(rt.alloc(), service, claimed.as_deref(), stop, errors)?;
+    }
+    done
 }
 
 /// Answers the messages of a login, of which the first is received.
@@ -298,7 +292,12 @@ fn challenge<O: Write>(
     ensures keeps { IsSameServer server.old server.new }
 {
     let answer = server.compute_server_first_message(alloc, message, nonce);
-    reply(alloc, answer, output)
+    let frame = FrameView::Init {
+        mechanism: server.mechanism(),
+        initial_response: Some(message),
+        hostname: None,
+    };
+    with_reason(alloc, server, &frame, reply(alloc, answer, output))
 }
 
 /// Answers the client's response with the signature. After `Ok` the server has accepted a proof.
@@ -314,7 +313,23 @@ fn conclude<I: BufRead, O: Write>(
 {
     let message = wire::receive(alloc, input)?;
     let answer = server.compute_server_final_message(alloc, &message);
-    reply(alloc, answer, output)
+    let frame = FrameView::Response(&message);
+    with_reason(alloc, server, &frame, reply(alloc, answer, output))
+}
+
+/// Returns what became of a reply. If the server has rejected the frame, the error has the library's reason.
+fn with_reason(
+    alloc: Global,
+    server: &ScramAuthenticator<RecordStore>,
+    frame: &FrameView<'_>,
+    replied: Result<(), Stop>,
+) -> Result<(), Stop>
+    ensures { OnOk result (replied ≡ Ok tt) }
+{
+    match replied {
+        Err(Stop::Rejected(_)) => Err(Stop::Rejected(reason_of(alloc, server, frame)?)),
+        other => other,
+    }
 }
 
 /// Sends an answer, or the error (RFC 5802, section 7, `server-error`).
@@ -329,7 +344,7 @@ fn reply<O: Write>(
         Ok(Some(message)) => wire::send(alloc, output, &message),
         Ok(None) => {
             wire::send(alloc, output, b"e=unknown-user")?;
-            Err(Stop::UnknownUser)
+            Err(Stop::Rejected(Rejection::UnknownUser))
         }
         Err(kind) => {
             wire::send(alloc, output, ServerError::of(kind).message().as_bytes())?;

@@ -1,6 +1,6 @@
 //! The task that the arguments ask for.
 
-ghost use Rattle.std.specs.Prelude.{◌≡◌, ℕ, List, true, false, Some, None, IfOk, codes, is_some, map, option_map};
+ghost use Rattle.std.specs.Prelude.{◌≡◌, ℕ, List, true, false, Some, None, IfErr, IfOk, IsOk, codes, is_some, map, option_map};
 ghost use Rattle.clap.specs.Matches.{first_value, found_of, matched_of, one_text, raw_values};
 ghost use Rattle.scram_lib.specs.Counts.{IsCountOf};
 ghost use Rattle.scram_lib.specs.Done.{IsDone};
@@ -13,12 +13,15 @@ use crate::users::alike::{check_file, list_hashes};
 use crate::users::{Listed, Named, add, change_password, check, list, remove};
 use crate::{man, record};
 use clap::ArgMatches;
+use fe2o3_scram::secrets::SecretText;
 use fe2o3_scram::{DEFAULT_SCRAM_ITERATIONS, ScramVersion};
+use saslprep::Unassigned;
 use scram_base_lib::audited::Audited;
 use scram_base_lib::database::Database;
 use scram_base_lib::explain::explain;
 use scram_base_lib::input;
 use scram_base_lib::stop::Stop;
+use std::alloc::Global;
 use std::io::{BufRead, Write};
 use std::random::RandomSource;
 use std::rt::{Clock, Files};
@@ -28,10 +31,8 @@ use std::rt::{Clock, Files};
 pub struct Streams<'a, 'd, I, O, D> {
     /// Whether the input is a terminal.
     pub is_terminal: bool,
-
     pub input: &'a mut I,
     pub output: &'a mut O,
-
     /// The databases of `--db`.
     pub db: &'d D,
 }
@@ -41,7 +42,6 @@ pub struct Streams<'a, 'd, I, O, D> {
 pub enum Command<'a, 'm> {
     /// A task of this library.
     Task(Task<'a, 'm>),
-
     /// An audit of both sides of a login, which the caller does.
     Audit(Audited<'a>),
 }
@@ -51,37 +51,26 @@ pub enum Command<'a, 'm> {
 pub enum Task<'a, 'm> {
     /// Prints a record.
     Record(ScramVersion, NewRecord<'a>),
-
-    /// Adds a user's records to a file.
-    Add(Named<'a>, NewRecord<'a>),
-
+    /// Adds a user's records to a file. The flag says that the name may be empty or have spaces at its ends.
+    Add(Named<'a>, NewRecord<'a>, bool),
     /// Changes a user's password in a file.
     ChangePassword(Named<'a>, NewRecord<'a>),
-
     /// Removes a user's records from a file.
     Remove(Named<'a>),
-
     /// Lists the records of a file.
     List(Listed<'a>),
-
     /// Lists the mechanisms for which all users of a file have records.
     ListHashes(Listed<'a>),
-
     /// Checks a password.
     Check(Named<'a>),
-
     /// Checks whether the records of a file look alike.
     CheckFile(Listed<'a>),
-
     /// Logs in.
     Client(Login<'a>),
-
     /// Serves a login.
     Server(Service<'a, 'm>),
-
     /// Explains messages. The flag says that the lines are frame bodies.
     Explain(bool),
-
     /// Prints the manual page.
     Man,
 }
@@ -140,7 +129,9 @@ impl<'a, 'm> Task<'a, 'm> {
     /// Returns the task of the parsed arguments of `users`.
     fn of_users(matches: &ArgMatches<'a>) -> Task<'a, 'm> {
         match matches.subcommand() {
-            Some(("add", found)) => Task::Add(named(found), new_record(found)),
+            Some(("add", found)) => {
+                Task::Add(named(found), new_record(found), found.get_flag("force"))
+            }
             Some(("passwd", found)) => Task::ChangePassword(password_of(found), new_record(found)),
             Some(("remove", found)) => Task::Remove(named(found)),
             Some(("check", found)) if found.contains_id("NAME") => Task::Check(named(found)),
@@ -154,7 +145,7 @@ impl<'a, 'm> Task<'a, 'm> {
     /// Returns the file of the task, or an empty text if it has none.
     fn file(&self) -> &'a str {
         match self {
-            Task::Add(named, _)
+            Task::Add(named, _, _)
             | Task::ChangePassword(named, _)
             | Task::Remove(named)
             | Task::Check(named) => named.file,
@@ -187,7 +178,7 @@ impl<'a, 'm> Task<'a, 'm> {
                 serve(rt, db, service, streams.input, streams.output, errors)
             }
             Task::Check(named) => {
-                let password = input::password(rt.alloc(), streams.input)?;
+                let password = input::password(rt.alloc(), streams.input, Unassigned::Allowed)?;
                 check(rt, streams.db, named, password, streams.output)
             }
             other => {
@@ -214,11 +205,12 @@ impl<'a, 'm> Task<'a, 'm> {
         let (alloc, db) = (rt.alloc(), streams.db);
         match self {
             Task::Record(version, record) => {
-                let password = input::password(alloc, streams.input)?;
+                let password = new_password(alloc, streams, errors)?;
                 record::print(rt, *version, record, password.as_str(), streams.output)
             }
-            Task::Add(named, record) => {
-                let password = input::password(alloc, streams.input)?;
+            Task::Add(named, record, force) => {
+                test_name(named.name, *force)?;
+                let password = new_password(alloc, streams, errors)?;
                 add(
                     rt,
                     db,
@@ -230,7 +222,7 @@ impl<'a, 'm> Task<'a, 'm> {
                 )
             }
             Task::ChangePassword(named, record) => {
-                let password = input::password(alloc, streams.input)?;
+                let password = new_password(alloc, streams, errors)?;
                 change_password(
                     rt,
                     db,
@@ -250,6 +242,40 @@ impl<'a, 'm> Task<'a, 'm> {
             Task::Client(_) | Task::Server(_) | Task::Check(_) => Ok(()),
         }
     }
+}
+
+/// Reads a password to store. At a terminal it is asked for twice.
+fn new_password<I: BufRead, O, D, E: Write>(
+    alloc: Global,
+    streams: &mut Streams<'_, '_, I, O, D>,
+    errors: &mut E,
+) -> Result<SecretText, Stop> {
+    let password = input::password(alloc, streams.input, Unassigned::Refused)?;
+    if streams.is_terminal {
+        ask("The same password again: ", errors);
+        let again = input::password(alloc, streams.input, Unassigned::Refused)?;
+        if again.as_str() != password.as_str() {
+            return Err(Stop::OtherPasswords);
+        }
+    }
+    Ok(password)
+}
+
+/// Asks for a line at a terminal. The program reads on, whether or not that can be written.
+pub(crate) fn ask<E: Write>(question: &str, errors: &mut E) {
+    let _ = errors.write_all(question.as_bytes());
+    let _ = errors.flush();
+}
+
+/// Checks that a name is not empty and has no spaces at its ends, unless `force` is set.
+fn test_name(name: &str, force: bool) -> Result<(), Stop>
+    ensures forced { force ≡ true → IsOk result }
+    ensures err { IfErr result (λ stop. stop ≡ Stop.OddName) }
+{
+    if !force && (name.is_empty() || name.trim().len() != name.len()) {
+        return Err(Stop::OddName);
+    }
+    Ok(())
 }
 
 /// Returns the arguments of `client`.
