@@ -97,7 +97,7 @@ pub fn keyed_client(alloc: Global, user: &str, keys: &CachedKeys) -> Result<Sasl
     Ok(SaslProfile::from(client))
 }
 
-/// The same side in another place: both values hold no password, no key and no record.
+/// Restores a side in another place. The values that are saved hold no password, no key and no record.
 pub fn moved<'a>(
     alloc: Global,
     side: &ServerNegotiation<Server<'_>>,

@@ -125,25 +125,14 @@ pub fn new_client_with_keys(user: &str, keys: CachedKeys) -> ScramClient {
     ScramClient::with_keys(user, keys).with_iteration_limit(100_000).strict(true)
 }
 
-/// The parts of keys, as a program stores them: as secret as a password.
-pub struct SavedKeys {
-    pub version: ScramVersion,
-    pub iterations: u32,
-    pub salt: Vec<u8>,
-    pub client_key: Vec<u8>,
-    pub server_key: Vec<u8>,
+/// The parts of keys, which a program stores.
+pub type Parts = (ScramVersion, u32, [Vec<u8>; 3]);
+
+pub fn save(keys: &CachedKeys) -> Parts {
+    let parts = [keys.salt(), keys.client_key(), keys.server_key()];
+    (keys.version(), keys.iterations(), parts.map(<[u8]>::to_vec))
 }
 
-pub fn save(keys: &CachedKeys) -> SavedKeys {
-    SavedKeys {
-        version: keys.version(),
-        iterations: keys.iterations(),
-        salt: keys.salt().to_vec(),
-        client_key: keys.client_key().to_vec(),
-        server_key: keys.server_key().to_vec(),
-    }
-}
-
-pub fn restore(saved: &SavedKeys) -> Result<CachedKeys, RecordError> {
-    CachedKeys::from_parts(saved.version, &saved.salt, saved.iterations, &saved.client_key, &saved.server_key)
+pub fn restore((version, iterations, [salt, client_key, server_key]): &Parts) -> Result<CachedKeys, RecordError> {
+    CachedKeys::from_parts(*version, salt, *iterations, client_key, server_key)
 }
