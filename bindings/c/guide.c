@@ -198,6 +198,7 @@ static uint32_t serve(int sock, struct fe2o3_sasl_server_config config, const st
     status = status == FE2O3_OK ? server->connection.why : status;
     if (status != FE2O3_OK)
         log_failure(status, server->scram.rejection, &user);
+    fe2o3_wipe(&user, sizeof user);
     return status;
 }
 
