@@ -54,7 +54,7 @@ class Guide(unittest.TestCase):
         self.page = run("\n\n".join(text for _, text in printed("docs/GUIDE-python.md")))
         self.users = self.page.Users(":memory:")
         self.addCleanup(self.users.table.close)
-        self.users.add("user", "pencil")
+        self.users.set_password("user", "pencil")
 
     def meet(self, client: Client, server: ServerConnection) -> tuple[Any, Any]:
         """A login over a pair of sockets. Returns what both sides return or raise. Each sends `AMQP` after its login."""
@@ -166,8 +166,8 @@ class Guide(unittest.TestCase):
             self.page.new_client_with_keys("user", keys), self.page.new_server(self.users, SECRET, False)
         )
         self.assertEqual((side.keys().client_key, served), (keys.client_key, ("user", b"")))
-        self.users.table.execute("DELETE FROM users")
-        self.users.add("user", "pencil")
+        self.users.set_password("user", "pencil")
+        self.assertEqual(len(self.users.records("user")), 2)
         why, _ = self.meet(
             self.page.new_client_with_keys("user", keys), self.page.new_server(self.users, SECRET, False)
         )

@@ -45,11 +45,11 @@ class Users:
         self.table = sqlite3.connect(path)
         self.table.execute("CREATE TABLE IF NOT EXISTS users (name TEXT, record TEXT)")
 
-    def add(self, name: str, password: str) -> None:
-        for version in (SHA_256, SHA_512):
-            row = (name, Record.make(version, password).text())
-            self.table.execute("INSERT INTO users VALUES (?, ?)", row)
-        self.table.commit()
+    def set_password(self, name: str, password: str) -> None:
+        rows = [(name, Record.make(version, password).text()) for version in (SHA_256, SHA_512)]
+        with self.table:  # (all records of a user change together)
+            self.table.execute("DELETE FROM users WHERE name = ?", (name,))
+            self.table.executemany("INSERT INTO users VALUES (?, ?)", rows)
 
     def records(self, name: str) -> list[Record]:
         """Returns the records of a user; none for an unknown name."""
