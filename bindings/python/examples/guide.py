@@ -47,7 +47,7 @@ class Users:
 
     def set_password(self, name: str, password: str) -> None:
         rows = [(name, Record.make(version, password).text()) for version in (SHA_256, SHA_512)]
-        with self.table:  # (all records of a user change together)
+        with self.table:
             self.table.execute("DELETE FROM users WHERE name = ?", (name,))
             self.table.executemany("INSERT INTO users VALUES (?, ?)", rows)
 
@@ -73,7 +73,7 @@ def serve(sock: socket.socket, side: ServerConnection) -> tuple[str | None, byte
 
 
 def make_secret(path: Path) -> None:
-    """Makes the secret of mock records, once, where the records are made. Only the owner can read the file."""
+    """Makes the secret of mock records, once. Only the owner can read the file."""
     with open(path, "xb", opener=lambda name, flags: os.open(name, flags, 0o600)) as file:
         file.write(os.urandom(32))
 

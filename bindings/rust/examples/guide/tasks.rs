@@ -67,7 +67,7 @@ pub fn serve_one(server: PasswordServer<Users>, is_tls: bool, stream: impl Read 
     served
 }
 
-/// Makes the secret of mock records, once, where the records are made. Only the owner can read the file.
+/// Makes the secret of mock records, once. Only the owner can read the file.
 pub fn make_secret(path: &Path) -> std::io::Result<()> {
     let mut file = OpenOptions::new().write(true).create_new(true).mode(0o600).open(path)?;
     file.write_all(&generate_nonce())
