@@ -64,7 +64,7 @@ class Pages(unittest.TestCase):
     def test_budgets(self):
         found = pages.budgets()
         self.assertIn("README.md", found)
-        self.assertEqual(found["pages"], (2060, 32400))
+        self.assertEqual(found["pages"], (2600, 32000))
 
 
 if __name__ == "__main__":
