@@ -52,11 +52,8 @@ impl UserRecords for Users {
 
 /// What all connections share. It offers SCRAM with SHA-512 and SHA-256.
 pub fn new_server<R: UserRecords + Clone>(users: R, secret: [u8; 32]) -> PasswordServer<R> {
-    PasswordServer::new(users).reject_misplaced(true).mock_unknown_users(
-        secret,
-        DEFAULT_SALT_LEN,
-        DEFAULT_SCRAM_ITERATIONS,
-    )
+    let server = PasswordServer::new(users).reject_misplaced(true);
+    server.mock_unknown_users(secret, DEFAULT_SALT_LEN, DEFAULT_SCRAM_ITERATIONS)
 }
 
 /// Serves one connection. Returns the user, and the bytes that belong to AMQP.
