@@ -75,7 +75,7 @@ fn guide() {
             "for user: Some(\"user\")",
             "for bob: Err(Rejected(RefusedAuth))",
             "keys: SCRAM-SHA-256, Some(\"user\")",
-            "stale keys: Client(StaleKeys)",
+            "other records: stale keys",
         ]
     );
     for line in [

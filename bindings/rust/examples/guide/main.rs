@@ -28,6 +28,7 @@ fn by(client: ScramClient, server: PasswordServer<Users>) -> Result<String, Box<
     let (client, served) = meet(client, |stream| serve_one(server, true, stream))?;
     Ok(match (client, served) {
         (Ok((side, _)), Ok(served)) => format!("{}, {:?}", side.mechanism().unwrap_or_default(), served.user),
+        (Err(why), Err(_)) if has_stale_keys(&why) => "stale keys".to_owned(),
         (Err(LoginError::Rejected(why) | LoginError::Connection(why)), Err(_)) => format!("{why:?}"),
         (client, served) => format!("{:?}, {:?}", client.map(|_| ()), served),
     })
@@ -82,6 +83,6 @@ fn main() -> Result<(), Box<dyn Error>> {
     let keys = keys_of_a_login(server())?;
     println!("keys: {}", by(new_client_with_keys("user", keys.clone()), server())?);
     users.add("user", "pencil")?;
-    println!("stale keys: {}", by(new_client_with_keys("user", keys), server())?);
+    println!("other records: {}", by(new_client_with_keys("user", keys), server())?);
     Ok(())
 }

@@ -122,6 +122,10 @@ pub fn new_client_with_keys(user: &str, keys: CachedKeys) -> ScramClient {
     ScramClient::with_keys(user, keys).with_iteration_limit(100_000).strict(true)
 }
 
+pub fn has_stale_keys(why: &LoginError) -> bool {
+    matches!(why, LoginError::Connection(why) if why.scram() == Some(ScramErrorKind::StaleKeys))
+}
+
 /// The parts of keys, which a program stores.
 pub type Parts = (ScramVersion, u32, [Vec<u8>; 3]);
 
