@@ -39,7 +39,7 @@ $(if $(HEAP_$(HEAP)),,$(error HEAP is wiping or plain))
 
 WARNINGS = -Wall -Wextra -Wpedantic
 SANITIZERS = -g -O1 -fsanitize=address,undefined -fno-sanitize-recover=all
-PROGRAMS = fits scram steps connections channels threads random $(SALTED)
+PROGRAMS = fits guide_logins scram steps connections channels threads random $(SALTED)
 # salted.c salts with OpenSSL, and is left out where there is none to compile with.
 SALTED := $(shell printf '\043include <openssl/evp.h>\n' | $(CC) -E -x c - > /dev/null 2>&1 && echo salted)
 KINDS = plain shared sanitized
@@ -136,6 +136,8 @@ build/callers/%_shared: bindings/c/%.c $(HEADER) build/libfe2o3_sasl.so
 build/callers/%_sanitized: bindings/c/%.c $(HEADER) build/libfe2o3_sasl.a
 	@mkdir -p $(@D)
 	$(CC) -std=c99 $(WARNINGS) $(SANITIZERS) -pthread -o $@ $< build/libfe2o3_sasl.a $(LDLIBS)
+
+$(KINDS:%=build/callers/guide_logins_%): bindings/c/guide.c
 
 build/callers/salted_plain build/callers/salted_shared build/callers/salted_sanitized: LDLIBS += -lcrypto
 

@@ -16,7 +16,7 @@ from pathlib import Path
 TOP = Path(__file__).resolve().parents[2]
 PAGES = {
     "bindings/README.md": "README.md",
-    "docs/SECURITY.md": "SECURITY.md",
+    **{f"docs/{name}.md": f"{name}.md" for name in ("GUIDE", "GUIDE-c", "GUIDE-python", "GUIDE-rust", "SECURITY")},
     "docs/COMPATIBILITY.md": "COMPATIBILITY.md",
     "CHANGELOG.md": "CHANGELOG.md",
 }
@@ -24,7 +24,7 @@ EXAMPLES = {
     **{f"bindings/c/{name}.c": f"examples/{name}.c" for name in ("client", "server", "scram", "steps", "fits")},
     **{
         f"bindings/python/examples/{name}.py": f"examples/{name}.py"
-        for name in ("login", "client", "broker", "channel", "shared_users")
+        for name in ("login", "client", "broker", "channel", "guide", "shared_users")
     },
 }
 LINK = re.compile(r"(?<!!)\[((?:[^\[\]`]|`[^`]*`)*)\]\(([^()\s]+)\)")

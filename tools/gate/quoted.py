@@ -6,7 +6,8 @@
 A block names its file in its first line: `// crates/example_quick_start/src/client.rt`,
 `# bindings/python/examples/login.py` or `# crates.txt`. What follows is in that file, line after line, whatever the
 indentation. A line of the comment's mark and two dots leaves lines out. Every block of Rust, antt, Python and C names
-its file.
+its file. The blocks of a guide have at most 25 lines. Those of the guides for C, Python and Rust are, in their order, their
+whole file but for its first comment: so what a test runs is what the page prints.
 
 Faults go to standard error, and the exit status is 1 if there are any.
 """
@@ -16,6 +17,13 @@ from pathlib import Path
 
 TOP = Path(__file__).resolve().parents[2]
 NAMED = re.compile(r"(//|--|#) ((crates|bindings|plugins)/\S+|crates\.txt)")
+GUIDES, MOST_LINES = "docs/GUIDE", 25
+WHOLE = {
+    "docs/GUIDE-c.md": "bindings/c/guide.c",
+    "docs/GUIDE-python.md": "bindings/python/examples/guide.py",
+    "docs/GUIDE-rust.md": "bindings/rust/examples/guide/tasks.rs",
+}
+FIRST_COMMENT = re.compile(r'/\*((?!\*/).)*\*/|"""((?!""").)*"""|//![^\n]*(\n//![^\n]*)*', re.DOTALL)
 
 
 class Block:
@@ -89,15 +97,32 @@ def faults_of(block, top):
     return [], True
 
 
+def guide_faults(name, blocks, top):
+    """What is wrong with the blocks of a guide, as pairs of line and text."""
+    faults, printed = [], []
+    for block in blocks:
+        if len(block.lines) > MOST_LINES + 1:
+            faults.append((block.opened, f"a block of more than {MOST_LINES} lines"))
+        printed += [line.strip() for _, line in block.lines[1:] if line.strip()]
+    if name in WHOLE:
+        source = (top / WHOLE[name]).read_text(encoding="utf-8")
+        code = source[FIRST_COMMENT.match(source).end() :] if FIRST_COMMENT.match(source) else source
+        if printed != [line.strip() for line in code.splitlines() if line.strip()]:
+            faults.append((1, f"the blocks, in their order, are not the whole file {WHOLE[name]}"))
+    return faults
+
+
 def check(pages, top):
     """The faults of all pages, as texts, and how many blocks name a file."""
     faults, count = [], 0
     for page in pages:
-        name = page.relative_to(top)
-        for block in blocks_of(page.read_text(encoding="utf-8")):
+        name, blocks = page.relative_to(top).as_posix(), list(blocks_of(page.read_text(encoding="utf-8")))
+        for block in blocks:
             found, is_named = faults_of(block, top)
             count += is_named
             faults += [f"{name}:{line}: {what}" for line, what in found]
+        if name.startswith(GUIDES):
+            faults += [f"{name}:{line}: {what}" for line, what in guide_faults(name, blocks, top)]
     if not faults and not count:
         faults.append("README.md:1: no page quotes anything")
     return faults, count

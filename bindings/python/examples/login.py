@@ -10,7 +10,7 @@ from fe2o3_sasl import SHA_256, Client, ClientConnection, Offer, Progress, Recor
 
 def log_in(sock: socket.socket) -> bytes:
     """Logs in as `user`. Returns the bytes that belong to AMQP. Raises unless both sides are authenticated."""
-    client = Client(SHA_256, "user", "pencil", min_iterations=4096, max_iterations=100_000)
+    client = Client(SHA_256, "user", "pencil", min_iterations=4096, max_iterations=100_000, strict=True)
     side = ClientConnection(client, hostname="broker.example")
     sock.sendall(side.open())
     return finish(side, sock)
@@ -18,7 +18,7 @@ def log_in(sock: socket.socket) -> bytes:
 
 def serve(sock: socket.socket, store: RecordStore, secret: bytes, tls: bool) -> "tuple[bytes, str | None]":
     """Serves one login of a store's users. Returns AMQP's bytes and the user. `secret`: 32 random bytes, kept with them."""
-    mechanisms = store.hashes() | (Offer.PLAIN if tls else 0)
+    mechanisms = store.hashes() | Offer.REJECT_MISPLACED | (Offer.PLAIN if tls else 0)
     side = ServerConnection(store.records, mechanisms=mechanisms, mock=store.mock_settings(secret))
     return finish(side, sock), side.authenticated_user()
 

@@ -56,3 +56,36 @@ fn server_and_client() {
     );
     assert_eq!(said.next().unwrap(), "not logged in: the other side ended the stream before the login was complete");
 }
+
+/// The logins of docs/GUIDE-rust.md, and the lines of the server's log.
+#[test]
+fn guide() {
+    let ended = example("guide").output().unwrap();
+    let (said, log) = (String::from_utf8(ended.stdout).unwrap(), String::from_utf8(ended.stderr).unwrap());
+    assert_eq!(
+        said.lines().collect::<Vec<_>>(),
+        [
+            "a login: SCRAM-SHA-256, Some(\"user\")",
+            "a wrong password: RefusedAuth",
+            "an unknown user: RefusedAuth",
+            "a channel: SCRAM-SHA-256-PLUS, Some(\"user\")",
+            "another channel: RefusedAuth",
+            "a channel that is not bound: NotImplemented",
+            "for alice: Some(\"alice\")",
+            "for user: Some(\"user\")",
+            "for bob: Err(Rejected(RefusedAuth))",
+            "keys: SCRAM-SHA-256, Some(\"user\")",
+            "other records: stale keys",
+        ]
+    );
+    for line in [
+        "\"SCRAM-SHA-256\" Some(\"user\") Some(\"broker.example\"): Authenticated, None",
+        "\"SCRAM-SHA-256\" Some(\"user\") Some(\"broker.example\"): Failed(RefusedAuth), Some(WrongProof)",
+        "\"SCRAM-SHA-256\" Some(\"nobody\") Some(\"broker.example\"): Failed(RefusedAuth), Some(UnknownUser)",
+        "\"SCRAM-SHA-256-PLUS\" Some(\"user\") Some(\"broker.example\"): Failed(RefusedAuth), Some(Channel)",
+        "no init",
+    ] {
+        assert!(log.lines().any(|said| said == line), "{line} is not in {log}");
+    }
+    assert!(ended.status.success());
+}

@@ -1,9 +1,10 @@
 //! Logins with SCRAM-SHA-256, each of a client and a server in one program: over the bytes of a connection, over frame
-//! bodies, and over the messages of SCRAM; by whole lists of bodies, and from a store of your own.
+//! bodies, and over the messages of SCRAM; by whole lists of bodies, from a store of your own, and with what the guide shows.
 #![tactic(auto)]
 
 mod client;
 mod connection;
+mod guide;
 mod login;
 mod own_store;
 mod runs;
@@ -145,5 +146,6 @@ fn main(rt: HostRuntime) -> Result<()> {
     over_connection(&rt, rt.alloc(), &mut output)?;
     let given = over_frames(&rt, rt.alloc(), &mut output)?;
     over_lists(rt.alloc(), &given, &mut output)?;
-    own_store::report_all(&rt, rt.alloc(), &mut output)
+    own_store::report_all(&rt, rt.alloc(), &mut output)?;
+    guide::report(&rt, rt.alloc(), &mut output)
 }

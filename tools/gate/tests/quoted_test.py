@@ -70,6 +70,29 @@ class Quoted(unittest.TestCase):
     def test_a_block_without_an_end(self):
         self.assertEqual(self.fault("\n```rust\n// crates/a.rt\none();\n"), "README.md:2: a block without an end")
 
+    def guide(self, source, *blocks):
+        """The faults of the guide for Python, whose blocks these are, and of which this is the module."""
+        with tempfile.TemporaryDirectory() as folder:
+            top, file = Path(folder), "bindings/python/examples/guide.py"
+            for name in (f"{folder}/docs", f"{folder}/bindings/python/examples"):
+                Path(name).mkdir(parents=True)
+            (top / file).write_text(source)
+            page = top / "docs/GUIDE-python.md"
+            page.write_text("".join(f"```python\n# {file}\n{block}```\n" for block in blocks))
+            return quoted.check([page], top)
+
+    def test_a_guide(self):
+        source = '"""A module.\n\nOf two lines."""\n\nx = 1\n\n\ny = """2"""\n'
+        whole = "the blocks, in their order, are not the whole file bindings/python/examples/guide.py"
+        self.assertEqual(self.guide(source, "x = 1\n", 'y = """2"""\n'), ([], 2))
+        for blocks in (["x = 1\n"], ['y = """2"""\n', "x = 1\n"], ['x = 1\n# ..\ny = """2"""\n']):
+            self.assertEqual(self.guide(source, *blocks)[0], [f"docs/GUIDE-python.md:1: {whole}"])
+        lines = "".join(f"x = {number}\n" for number in range(26))
+        self.assertEqual(
+            self.guide('"""A module."""\n' + lines, lines)[0],
+            ["docs/GUIDE-python.md:1: a block of more than 25 lines"],
+        )
+
     def test_nothing_quoted(self):
         self.assertEqual(self.fault("A page.\n"), "README.md:1: no page quotes anything")
 

@@ -1,0 +1,206 @@
+//! What clients and servers of connections set beyond the first login: a strict client, channel binding, identities, the
+//! log, cached keys, and saved sides. `report` makes a login with each.
+
+use crate::connection::{new_options, new_users, pass};
+use crate::login::fresh;
+use anyhow::{Context, Result};
+use bytes::BytesMut;
+use fe2o3_sasl_negotiation::{
+    CachedKeys, ChannelBinding, ChannelBindings, ChannelData, ChannelKind, ClientNegotiation,
+    ClientPolicy, ClientRole, ClientSecret, ConnectionSide, Endpoint, IterationLimits, Meter,
+    MultiRecordStore, Password, PolicyClient, PolicyLogin, SaslProfile, ScramClient, ScramVersion,
+    Server, ServerNegotiation, ServerOptions, ServerRole, Transport,
+};
+use std::alloc::Global;
+use std::io::Write;
+use std::random::RandomSource;
+
+/// A client that tests each message by the grammar of RFC 5802. The server chooses the iteration count between the bounds.
+pub fn new_client(alloc: Global, user: &str, password: &str) -> Result<SaslProfile> {
+    let (user, password) = (user.to_string(alloc)?, password.to_string(alloc)?);
+    let client = ScramClient::new(user, password, ScramVersion::Sha256)
+        .with_min_iterations(4096)
+        .with_iteration_limit(100_000)
+        .strict(true);
+    Ok(SaslProfile::from(client))
+}
+
+/// A client that binds its TLS connection, by the strongest hash that the server offers.
+pub fn bound_login<'a>(
+    user: &'a str,
+    password: &'a str,
+    exported: &[u8; 32],
+) -> Result<PolicyLogin<'a>> {
+    let channel = ChannelBinding {
+        kind: ChannelKind::TlsExporter,
+        cbind_data: ChannelData::new(exported)?,
+    };
+    let limits = IterationLimits {
+        min_iterations: 4096,
+        max_iterations: 100_000,
+    };
+    let policy = ClientPolicy::scram_from(ScramVersion::Sha256).with_iteration_limits(limits);
+    Ok(PolicyLogin {
+        username: user,
+        secret: ClientSecret::Password(Password::Typed(password)),
+        policy: policy.bind_channel(channel).must_bind(),
+        acts_for: None,
+        hostname: None,
+    })
+}
+
+/// What a TLS connection brings to its server.
+pub fn bound_transport(exported: &[u8; 32]) -> Result<Transport<'static>> {
+    let channels = ChannelBindings {
+        tls_unique: None,
+        tls_server_end_point: None,
+        tls_exporter: Some(ChannelData::new(exported)?),
+    };
+    Ok(Transport {
+        is_tls: true,
+        channels: Some(channels),
+        external: "",
+    })
+}
+
+/// Lets a user act for an identity.
+pub fn let_act(
+    alloc: Global,
+    options: &mut ServerOptions,
+    user: &str,
+    identity: &str,
+) -> Result<()> {
+    options.accept_authzid = true;
+    options.rights.allow(alloc, user, identity)?;
+    Ok(())
+}
+
+/// Writes what the last init claimed, and why it was rejected. Names are quoted, since they may hold line feeds.
+pub fn log<W: Write>(server: &Server<'_>, output: &mut W) -> Result<()> {
+    let Some(attempt) = server.last_attempt() else {
+        writeln!(output, "no init")?;
+        return Ok(());
+    };
+    let (mechanism, user) = (&attempt.mechanism, &attempt.claimed_user);
+    let why = server.last_rejection();
+    writeln!(output, "{mechanism:?} {user:?} {why:?}")?;
+    Ok(())
+}
+
+/// A client that logs in by the keys of an earlier login (`profile().keys()`). It knows no password.
+pub fn keyed_client(alloc: Global, user: &str, keys: &CachedKeys) -> Result<SaslProfile> {
+    let (user, secret) = (user.to_string(alloc)?, ClientSecret::Keys(keys));
+    let client = ScramClient::with_secret(alloc, user, secret, keys.scram_version())?
+        .with_min_iterations(4096)
+        .with_iteration_limit(100_000)
+        .strict(true);
+    Ok(SaslProfile::from(client))
+}
+
+/// Restores a side in another place. The values that are saved hold no password, no key and no record.
+pub fn moved<'a>(
+    alloc: Global,
+    side: &ServerNegotiation<Server<'_>>,
+    users: &'a MultiRecordStore,
+    options: &'a ServerOptions,
+    transport: Transport<'a>,
+) -> Result<ServerNegotiation<Server<'a>>> {
+    let (saved, snapshot) = (side.acceptor().saved(), side.snapshot());
+    let mut meter = Meter::new();
+    let server = Server::restore(alloc, users, options, transport, &saved, None, &mut meter)?;
+    Ok(ServerNegotiation::restore(alloc, server, &snapshot)?)
+}
+
+/// Carries bytes between a client and a server, three times each way, which is a login.
+fn exchange<T: RandomSource, C: Endpoint<ClientRole>>(
+    rt: &T,
+    alloc: Global,
+    client: &mut ConnectionSide<C, ClientRole>,
+    server: &mut ServerNegotiation<Server<'_>>,
+) -> Result<()> {
+    let mut to_server = BytesMut::new(alloc);
+    let mut to_client = BytesMut::new(alloc);
+    ClientNegotiation::open(&mut to_server)?;
+    for _ in 0..3 {
+        pass(rt, alloc, server, to_server.as_slice(), &mut to_client)?;
+        to_server.clear();
+        pass(rt, alloc, client, to_client.as_slice(), &mut to_server)?;
+        to_client.clear();
+    }
+    Ok(())
+}
+
+/// Logs in by a profile. Returns the client's side, with the keys of the login.
+fn by_profile<T: RandomSource>(
+    rt: &T,
+    alloc: Global,
+    profile: SaslProfile,
+    server: &mut ServerNegotiation<Server<'_>>,
+) -> Result<Box<ClientNegotiation>> {
+    let mut client = Box::new(alloc, ClientNegotiation::new(alloc, profile, None))?;
+    exchange(rt, alloc, &mut *client, server)?;
+    Ok(client)
+}
+
+/// Logs in by a password and then by its keys, and with a wrong password. Prints who has logged in, and the log.
+fn by_password_and_keys<T: RandomSource, W: Write>(
+    rt: &T,
+    alloc: Global,
+    users: &MultiRecordStore,
+    options: &ServerOptions,
+    output: &mut W,
+) -> Result<()> {
+    let mut server = new_side(alloc, users, options, Transport::plaintext())?;
+    let client = by_profile(rt, alloc, new_client(alloc, "user", "pencil")?, &mut server)?;
+    let keys = client.profile().keys().context("no keys")?;
+    let mut server = new_side(alloc, users, options, Transport::plaintext())?;
+    by_profile(rt, alloc, keyed_client(alloc, "user", keys)?, &mut server)?;
+    let server = moved(alloc, &server, users, options, Transport::plaintext())?;
+    let user = server.authenticated_user().context("no user")?;
+    writeln!(output, "{user} logged in by keys")?;
+    let mut server = new_side(alloc, users, options, Transport::plaintext())?;
+    by_profile(rt, alloc, new_client(alloc, "user", "crayon")?, &mut server)?;
+    log(server.acceptor(), output)
+}
+
+/// A server's side of a new connection.
+fn new_side<'a>(
+    alloc: Global,
+    users: &'a MultiRecordStore,
+    options: &'a ServerOptions,
+    transport: Transport<'a>,
+) -> Result<Box<ServerNegotiation<Server<'a>>>> {
+    let server = Server::new(users, options, transport);
+    Ok(Box::new(alloc, ServerNegotiation::new(alloc, server))?)
+}
+
+/// Logs in for an identity over a connection with a channel, and prints who acts for whom.
+fn bound_and_acting<T: RandomSource, W: Write>(
+    rt: &T,
+    alloc: Global,
+    users: &MultiRecordStore,
+    options: &ServerOptions,
+    output: &mut W,
+) -> Result<()> {
+    let exported = fresh(rt)?;
+    let mut server = new_side(alloc, users, options, bound_transport(&exported)?)?;
+    let login = PolicyLogin {
+        acts_for: Some("alice"),
+        ..bound_login("user", "pencil", &exported)?
+    };
+    let mut client = Box::new(alloc, PolicyClient::new(alloc, login))?;
+    exchange(rt, alloc, &mut *client, &mut server)?;
+    let user = server.authenticated_user().context("no user")?;
+    let identity = server.acts_for().context("no identity")?;
+    writeln!(output, "{user} logged in for {identity}")?;
+    log(server.acceptor(), output)
+}
+
+/// Makes a login with each of these, and prints who has logged in.
+pub fn report<T: RandomSource, W: Write>(rt: &T, alloc: Global, output: &mut W) -> Result<()> {
+    let users = new_users(rt, alloc)?;
+    let mut options = new_options(alloc, fresh(rt)?.to_vec(alloc)?)?;
+    let_act(alloc, &mut options, "user", "alice")?;
+    by_password_and_keys(rt, alloc, &users, &options, output)?;
+    bound_and_acting(rt, alloc, &users, &options, output)
+}
