@@ -177,7 +177,12 @@ fn apply<P: Pages, C: Change>(
 ) -> Result<Changed, Stop> {
     let alloc = rt.alloc();
     let old = user_lines(rt, path, pages, name, None)?;
-    let firsts = firsts(alloc, pages, &old, change)?;
+    let mut firsts = String::new(alloc);
+    for version in &VERSIONS {
+        if change.makes_record(&old, *version) {
+            push_first(alloc, pages, *version, &mut firsts)?;
+        }
+    }
     let changed = change.apply(rt, &old, &firsts)?;
     let root = schema::root(alloc, pages).map_err(stop_of)?;
     let users = MultiRecordStore::parse_lines(alloc, &changed.text)?;
@@ -185,22 +190,6 @@ fn apply<P: Pages, C: Change>(
         put(alloc, pages, root, name, *version, &users)?;
     }
     Ok(changed)
-}
-
-/// Returns the line of the first record for each version for which a change makes a record.
-fn firsts<P: Pages, C: Change>(
-    alloc: Global,
-    pages: &mut P,
-    old: &str,
-    change: &C,
-) -> Result<String, Stop> {
-    let mut text = String::new(alloc);
-    for version in &VERSIONS {
-        if change.makes_record(old, *version) {
-            push_first(alloc, pages, *version, &mut text)?;
-        }
-    }
-    Ok(text)
 }
 
 /// Appends the line of the first record for a version, in the order of the names, if there is one. Passes over rows that

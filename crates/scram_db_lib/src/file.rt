@@ -35,8 +35,6 @@ const NEW_PAGE: usize = 4096;
 
 /// Opens a database to read it, under SQLite's shared lock: other programs can read it meanwhile, and none can change it.
 /// While a change is under way, tries again for this many seconds. Needs no right to write the file or its folder.
-///
-/// The errors are `Missing`, `NotAFile`, `Locked`, `Journal`, `Unopened`, `NotADatabase`, `Damaged`, `Io` and `OutOfMemory`.
 pub fn read(rt: &HostRuntime, path: &str, wait: u32) -> Result<Pool<Reading>, DatabaseError> {
     for _ in 0..u64::from(wait).saturating_mul(PAUSES) {
         match read_once(rt, path) {
@@ -59,9 +57,6 @@ fn read_once(rt: &HostRuntime, path: &str) -> Result<Pool<Reading>, DatabaseErro
 /// locked until the result is dropped: `sqlite3` finds it locked too. Completes what a change that was killed left. If
 /// `makes` is set, a missing file is made with mode 0600, and a file without a table gets the table of users, with its
 /// owner and mode unchanged. Otherwise both are `Missing`. Pass the result to [`close`].
-///
-/// The errors are `Missing`, `NotAFile`, `DanglingLink`, `Locked`, `Journal`, `Unopened`, `NotADatabase`, `OtherSchema`,
-/// `Damaged`, `Io`, `Full` and `OutOfMemory`.
 pub fn open(
     rt: &HostRuntime,
     path: &str,

@@ -143,7 +143,8 @@ fn opened(rt: &HostRuntime, name: String) -> Result<Option<File>, DatabaseError>
 
 /// Counts a call that failed.
 fn count<T>(failed: &mut u64, outcome: io::Result<T>) -> io::Result<T>
-    ensures { CountsFault result failed.old failed.new }
+    ensures same { result ≡ outcome }
+    ensures counted { CountsFault result failed.old failed.new }
 {
     if outcome.is_err() {
         *failed = failed.saturating_add(1);
