@@ -107,15 +107,22 @@ fn channels(alloc: Global, word: Option<&str>) -> Result<Option<ChannelBindings>
 fn only(binding: ChannelBinding) -> ChannelBindings
     ensures { result ≡ only_data binding.kind binding.cbind_data }
 {
-    let mut channels = ChannelBindings {
-        tls_unique: None,
-        tls_server_end_point: None,
-        tls_exporter: None,
-    };
+    let known = Some(binding.cbind_data);
     match binding.kind {
-        ChannelKind::TlsUnique => channels.tls_unique = Some(binding.cbind_data),
-        ChannelKind::TlsServerEndPoint => channels.tls_server_end_point = Some(binding.cbind_data),
-        ChannelKind::TlsExporter => channels.tls_exporter = Some(binding.cbind_data),
+        ChannelKind::TlsUnique => ChannelBindings {
+            tls_unique: known,
+            tls_server_end_point: None,
+            tls_exporter: None,
+        },
+        ChannelKind::TlsServerEndPoint => ChannelBindings {
+            tls_unique: None,
+            tls_server_end_point: known,
+            tls_exporter: None,
+        },
+        ChannelKind::TlsExporter => ChannelBindings {
+            tls_unique: None,
+            tls_server_end_point: None,
+            tls_exporter: known,
+        },
     }
-    channels
 }

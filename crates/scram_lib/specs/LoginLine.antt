@@ -24,10 +24,13 @@ abbrev pub channel_said : Option (List ℕ) → List ℕ
 channel_said None = codes "none"
 channel_said (Some word) = name_in word
 
--- the line of a login that is rejected: the name that the client claims, if any, the mechanism and the kind of the channel
--- of the server, and the reason; 10 is the line feed
+-- what is said of the user of a login that is rejected: the name that the client claims, or that there is none
+abbrev pub user_said : Option (List ℕ) → List ℕ
+user_said None = codes "no user"
+user_said (Some name) = codes "user " ++ shown_as name
+
+-- the line of a login that is rejected: the user, the mechanism and the kind of the channel of the server, and the reason;
+-- 10 is the line feed
 abbrev pub rejected_line : Option (List ℕ) → List ℕ → List ℕ → List ℕ → List ℕ
-rejected_line None mechanism kind reason = (((((((codes "scram: login rejected: " ++ codes "no user") ++ codes ", ")
+rejected_line claimed mechanism kind reason = (((((((codes "scram: login rejected: " ++ user_said claimed) ++ codes ", ")
     ++ mechanism) ++ codes ", channel ") ++ kind) ++ codes ": ") ++ reason) ++ (10 ∷ [])
-rejected_line (Some name) mechanism kind reason = ((((((((codes "scram: login rejected: " ++ codes "user ")
-    ++ shown_as name) ++ codes ", ") ++ mechanism) ++ codes ", channel ") ++ kind) ++ codes ": ") ++ reason) ++ (10 ∷ [])

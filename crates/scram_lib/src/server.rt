@@ -297,7 +297,11 @@ fn challenge<O: Write>(
         initial_response: Some(message),
         hostname: None,
     };
-    with_reason(alloc, server, &frame, reply(alloc, answer, output))
+    let replied = reply(alloc, answer, output);
+    if let Err(Stop::Rejected(_)) = replied {
+        return Err(Stop::Rejected(reason_of(alloc, server, &frame)?));
+    }
+    replied
 }
 
 /// Answers the client's response with the signature. After `Ok` the server has accepted a proof.
@@ -314,22 +318,11 @@ fn conclude<I: BufRead, O: Write>(
     let message = wire::receive(alloc, input)?;
     let answer = server.compute_server_final_message(alloc, &message);
     let frame = FrameView::Response(&message);
-    with_reason(alloc, server, &frame, reply(alloc, answer, output))
-}
-
-/// Returns what became of a reply. If the server has rejected the frame, the error has the library's reason.
-fn with_reason(
-    alloc: Global,
-    server: &ScramAuthenticator<RecordStore>,
-    frame: &FrameView<'_>,
-    replied: Result<(), Stop>,
-) -> Result<(), Stop>
-    ensures { OnOk result (replied ≡ Ok tt) }
-{
-    match replied {
-        Err(Stop::Rejected(_)) => Err(Stop::Rejected(reason_of(alloc, server, frame)?)),
-        other => other,
+    let replied = reply(alloc, answer, output);
+    if let Err(Stop::Rejected(_)) = replied {
+        return Err(Stop::Rejected(reason_of(alloc, server, &frame)?));
     }
+    replied
 }
 
 /// Sends an answer, or the error (RFC 5802, section 7, `server-error`).

@@ -2,7 +2,7 @@
 //! channel, and the reason.
 
 ghost use Rattle.std.specs.Prelude.{◌≡◌, IfOk, option_map};
-ghost use Rattle.scram_lib.specs.LoginLine.{channel_said, rejected_line};
+ghost use Rattle.scram_lib.specs.LoginLine.{channel_said, rejected_line, user_said};
 
 use crate::server::Service;
 use fe2o3_sasl_negotiation::{Frame, FrameView, Rejection, SaslAcceptor, SaslServerFrame};
@@ -72,13 +72,7 @@ fn line_of(
         (channel_said (option_map (λ word. word.now) channel.entry)) reason.now) }
 {
     let mut line = b"scram: login rejected: ".to_vec(alloc)?;
-    match claimed {
-        Some(name) => {
-            line.extend_from_slice(b"user ")?;
-            line.extend_from_slice(&shown(alloc, name.as_bytes())?)?;
-        }
-        None => line.extend_from_slice(b"no user")?,
-    }
+    line.extend_from_slice(&user_said(alloc, claimed)?)?;
     line.extend_from_slice(b", ")?;
     line.extend_from_slice(mechanism.as_bytes())?;
     line.extend_from_slice(b", channel ")?;
@@ -87,6 +81,18 @@ fn line_of(
     line.extend_from_slice(reason.as_bytes())?;
     line.push(b'\n')?;
     Ok(line)
+}
+
+/// Returns what the line says of the user.
+fn user_said(alloc: Global, claimed: Option<&str>) -> Result<Vec<u8>, AllocError>
+    ensures { IfOk result (λ text. text.items ≡ user_said (option_map (λ name. name.now) claimed.entry)) }
+{
+    let Some(name) = claimed else {
+        return b"no user".to_vec(alloc);
+    };
+    let mut text = b"user ".to_vec(alloc)?;
+    text.extend_from_slice(&shown(alloc, name.as_bytes())?)?;
+    Ok(text)
 }
 
 /// Returns the kind of a channel `KIND:HEX`, or `none`.
