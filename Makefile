@@ -1,6 +1,6 @@
 # All of this needs the Rattle kit's `rt` on the PATH, and Python 3. `tools/gate/progress.py` reports the minutes, the
 # stage and the crate of a long run on standard error.
-.PHONY: demo prove check lint check-models quick-checks test quiet help install-program kit
+.PHONY: demo prove check lint docs check-models quick-checks test quiet help install-program kit
 
 # The example of RFC 7677, beside what the standard prints, and a whole login over frame bodies. Nothing
 # is proved by it.
@@ -26,9 +26,9 @@ check: kit
 # The quick checks: what the pages quote, list and link to, the C header, the versions and the notices; that no modules use
 # each other in a circle, no name of specs/ has two meanings, and no line is too wide; which functions make a meter or hash;
 # the programs that the borrow checker has to reject; and the tests of these tools.
-LINT = gate/refused $(patsubst tools/%.py,%,$(wildcard tools/gate/tests/*.py tools/generate/promises.py)) \
-    gate/layout gate/meters gate/circles gate/names gate/quoted generate/header generate/notices generate/signatures
-LINT += gate/prose gate/pages gate/versions gate/links gate/widths
+LINT = gate/refused generate/audit_pages $(patsubst tools/%.py,%,$(wildcard tools/gate/tests/*.py)) \
+    gate/layout gate/meters gate/stores gate/circles gate/names gate/quoted generate/header generate/notices generate/signatures
+LINT += gate/prose gate/pages gate/versions gate/links gate/theorem_links gate/widths
 
 # The models that made the rows of tests: those that need a few seconds, and those that need a minute, GNU libidn
 # (Debian's package idn) or GNU SASL (gsasl).
@@ -44,13 +44,18 @@ lint: kit
 check-models:
 	@$(SIDE_BY_SIDE) $(QUICK_MODELS:%=tried/%) $(SLOW_MODELS:%=tried/%)
 
+# The signatures of the libraries, in build/docs. Packages have them too, and no page of them is committed. `make lint`
+# writes them as well, so that a source that their tool cannot read is found.
+docs: tried/generate/signatures
+
 # Runs a tool, and prints its time and its last line, or all that it says if it fails.
 SIDE_BY_SIDE = $(MAKE) --no-print-directory --keep-going --output-sync --jobs=$(shell nproc)
+WORD = $(if $(filter generate/signatures,$*),write,$(if $(filter generate/% models/%,$*),check))
 TRIED = $(sort $(LINT) $(QUICK_MODELS) $(SLOW_MODELS))
 .PHONY: $(TRIED:%=tried/%)
 $(TRIED:%=tried/%): tried/%:
 	@begun=$$(date +%s%N); \
-	said=$$(tools/$*.py $(if $(filter generate/% models/%,$*),check) 2>&1); status=$$?; \
+	said=$$(tools/$*.py $(WORD) 2>&1); status=$$?; \
 	tenths=$$((($$(date +%s%N) - begun) / 100000000)); \
 	[ $$status = 0 ] && said=$$(echo "$$said" | tail -n 1) || said="FAILED$$(echo; echo "$$said")"; \
 	printf '%4d.%d s  %-32s %s\n' $$((tenths / 10)) $$((tenths % 10)) tools/$*.py "$$said"; \
@@ -84,6 +89,7 @@ make prove           proves, builds and runs the programs of the demo           
 make lint            the quick checks of the pages, the sources and the tools       about 10 s
 make lint-all        also black, flake8, mypy, pytest, clang-format and shellcheck  about 1 min
 make format          formats the Python and the C                                   30 s
+make docs            writes the signatures of the libraries, in build/docs          1 s
 make check-models    compares the rows of the tests with the models that wrote them about 2 min
 tools/prove_at.py FILE:LINE  proves the function at that line, with --only          10 s or more
 make test            the gate: lint, quick models, every proof, test and program    about 100 min from nothing

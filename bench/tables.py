@@ -1,4 +1,4 @@
-"""Prints the tables of a page of results/: tables.py INSTRUCTIONS REQUESTS TIMES GROWTH, as other commands write them."""
+"""Prints the tables of a run: tables.py INSTRUCTIONS REQUESTS TIMES GROWTH, as other commands write them."""
 import sys
 
 NAMES = {

@@ -6,7 +6,8 @@
 Makes twenty fresh logins for each cell, prints the table, and exits with 1 if a login does not end as expected. A
 peer whose package is not installed is reported, and is no failure. Everything runs in a temporary folder and on free
 ports of the loopback, and is removed after the run. `make interop` builds our programs in `build/interop`. The
-results of earlier runs are in `interop/results`, one file for each date.
+results are also written to a file named after the time, in `build/interop/results`, or to that of --table. None is
+committed: docs/COMPATIBILITY.md has the sums.
 """
 
 from __future__ import annotations
@@ -38,7 +39,7 @@ from shared_users import SharedUsers  # noqa: E402
 from sides import PYTHON, Side  # noqa: E402
 
 #: The head of a file of results.
-HEAD = "# Logins to other programs and by them\n\nWritten by `interop/run.py --table`.\n\n"
+HEAD = "# Logins to other programs and by them\n\nWritten by `interop/run.py`.\n\n"
 
 
 def peers(built: Path, proton: Optional[Path]) -> list[Peer]:
@@ -149,13 +150,18 @@ def table(rows: list[list[str]], versions: list[str], languages: list[str]) -> s
     return "\n".join([when, "", *versions, "", *lines]) + "\n"
 
 
+def results() -> Path:
+    """The file for the results of a run that begins now."""
+    return Path("build/interop/results") / f"{time.strftime('%Y-%m-%d-%H%M')}.md"
+
+
 def given() -> argparse.Namespace:
     """The words of the command line."""
     words = argparse.ArgumentParser(description=__doc__, formatter_class=argparse.RawDescriptionHelpFormatter)
     words.add_argument("--only", default="", help="only this peer")
     words.add_argument("--what", default="", help="only the cells whose text contains these words")
     words.add_argument("--logins", type=int, default=20, help="how many logins a cell has")
-    words.add_argument("--table", type=Path, help="a file to which the results are written")
+    words.add_argument("--table", type=Path, default=results(), help="the file to which the results are written")
     words.add_argument("--record", type=Path, help="a file to which rows of stored vectors are added")
     words.add_argument("--built", type=Path, default=Path("build/interop"), help="the folder of our programs")
     words.add_argument("--proton", type=Path, help="the folder of a libqpid-proton-core that is built with Cyrus SASL")
@@ -194,8 +200,8 @@ def main() -> int:
                 all_right &= right
     text = table(rows, versions, [side.language for side in ours])
     print(f"\n{text}")
-    if told.table:
-        told.table.write_text(HEAD + text)
+    told.table.parent.mkdir(parents=True, exist_ok=True)
+    told.table.write_text(HEAD + text)
     return 0 if all_right else 1
 
 

@@ -50,15 +50,15 @@ def heads(lines):
 def methods(library, item):
     """The signatures of a type's or a trait's functions, with those of `Clone` unless it is infallible."""
     if item.kind == "trait":
-        return [lines for _, lines in signatures.members(item.lines, "    fn ")[0]]
+        return [signatures.signature(lines) for _, lines in signatures.members(item.lines, "    fn ")[0]]
     found = []
-    for block in library.blocks():
+    for block, _ in library.blocks():
         head = block[0].rstrip(" {")
         if re.match(rf"impl(<.*?>)? {item.name}\b", head) and " for " not in head:
             found += signatures.members(block, ("    pub fn ", "    pub const fn "))[0]
         elif re.match(rf"impl(<.*?>)? Clone for {item.name}\b", head) and "is_infallible" not in "".join(block):
             found += signatures.members(block, "    fn ")[0]
-    return [lines for _, lines in found]
+    return [signatures.signature(lines) for _, lines in found]
 
 
 def calls_of(libraries):

@@ -430,8 +430,8 @@ enum fe2o3_status {
     /* The server-final message does not begin with `v=`, or has another signature. */
     FE2O3_CLIENT_SERVER_SIGNATURE_MISMATCH = 36,
     /* A part in the place of an extension is none (RFC 5802, section 7): after the iteration count, or after the
-     * signature. Only a client that is strict, has a channel (also one that says `y,,`) or acts for somebody else returns
-     * it. */
+     * signature. Only a client that is strict, has a channel (also one that says `y,,`) or sends an authorization
+     * identity returns it. */
     FE2O3_CLIENT_MISPLACED_ATTRIBUTE = 37,
     /* The message is not UTF-8. */
     FE2O3_SERVER_UTF8_ERROR = 40,
@@ -1511,8 +1511,9 @@ uint32_t fe2o3_sasl_server_offer(
     size_t *out_len);
 
 /* Writes the user name that a frame body claims: that of an init for SCRAM or PLAIN, for a response that of the open
- * challenge of SCRAM, and for the response to an empty challenge that of the initial response. Nobody is authenticated yet: use it only to look up the record for
- * `fe2o3_sasl_server_step`. Returns FE2O3_NAMES_NO_USER if the body claims no name; then no record is needed. */
+ * challenge of SCRAM, and for the response to an empty challenge that of the initial response. Nobody is authenticated
+ * yet: use it only to look up the record for `fe2o3_sasl_server_step`. Returns FE2O3_NAMES_NO_USER if the body claims
+ * no name; then no record is needed. */
 uint32_t fe2o3_sasl_server_step_claimed_user(
     const struct fe2o3_scram_server *server,
     const uint8_t *body,

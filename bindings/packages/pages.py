@@ -5,6 +5,7 @@
     pages.py pages FOLDER [PAGE=PLACE ..]   copies the pages only, and other pages of the repository to their places
     pages.py check FOLDER..                 tests the links of all Markdown pages below each of these folders
 
+The signatures of the libraries, which `tools/generate/signatures.py` writes, are pages too, in the folder `signatures`.
 A link to a file that the package has leads to its place there. Of any other link into the repository the text is left.
 """
 import os
@@ -68,6 +69,16 @@ def write(folder, places):
         out.chmod(0o644)
 
 
+def write_signatures(folder):
+    sys.path.insert(0, str(TOP / "tools" / "generate"))
+    sys.dont_write_bytecode = True
+    import signatures
+
+    signatures.write(folder)
+    for page in folder.iterdir():
+        page.chmod(0o644)
+
+
 def check(folder):
     """Prints the links of a folder's pages that have no target, as `tools/gate/links.py` finds them."""
     sys.path.insert(0, str(TOP / "tools" / "gate"))
@@ -89,6 +100,7 @@ def main():
         sys.exit(any([check(Path(folder)) for folder in (folder, *more)]))
     more = dict(words.split("=", 1) for words in more)
     write(Path(folder), {**PAGES, **more, **(EXAMPLES if how == "write" else {})})
+    write_signatures(Path(folder) / "signatures")
 
 
 if __name__ == "__main__":

@@ -5,8 +5,9 @@
     tools/gate/pages.py --table         prints the sizes and budgets of all pages
     tools/gate/pages.py --paragraphs    lists the paragraphs with more than 80 words, which are no faults
 
-Words are separated by white space. A page at the top or in docs/ needs a budget. READMEs below the top share one. No line
-of any page has more than 400 characters, SIGNATURES.md apart, which quotes sources.
+Words are separated by white space. A page at the top or in docs/ needs a budget. READMEs below the top share one. Three
+budgets are of sums: `pages` is of the pages with a budget, `by-hand` of all pages but those that a tool writes, and
+`repository` of all. No line of any page has more than 400 characters.
 
 The repository is the one that contains the current folder. The exit status is 1 if anything is above its budget.
 """
@@ -16,22 +17,20 @@ from pathlib import Path
 
 sys.dont_write_bytecode = True
 
-from prose import SKIPPED_FOLDERS, page_blocks, top_of
+from links import pages_of
+from prose import page_blocks, top_of
 
 BUDGETS = Path(__file__).resolve().parent / "pages.txt"
 WIDEST, LONGEST = 400, 80
+# The pages that a tool writes, and the rows of sums.
+WRITTEN = ("docs/WRONG_BODIES.md",)
+SUMS = ("pages", "READMEs", "by-hand", "repository")
 
 
 def budgets():
     """The budgets by page: lines and words, each None if there is none."""
     rows = [line.split() for line in BUDGETS.read_text().splitlines() if line and not line.startswith("#")]
     return {page: tuple(None if one == "-" else int(one) for one in (lines, words)) for page, lines, words in rows}
-
-
-def pages_of(top):
-    """All Markdown pages, as paths below the top."""
-    found = (path.relative_to(top) for path in top.glob("**/*.md"))
-    return sorted(path for path in found if not any(one in SKIPPED_FOLDERS or one[0] == "." for one in path.parts))
 
 
 def size(text):
@@ -45,27 +44,31 @@ def sums(sizes):
 def faults_of(texts, budget):
     """What is above its budget, a sentence each; and the rows of the table: name, size, budget."""
     faults, rows = [], []
-    hand_written = [page for page in texts if "/" not in page or page.startswith("docs/")]
-    readmes = [page for page in texts if page not in hand_written and page.endswith("/README.md")]
-    limited = [page for page in budget if budget[page] != (None, None) and page not in ("pages", "READMEs")]
-    for page in hand_written:
+    main_pages = [page for page in texts if "/" not in page or page.startswith("docs/")]
+    readmes = [page for page in texts if page not in main_pages and page.endswith("/README.md")]
+    limited = [page for page in budget if budget[page] != (None, None) and page not in SUMS]
+    for page in main_pages:
         if page not in budget:
             faults.append(f"{page}: a page without a budget")
     for page in limited:
         if page not in texts:
             faults.append(f"{page}: there is no such page")
-    rows += [(page, size(texts[page]), budget.get(page, (None, None))) for page in hand_written]
-    counted = [size(texts[page]) for page in hand_written if budget.get(page) != (None, None)]
-    rows.append(("pages", sums(counted), budget["pages"]))
-    rows += [(page, size(texts[page]), (None, None)) for page in readmes]
-    rows.append(("READMEs", sums([size(texts[page]) for page in readmes]), budget["READMEs"]))
+    rows += [(page, size(texts[page]), budget.get(page, (None, None))) for page in main_pages]
+    rows += [(page, size(text), (None, None)) for page, text in texts.items() if page not in main_pages]
+    summed = {
+        "pages": [page for page in main_pages if budget.get(page) != (None, None)],
+        "READMEs": readmes,
+        "by-hand": [page for page in texts if page not in WRITTEN],
+        "repository": list(texts),
+    }
+    rows += [(name, sums([size(texts[page]) for page in summed[name]]), budget[name]) for name in SUMS]
     for name, found, limits in rows:
         for unit, count, limit in zip(("lines", "words"), found, limits):
             if limit is not None and count > limit:
                 faults.append(f"{name}: {count} {unit}, and the budget is {limit}")
     for page, text in texts.items():
         for number, line in enumerate(text.split("\n"), 1):
-            if len(line) > WIDEST and not page.endswith("SIGNATURES.md"):
+            if len(line) > WIDEST:
                 faults.append(f"{page}:{number}: {len(line)} characters, and the widest line may have {WIDEST}")
     return faults, rows
 
@@ -98,17 +101,16 @@ def main():
     texts = {str(path): (top / path).read_text(encoding="utf-8") for path in pages_of(top)}
     if sys.argv[1:] == ["--paragraphs"]:
         for page, text in texts.items():
-            if not page.endswith("SIGNATURES.md"):
-                for line, count in long_paragraphs(text):
-                    print(f"{page}:{line}: {count} words")
+            for line, count in long_paragraphs(text):
+                print(f"{page}:{line}: {count} words")
         return
     faults, rows = faults_of(texts, budgets())
     if sys.argv[1:]:
         table(rows)
     for fault in faults:
         print(f"pages: {fault}")
-    total = next(found for name, found, _ in rows if name == "pages")
-    print(f"pages: {total[0]:,} lines and {total[1]:,} words, {len(faults)} faults")
+    words = {name: f"{found[1]:,}" for name, found, _ in rows}
+    print(f"pages: {words['repository']} words, {words['by-hand']} of them by hand, {len(faults)} faults")
     sys.exit(bool(faults))
 
 

@@ -21,7 +21,7 @@ from pathlib import Path
 
 WORDS = Path(__file__).resolve().parent / "words.txt"
 SKIPPED_FOLDERS = {"out", "build", "target"}
-SKIPPED_PAGES = {"CHANGELOG.md", "SIGNATURES.md", "PROMISES.md"}
+SKIPPED_PAGES = {"CHANGELOG.md", "WRONG_BODIES.md"}
 SOURCES = (
     "crates/*/src/**/*.rt",
     "crates/*/specs/**/*.antt",

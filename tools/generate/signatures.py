@@ -1,24 +1,38 @@
 #!/usr/bin/env python3
-"""Writes the page of signatures of each library, crates/NAME/SIGNATURES.md, from its sources.
+"""Writes a page of signatures for each library from its sources. No page is committed.
 
-    tools/generate/signatures.py write      writes the pages
-    tools/generate/signatures.py check      says which page is stale, and ends with status 1 if one is
+    tools/generate/signatures.py write [FOLDER]     writes FOLDER/NAME.md, by default in build/docs/signatures
 
 A page has each public type, trait, constant and function of each public module, as the source writes it without contract
-and body, after the first sentence of its comment. An item of a private module is listed in the module that re-exports
-it. An item of a public module is only named where it is re-exported. The layout is that of `rt fmt`, on which this
-relies: items begin at the first column, methods at the fifth.
+and body, after the first sentence of its comment. The clauses of a call follow by name, each with the definitions of
+specs/ that it cites. An item of a private module is listed in the module that re-exports it. An item of a public module
+is only named where it is re-exported. The exports of the C library are listed at its root. The layout is that of
+`rt fmt`, on which this relies: items begin at the first column, methods at the fifth.
 """
+import os
 import re
 import sys
 from dataclasses import dataclass, field
 from pathlib import Path
 
-CRATES = Path(__file__).resolve().parents[2] / "crates"
-LIBRARIES = ("fe2o3_sasl_wire", "fe2o3_scram", "fe2o3_sasl_core", "fe2o3_sasl", "fe2o3_sasl_negotiation", "saslprep")
+TOP = Path(__file__).resolve().parents[2]
+CRATES = TOP / "crates"
+FOLDER = TOP / "build" / "docs" / "signatures"
+LIBRARIES = (
+    "fe2o3_sasl_negotiation",
+    "fe2o3_sasl_core",
+    "fe2o3_scram",
+    "fe2o3_sasl",
+    "connection_laws",
+    "fe2o3_sasl_wire",
+    "saslprep",
+    "sasl_c",
+)
 WIDTH = 100
-ITEM = re.compile(r"pub (?:const )?(fn|struct|enum|trait|const|static|type) (\w+)")
+EXPORT = 'pub extern "C" fn '
+ITEM = re.compile(r'pub (?:const )?(?:extern "C" )?(fn|struct|enum|trait|const|static|type) (\w+)')
 CONTRACT = re.compile(r"\s*(ensures|requires|ghost|decreases|terminates)\b")
+USE = re.compile(r"ghost use Rattle\.(\w+)\.specs\.(?!declared)(?:\w+\.)*\{(.*)\};")
 
 
 @dataclass
@@ -34,11 +48,12 @@ class Item:
 
 @dataclass
 class Module:
-    """A module: its path below the crate, what it defines, and what it re-exports, as paths."""
+    """A module: its path, its definitions, its re-exports as paths, and the names that it imports from specs/."""
 
     path: tuple
     public: bool
     sentence: str
+    cited: set = field(default_factory=set)
     items: dict = field(default_factory=dict)
     exports: list = field(default_factory=list)
     impls: list = field(default_factory=list)
@@ -49,6 +64,11 @@ def first_sentence(comment):
     text = " ".join(line.strip() for line in comment).strip()
     found = re.match(r"(?:As `\w+`\. )?.*?\.(?=\s|$)", text)
     return found[0] if found else text
+
+
+def unlinked(sentence):
+    """A sentence without the links of rustdoc, whose targets are paths of items."""
+    return re.sub(r"\[(`[^`]*`)\](?:\([\w:]+\))?", r"\1", sentence)
 
 
 def joined(lines):
@@ -116,8 +136,55 @@ def wrapped(head, parts):
     return [head + " {"] + [f"    {part}," if part != ".." else "    .." for part in parts] + ["}"]
 
 
+def cited(text):
+    """The names that a file imports from the specs of this project's crates."""
+    found = set()
+    for crate, names in USE.findall(text):
+        if (CRATES / crate).is_dir():
+            found |= {name.split(" as ")[-1].strip() for name in names.split(",")}
+    return found
+
+
+def head_of(block):
+    """The lines of a function before its body."""
+    indent = re.match(r"\s*", block[0])[0]
+    for at, line in enumerate(block):
+        if line in (indent + "{", indent + "{}"):
+            return block[:at]
+        beside = line.startswith(indent) and line[len(indent) : len(indent) + 1] not in (" ", ")", "")
+        if at and beside and line.strip() != "where":
+            return block[:at]
+        if at == 0 and line.endswith("{") or line.startswith(indent + ")") and line.endswith("{"):
+            return block[: at + 1]
+        if line.endswith(";"):
+            return block[: at + 1]
+    return block
+
+
+def clauses_of(block, names):
+    """The clauses of a function: the name of each, and those of these definitions that it cites, predicates first."""
+    text = "\n".join(head_of(block))
+    for clause in re.finditer(r"^\s+ensures (\w+ )?\{", text, re.M):
+        end, depth = clause.end(), 1
+        while depth and end < len(text):
+            depth += {"{": 1, "}": -1}.get(text[end], 0)
+            end += 1
+        words = dict.fromkeys(re.findall(r"[\w-]+", text[clause.end() : end]))
+        mine = [word for word in words if word in names and word != "record"]
+        yield (clause[1] or "").strip(), sorted(mine, key=lambda word: not word[0].isupper())
+
+
+def promises(block, names, indent=""):
+    """The clauses of a function as a comment."""
+    shown = [
+        f"{name} ({', '.join(mine)})" if mine and name else name or ", ".join(mine) or "unnamed"
+        for name, mine in clauses_of(block, names)
+    ]
+    return comment_of(f"Clauses: {'; '.join(shown)}.", indent, "//") if shown else []
+
+
 def members(block, opening):
-    """The functions of a trait or of an impl, each behind its sentence; and the names of ghost items."""
+    """The functions of a trait or of an impl: the sentence of each, and the lines from it on; and names of ghost items."""
     found, ghosts, comment, at = [], [], [], 1
     while at < len(block):
         line = block[at]
@@ -130,7 +197,7 @@ def members(block, opening):
             end = at + 1
             while end < len(block) and block[end].startswith("        ") or block[end].strip() in (")", ") {"):
                 end += 1
-            found.append((first_sentence(comment), signature(block[at:])))
+            found.append((first_sentence(comment), block[at:]))
             comment = []
         elif not line.startswith("    #["):
             if line.strip():
@@ -139,25 +206,31 @@ def members(block, opening):
     return found, ghosts
 
 
-def comment_of(sentence, indent=""):
+def method(sentence, block, names):
+    """A function of a trait or of an impl, as the page has it."""
+    return comment_of(sentence, "    ") + promises(block, names, "    ") + signature(block)
+
+
+def comment_of(sentence, indent="", mark="///"):
     """A sentence as a comment, broken at the width."""
     lines, now = [], ""
     for word in sentence.split():
-        if len(indent) + 4 + len(now) + 1 + len(word) > WIDTH and now:
+        if len(indent) + len(mark) + len(now) + 2 + len(word) > WIDTH and now:
             lines.append(now)
             now = word
         else:
             now = f"{now} {word}".strip()
-    return [f"{indent}/// {line}" for line in lines + [now] if line]
+    return [f"{indent}{mark} {line}" for line in lines + [now] if line]
 
 
 def read(crate, path, public):
     """Reads a module and those below it."""
     base = CRATES / crate / "src"
     file = base.joinpath(*path).with_suffix(".rt") if path else base / "lib.rt"
-    lines = file.read_text(encoding="utf-8").splitlines()
+    text = file.read_text(encoding="utf-8")
+    lines = text.splitlines()
     head = [line[3:] for line in lines if line.startswith("//!")]
-    module = Module(path, public, first_sentence(head))
+    module = Module(path, public, unlinked(first_sentence(head)), cited(text))
     below, comment, derived, tested, at = [], [], [], False, 0
     while at < len(lines):
         line = lines[at]
@@ -235,6 +308,10 @@ class Library:
                 origin = self.origin(module, path)
                 if origin and not self.modules[origin[0]].public:
                     self.places.setdefault(origin, module.path)
+        for module in self.modules.values():
+            for name, item in module.items.items():
+                if item.lines[0].startswith(EXPORT):
+                    self.places[module.path, name] = ()
 
     def origin(self, module, path):
         """The module of this crate that defines a path, and the name there; or None."""
@@ -258,8 +335,9 @@ class Library:
         out = [
             f"# Signatures of `{self.crate}`",
             "",
-            "Every public item by module, with the first sentence of its comment. Contracts stand in the sources, and the",
-            "main ones in [README.md](README.md). `tools/generate/signatures.py write` writes this page.",
+            "Every public item by module, with the first sentence of its comment and the clauses of its contract: the name",
+            "of each, and the definitions of `specs/` that it cites. The contracts themselves are in the sources. A call",
+            "without a clause is proved to return, and to keep the conditions of the calls that it makes.",
         ]
         for module in self.modules.values():
             if module.public:
@@ -301,12 +379,12 @@ class Library:
         return "::".join((self.crate, *path[1:]) if path[0] == "crate" else path)
 
     def item(self, home, name):
-        item = self.modules[home].items[name]
+        item, names = self.modules[home].items[name], self.modules[home].cited
         out = comment_of(item.sentence)
         if item.kind == "fn":
-            return out + signature(item.lines)
+            return out + promises(item.lines, names) + signature(item.lines)
         if item.kind == "trait":
-            return out + self.trait(item)
+            return out + self.trait(item, names)
         if item.kind == "type":
             return out + [" ".join(line.strip() for line in item.lines)] + self.methods(item)
         if item.kind in ("const", "static"):
@@ -317,20 +395,20 @@ class Library:
             ]
         return out + fields(item.lines) + self.traits(item) + self.methods(item)
 
-    def trait(self, item):
+    def trait(self, item, names):
         found, ghosts = members(item.lines, "    fn ")
         head = item.lines[0].rstrip()
         out = [head if head.endswith("{") else head + " {"]
         if ghosts:
             out.append(f"    // ghost: {', '.join(ghosts)}")
         for sentence, lines in found:
-            out += ([""] if len(out) > 1 else []) + comment_of(sentence, "    ") + lines
+            out += ([""] if len(out) > 1 else []) + method(sentence, lines, names)
         return out + ["}"]
 
     def traits(self, item):
         """The traits of a type, on one line."""
         found = [name for name in item.traits if name != "Drop"]
-        for block in self.blocks():
+        for block, _ in self.blocks():
             head = block[0].split(" where ")[0].rstrip(" {")
             if match := re.match(r"impl(?:<.*?>)? (\S.*) for (\w+)", head):
                 trait = match[1].split("::")[-1] if "<" not in match[1] else match[1]
@@ -339,48 +417,44 @@ class Library:
             elif match := re.match(r"impl From<(\w+)> for (\W.*)", head):
                 if match[1] == item.name:
                     found.append(f"Into<{match[2]}>")
-        return comment_lines(f"It is {', '.join(sorted(found))}.") if found else []
+        return comment_of(f"It is {', '.join(sorted(found))}.", mark="//") if found else []
 
     def methods(self, item):
         """The public methods of a type, from all its impls, under one head for each kind of impl."""
         heads = {}
-        for block in self.blocks():
+        for block, names in self.blocks():
             head = block[0].rstrip(" {")
             if " for " not in head and re.match(rf"impl(?:<.*?>)? {item.name}\b", head):
-                heads.setdefault(head, []).extend(members(block, ("    pub fn ", "    pub const fn "))[0])
+                found = members(block, ("    pub fn ", "    pub const fn "))[0]
+                heads.setdefault(head, []).extend(method(*one, names) for one in found)
         out = []
         for head, found in heads.items():
             if not found:
                 continue
             out += ["", head + " {"]
-            for at, (sentence, lines) in enumerate(found):
-                out += ([""] if at else []) + comment_of(sentence, "    ") + lines
+            for at, lines in enumerate(found):
+                out += ([""] if at else []) + lines
             out.append("}")
         return out
 
     def blocks(self):
-        return [block for module in self.modules.values() for block in module.impls]
+        """The impls of all modules, each with the names that its module imports from specs/."""
+        return [(block, module.cited) for module in self.modules.values() for block in module.impls]
 
 
-def comment_lines(text):
-    return [line.replace("/// ", "// ", 1) for line in comment_of(text)]
+def write(folder):
+    """Writes the pages into a folder, made if there is none."""
+    folder.mkdir(parents=True, exist_ok=True)
+    for crate in LIBRARIES:
+        (folder / f"{crate}.md").write_text(Library(crate).page(), encoding="utf-8")
 
 
 def main():
-    if sys.argv[1:] not in (["write"], ["check"]):
+    if sys.argv[1:2] != ["write"] or len(sys.argv) > 3:
         sys.exit(__doc__)
-    check = sys.argv[1] == "check"
-    stale = 0
-    for crate in LIBRARIES:
-        page, path = Library(crate).page(), CRATES / crate / "SIGNATURES.md"
-        if not check:
-            path.write_text(page, encoding="utf-8")
-        elif not path.exists() or path.read_text(encoding="utf-8") != page:
-            print(f"signatures: crates/{crate}/SIGNATURES.md is stale: tools/generate/signatures.py write")
-            stale += 1
-    if check and not stale:
-        print(f"signatures: {len(LIBRARIES)} pages are as the sources write them")
-    sys.exit(1 if stale else 0)
+    folder = Path(sys.argv[2]) if sys.argv[2:] else FOLDER
+    write(folder)
+    print(f"signatures: {len(LIBRARIES)} pages in {os.path.relpath(folder)}")
 
 
 if __name__ == "__main__":

@@ -103,8 +103,8 @@ pub const CLIENT_ILLEGAL_CLIENT_STATE: u32 = 35;
 pub const CLIENT_SERVER_SIGNATURE_MISMATCH: u32 = 36;
 
 /// A part in the place of an extension is none (RFC 5802, section 7): after the iteration count, or after the
-/// signature. Only a client that is strict, has a channel (also one that says `y,,`) or acts for somebody else returns
-/// it.
+/// signature. Only a client that is strict, has a channel (also one that says `y,,`) or sends an authorization identity
+/// returns it.
 pub const CLIENT_MISPLACED_ATTRIBUTE: u32 = 37;
 
 /// The message is not UTF-8.

@@ -1,5 +1,5 @@
-//! Files of the crate fe2o3-amqp over this one: compiled with the changes that README.md lists, and a login by each of
-//! them. FE2O3_AMQP names the folder of that crate; where it is not set nothing is tried.
+//! Files of the crate fe2o3-amqp over this one: compiled with the changes below, and a login by each of them. FE2O3_AMQP
+//! names the folder of that crate; where it is not set nothing is tried.
 
 use std::fs;
 use std::path::{Path, PathBuf};

@@ -1,7 +1,6 @@
 -- Which machines of acceptors are functions: they have at most one reply to each frame, and one state after it, so that
 -- the laws of `Cuts` hold of their servers. Each is the contract of a clause of `cuts::functions`.
 use Rattle.std.specs.Prelude.{ℕ, List}
-use Rattle.fe2o3_sasl_core.specs.RestrictMechanisms.{offering_machine}
 use Rattle.fe2o3_sasl_core.specs.AnyMechanism.{any_mechanism_machine}
 use Rattle.fe2o3_sasl_core.specs.AnyMechanismLaws.{Machine}
 use Rattle.connection_laws.specs.Cuts.{IsFunction}
@@ -10,7 +9,3 @@ use Rattle.connection_laws.specs.Cuts.{IsFunction}
 abbrev pub AnyMechanismIsFunction : {S T : Type 0} → (S → List (List ℕ)) → (T → List (List ℕ)) → Machine S → Machine T → Type 0
 AnyMechanismIsFunction names others machine other =
     IsFunction machine → IsFunction other → IsFunction (any_mechanism_machine names others machine other)
-
--- the machine of a server that offers only some of its mechanisms is a function if that of its acceptor is
-abbrev pub OfferingIsFunction : {S : Type 0} → (S → List (List ℕ)) → Machine S → Type 0
-OfferingIsFunction names machine = IsFunction machine → IsFunction (offering_machine names machine)

@@ -1,5 +1,6 @@
 -- Connections that do not exist. Each definition is what a wrong implementation would do, or what a weak reading of the
--- laws of connections would allow (AMQP 1.0, part 5, section 5.3.2). `hostile::none` states that there are none.
+-- laws of connections would allow (AMQP 1.0, part 5, section 5.3.2). `hostile::no_server_misbehaves` states that there
+-- are none.
 use Rattle.std.specs.Prelude.{◌≡◌, ◌≢◌, ℕ, ◌+◌, ◌<◌, ◌≤◌, ◌^◌, true, Option, Some, None, List, [], ◌∷◌, ◌++◌, length, flat_map, Ok}
 use Rattle.std.specs.List.{AllByRecursion}
 use Rattle.fe2o3_sasl_wire.specs.SaslFrames as frames

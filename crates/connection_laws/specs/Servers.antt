@@ -7,10 +7,8 @@ use Rattle.fe2o3_scram.specs.Credentials.{Provider}
 use Rattle.fe2o3_sasl_core.specs.Bodies.{SpellsBody}
 use Rattle.fe2o3_sasl_core.specs.Events.{Given, ServerSays}
 use Rattle.fe2o3_sasl_core.specs.ExternalServer.{External, IsInitOf, external_machine, external_user}
-use Rattle.fe2o3_sasl_core.specs.RestrictMechanisms.{Offering, offering_machine}
-use Rattle.fe2o3_sasl_core.specs.AnyMechanism.{BothStates, both_names, any_mechanism_machine, part_names}
-use Rattle.fe2o3_sasl_core.specs.AnyMechanismLaws.{Machine, Splits, PassesOn}
-use Rattle.fe2o3_sasl_core.specs.AnyMechanismUsers.{SomeEvent, AsksOffered}
+use Rattle.fe2o3_sasl_core.specs.AnyMechanism.{BothStates, any_mechanism_machine}
+use Rattle.fe2o3_sasl_core.specs.AnyMechanismLaws.{Machine, Splits}
 use Rattle.fe2o3_sasl_core.specs.PlainServer.{PlainParts, PlainState, PlainLogsIn, asked_identity, plain_machine}
 use Rattle.fe2o3_sasl_core.specs.Runs.{Runs, AcceptorSteps}
 use Rattle.fe2o3_sasl_core.specs.declared.any_mechanism.Selected.{Selected}
@@ -41,42 +39,11 @@ AnyMechanismServersSplit {S} {T} names others machine other = (state : BothState
     × Splits names others machine other state server.connection.events server.connection.replies server.last.state marks
 
 -- every run of this machine from its first state serves as a SCRAM server. This applies to what went to a SCRAM
--- acceptor, by `Splits`, and to what was passed on to it, by `PassesOn`
+-- acceptor, by `Splits`
 abbrev pub ScramRunsServe : {S : Type 0} → Machine S → (Provider → S) → (S → Option (List ℕ)) → Type 0
 ScramRunsServe {S} machine start named = (provider : Provider) (events : List Given) (replies : List ServerSays)
     (last : S) → Runs (AcceptorSteps machine) (start provider) events replies last
     → ScramServes provider events replies (named last)
-
--- ---- only some of the names
-
--- a server that offers only some of its names: each event was passed on as `is_passed_on` says in the state before it,
--- what was passed on is a run of its acceptor by itself, and the rest was rejected
-abbrev pub OfferingServersPassOn : {S : Type 0} → (S → List (List ℕ)) → Machine S → Type 0
-OfferingServersPassOn {S} names machine = (state : Offering S) (server : ServerBy (offering_machine names machine) state)
-    → (marks : List Bool)
-    × PassesOn names machine state server.connection.events server.connection.replies server.last.state marks
-
--- the machine of a server of two acceptors that offers only some of their names
-abbrev pub offering_both : {S T : Type 0} → (S → List (List ℕ)) → (T → List (List ℕ)) → Machine S → Machine T
-    → Machine (Offering (BothStates S T))
-offering_both {S} {T} names others machine other =
-    offering_machine (λ (parts : BothStates S T). both_names (names parts.first) (others parts.second))
-    (any_mechanism_machine names others machine other)
-
--- a server of two acceptors that offers only some of their names, and that no init had reached, names after a
--- negotiation only the user of the acceptor asked last; an init of the negotiation asked it, by an offered mechanism of
--- that acceptor
-abbrev pub OfferingServersNameUsers : {S T : Type 0} → (S → List (List ℕ)) → (T → List (List ℕ)) → Machine S
-    → Machine T → Type 0
-OfferingServersNameUsers {S} {T} names others machine other = (user : S → Option (List ℕ))
-    (other_user : T → Option (List ℕ)) (state : Offering (BothStates S T))
-    (server : ServerBy (offering_both names others machine other) state) (name : List ℕ)
-    → let parts : BothStates S T = server.last.state.inner in
-    state.inner.selected ≡ None → part_names parts.selected (user parts.first) (other_user parts.second) ≡ Some name
-    → (part : Selected) × (part_names (Some part) (user parts.first) (other_user parts.second) ≡ Some name)
-    × (parts.selected ≡ Some part)
-    × SomeEvent (AcceptorSteps (offering_both names others machine other)) state server.connection.events
-    server.connection.replies (AsksOffered names others part)
 
 -- ---- who has logged in at one of several
 
@@ -112,13 +79,6 @@ AnyMechanismServersActAsPart {S} {T} names others machine other = (state : BothS
     (server : ServerBy (any_mechanism_machine names others machine other) state) → server.last.progress ≡ Authenticated
     → (part : Selected) × (server.last.state.selected ≡ Some part)
     × PartNegotiates (any_mechanism_machine names others machine other) state server machine other part
-
--- a server that offers only some of its names, and has logged its client in, is, byte for byte, a server of its
--- acceptor
-abbrev pub OfferingServersActAsInner : {S : Type 0} → (S → List (List ℕ)) → Machine S → Type 0
-OfferingServersActAsInner {S} names machine = (state : Offering S)
-    (server : ServerBy (offering_machine names machine) state) → server.last.progress ≡ Authenticated
-    → NegotiatesAs (offering_machine names machine) state server machine state.inner server.last.state.inner
 
 -- ---- who has not logged in
 

@@ -111,8 +111,8 @@ NegotiationsAgree = (login : Login) (provider : Provider) (password salt : List 
     → (client_pieces server_pieces : List Piece) (offer out : List ℕ)
     → offer_body (acceptor_names (ScramAcceptor provider Initial)) ≡ Some offer
     → joined.server_sent ≡ sasl_header ++ (framed offer ++ out)
-    → (mine : ClientNegotiated (ProfileSteps login.hostname) joined.client_limit (scram_profile login) client_pieces joined.server_sent
-    joined.client_sent client)
+    → (mine : ClientNegotiated (ProfileSteps login.hostname) joined.client_limit (scram_profile login)
+    client_pieces joined.server_sent joined.client_sent client)
     (theirs : ServerNegotiated acceptor_machine joined.server_limit (ScramAcceptor provider Initial) server_pieces
     (sasl_header ++ joined.client_sent) out server)
     → NoncesArePrintable provider.rules.strict mine.events → NoncesArePrintable login.strict theirs.events

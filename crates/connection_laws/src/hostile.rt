@@ -13,7 +13,7 @@ use fe2o3_sasl_core::any_mechanism::HasMechanism;
 /// - it sends other bytes than its header, its list of mechanisms and the frames of its replies.
 ///
 /// Each clause rejects one wrong server or one weak reading of the other laws. Its definition says which.
-pub fn none<A: HasMechanism, B: HasMechanism>()
+pub fn no_server_misbehaves<A: HasMechanism, B: HasMechanism>()
     ensures ignores_init { ¬ IgnoresInit A.machine }
     ensures ignores_response { ¬ IgnoresResponse A.machine }
     ensures answers_other { ¬ AnswersOther A.machine }

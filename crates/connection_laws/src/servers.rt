@@ -5,7 +5,7 @@ ghost use Rattle.fe2o3_sasl_core.specs.ExternalServer.{external_machine};
 ghost use Rattle.fe2o3_sasl_core.specs.PlainServer.{plain_machine};
 ghost use Rattle.fe2o3_sasl_core.specs.SaslAcceptor.{ScramAcceptor, acceptor_machine, acceptor_user};
 ghost use Rattle.connection_laws.specs.ServerLogins.{CompletedLoginsAreLetIn, OnlyCompletedLoginsAreLetIn, SignaturesFollowProofs};
-ghost use Rattle.connection_laws.specs.Servers.{AnyMechanismServersSplit, ScramRunsServe, AnyMechanismServersActAsPart, OfferingServersPassOn, OfferingServersActAsInner, OfferingServersNameUsers, ServersStay, ExternalServersLogIn, PlainServersLogIn};
+ghost use Rattle.connection_laws.specs.Servers.{AnyMechanismServersSplit, ScramRunsServe, AnyMechanismServersActAsPart, ServersStay, ExternalServersLogIn, PlainServersLogIn};
 
 use fe2o3_sasl_core::any_mechanism::HasMechanism;
 
@@ -19,17 +19,6 @@ pub fn any_mechanism<A: HasMechanism, B: HasMechanism>()
     ensures split { AnyMechanismServersSplit A.names B.names A.machine B.machine }
     ensures scram { ScramRunsServe acceptor_machine (λ provider. ScramAcceptor provider Initial) acceptor_user }
     ensures logged_in { AnyMechanismServersActAsPart A.names B.names A.machine B.machine }
-{}
-
-/// A server that offers only some of its mechanisms, over the bytes of a connection. Each event of a negotiation was
-/// passed on as `is_passed_on` says in the state before it. What was passed on is a run of the acceptor by itself, and
-/// the rest was rejected. A server that has logged a client in is, byte for byte, a server of its acceptor, so that all
-/// laws of that acceptor hold of it. Where a server of two acceptors names a user, an init of the negotiation asked that
-/// user's acceptor, by a mechanism that was offered.
-pub fn restrict_mechanisms<A: HasMechanism, B: HasMechanism>()
-    ensures passes_on { OfferingServersPassOn A.names A.machine }
-    ensures logged_in { OfferingServersActAsInner A.names A.machine }
-    ensures named { OfferingServersNameUsers A.names B.names A.machine B.machine }
 {}
 
 /// EXTERNAL over the bytes of a connection (RFC 4422, appendix A). A server of EXTERNAL that has logged a client in got

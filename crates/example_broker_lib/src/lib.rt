@@ -23,9 +23,9 @@ struct Streams<'a, R, I, O> {
     output: &'a mut O,
 }
 
-/// Serves logins over one connection by a file of records, as `scram users add` makes one, until a user has logged in.
-/// Returns the user, and how many logins were wrong before. Each login begins with a protocol header. The third wrong login,
-/// and one that ends otherwise, are errors. Only hashes are offered by which each user of the file can log in. The secret of
+/// Serves up to three login attempts over one connection, by a file of records as `scram users add` makes one. Returns
+/// the user, and how many attempts failed. Each attempt begins with a protocol header. A third failed attempt, and one
+/// that ends otherwise, are errors. Only hashes are offered by which each user of the file can log in. The secret of
 /// mock records is that of the file beside the records: every process answers an unknown user with the same salt.
 pub fn log_in<'a, R: Files + RandomSource + AllocGlobal, I: BufRead, O: Write>(
     rt: &'a R,
@@ -77,8 +77,7 @@ fn form_of(records: &MultiRecordStore) -> (usize, u32) {
 }
 
 impl<R: RandomSource + AllocGlobal, I: BufRead, O: Write> Streams<'_, R, I, O> {
-    /// Serves one login, each call of the server with a fresh nonce. Returns the user who has logged in, or `None` if the
-    /// login was rejected.
+    /// Serves one login attempt, each call of the server with a fresh nonce. Returns the user, or `None` if it failed.
     fn carry<A: AuthenticatedUser + Drop>(&mut self, acceptor: A) -> Result<Option<String>> {
         let (alloc, mut nonce) = (self.rt.alloc(), [0; 32]);
         let mut server = ServerNegotiation::new(alloc, acceptor);

@@ -9,7 +9,6 @@ pub use Rattle.fe2o3_sasl_core.specs.ClientHistory
 pub use Rattle.fe2o3_sasl_core.specs.Complete
 pub use Rattle.fe2o3_sasl_core.specs.SaslAcceptor
 pub use Rattle.fe2o3_sasl_core.specs.AnyMechanism
-pub use Rattle.fe2o3_sasl_core.specs.RestrictMechanisms
 pub use Rattle.fe2o3_sasl_core.specs.AnyMechanismSides
 pub use Rattle.fe2o3_sasl_core.specs.ExternalServer
 pub use Rattle.fe2o3_sasl_core.specs.PlainServer

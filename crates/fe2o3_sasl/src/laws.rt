@@ -9,8 +9,8 @@ ghost use Rattle.fe2o3_sasl.specs.examples.MemoryExamples.{AcceptorsAskForNone, 
 ghost use Rattle.fe2o3_sasl_core.specs.Profiles.{StepAllocates, ViewAllocates};
 ghost use Rattle.fe2o3_sasl_core.specs.Headline.{AnswersOkExactly, ReportsOkExactly, TakenVerifiersAgree};
 ghost use Rattle.fe2o3_sasl_core.specs.CostLaws.{ServerRunsCost, ClientRunsCost};
-ghost use Rattle.fe2o3_sasl_core.specs.AnyMechanismLaws.{AnyMechanismRunsAreSplit, ScramFirstAnswersOkExactly, ScramSecondAnswersOkExactly, OfferingRunsPassOn};
-ghost use Rattle.fe2o3_sasl_core.specs.AnyMechanismUsers.{AnyMechanismNamesUsers, OfferedNamesUsers};
+ghost use Rattle.fe2o3_sasl_core.specs.AnyMechanismLaws.{AnyMechanismRunsAreSplit, ScramFirstAnswersOkExactly, ScramSecondAnswersOkExactly};
+ghost use Rattle.fe2o3_sasl_core.specs.AnyMechanismUsers.{AnyMechanismNamesUsers};
 ghost use Rattle.fe2o3_sasl_core.specs.UnknownUsers.{MockRecordIsMet, SaltTextsDiffer, UnknownCostsAsMock, UnknownIsMock, UnknownIsMockInBoth};
 ghost use Rattle.fe2o3_sasl_core.specs.StepLaws.{OksLogIn, PlainOksLogIn, ReportedOksAreSigned, VerifiedOnSignature};
 ghost use Rattle.fe2o3_sasl_core.specs.Laws.{EveryServer, EveryClient, OneServerHistory, OneClientHistory, SomeServerHistory, SomeClientHistory, AcceptorRunsAreHistories, AcceptorRunsNameUsers, AgreedUsersAreNamed, ProfileRunsAreHistories, KeyedRunsAreRuns, KeyedRunsAreHistories, OksWithinChallenges, RepeatedResponsesAreRefused, OneResponseOneNonce, RefusalsLeaveOpen, PositionsAreUsedOnce, EqualMessagesAgree, NoShortExtensions, OneStrictSideIsEnough, EqualMessagesBindOneChannel, TakenVerifiersAreJudged, ShownProofsAreJudged, OneVerdictEach, OneAuditEach, RepeatedClientPositions, RepeatedServerPositions, RepeatedClientFindings, RepeatedServerFindings, ClientsLogIn, ServersLogIn, ServersWantMemory, ClientsWantMemory, ProfilesWantMemory};
@@ -22,13 +22,15 @@ pub use fe2o3_scram::laws::{
     texts_without_memory, unaltered_exchanges, users_texts,
 };
 
-/// The headline theorem. Over every list of frame bodies, a SCRAM server answers Ok exactly when a response fits its
-/// open challenge and its proof meets the stored key; a SCRAM client reports Ok exactly on
-/// the signature of its open answered challenge, in the outcome or, if it accepts that, in the challenge that it
-/// answered last; and if that verifier is one that a server issued, both agree on user name and client nonce, or their
-/// own differing AuthMessages share one HMAC value. If the init had two parts, or one side received no attribute of RFC
-/// 5802 in the place of an extension, they also agree on full nonce, salt and count, and in the second case on the
-/// header and on the data of the channel.
+/// The headline theorem. Over every list of frame bodies:
+///
+/// - A SCRAM server answers Ok exactly when a response fits its open challenge and its proof meets the stored key.
+/// - A SCRAM client reports Ok exactly on the signature of its open answered challenge. That is in the outcome or, if
+///   the client accepts that, in the challenge that it answered last.
+/// - If a server issued that signature, both agree on user name and client nonce, or their own differing AuthMessages
+///   share one HMAC value. If the init had two parts, or one side received no attribute of RFC 5802 in the place of an
+///   extension, they also agree on full nonce, salt and count. In the second case they agree on the header and on the
+///   data of the channel too.
 pub fn headline()
     ensures server { EveryServer AnswersOkExactly }
     ensures client { EveryClient ReportsOkExactly }
@@ -48,11 +50,13 @@ pub fn runs_are_histories()
     ensures profile { ProfileRunsAreHistories }
 {}
 
-/// States what one step means to its caller: a SCRAM acceptor answers Ok only if a challenge is open and the body is a
-/// response to it whose proof meets the record of its user, whom the acceptor then names; one of PLAIN over records
-/// only if the body is an init with the password of its user's record; and a SCRAM profile reports Ok only on the
-/// signature of the answer that it waits on, in the outcome or, if it accepts that, in a challenge before an outcome
-/// without data (RFC 4422, section 5).
+/// States what one step means to its caller.
+///
+/// - SCRAM server: it answers Ok only if a challenge is open, and the body is a response to it whose proof meets the
+///   record of its user. The acceptor then names that user.
+/// - PLAIN server over records: it answers Ok only if the body is an init with the password of its user's record.
+/// - SCRAM client: it reports Ok only on the signature of the answer that it waits on. That is in the outcome or, if
+///   the client accepts that, in a challenge before an outcome without data (RFC 4422, section 5).
 ///
 /// A caller's own proof cites them as `oks_log_in`, `plain_oks_log_in` and `reported_oks_are_signed` of
 /// `StepLawLemmas.antt`, and `verified_on_signature` of `SignatureStepLemmas.antt`. Both files are in
@@ -97,18 +101,11 @@ pub fn scram_in_any_mechanism<A: HasMechanism>()
     ensures second { ScramSecondAnswersOkExactly A.names A.machine }
 {}
 
-/// A server that offers only some of its mechanisms, over any list of bodies: it passes a body on as `is_passed_on`
-/// says in the state before it. What it passes on is a run of its acceptor by itself, and the rest is rejected.
-pub fn restrict_mechanisms<A: HasMechanism>()
-    ensures { OfferingRunsPassOn A.names A.machine }
-{}
-
 /// States which user a server of several mechanisms names after a run. The name is that by the acceptor that was asked
-/// last, and an init of the run asked it, by a mechanism of that acceptor. If the server offers only some of its names,
-/// that mechanism was offered. The run of that acceptor is in `any_mechanism`.
+/// last, and an init of the run asked it, by a mechanism of that acceptor. The run of that acceptor is in
+/// `any_mechanism`.
 pub fn any_mechanism_users<A: HasMechanism, B: HasMechanism>()
-    ensures named { AnyMechanismNamesUsers A.names B.names A.machine B.machine }
-    ensures offered { OfferedNamesUsers A.names B.names A.machine B.machine }
+    ensures { AnyMechanismNamesUsers A.names B.names A.machine B.machine }
 {}
 
 /// States what a server with mock authentication shows of an unknown user. Without a record of a name it gives the same
@@ -233,11 +230,15 @@ pub fn worked_clients()
     ensures stale_keys { StaleKeysLogInLater }
 {}
 
-/// Laws of every mechanism: each acceptor and each profile has at most one reply to a frame; a server offers what a
-/// profile asks for exactly if both are of one mechanism; PLAIN lets in the same user with the same password and
-/// rejects all others, in words without zero bytes (RFC 4616, section 2); a server of PLAIN over records names the user
-/// and the identity of the profile that it logs in; ANONYMOUS lets in each client that asks for it; a server always
-/// offers something; and the six profiles have six names.
+/// Laws of every mechanism.
+///
+/// - Each acceptor and each profile has at most one reply to a frame.
+/// - A server offers what a profile asks for exactly if both are of one mechanism.
+/// - PLAIN lets in the same user with the same password and rejects all others, in words without zero bytes (RFC 4616,
+///   section 2).
+/// - A server of PLAIN over records names the user and the identity of the profile that it logs in.
+/// - ANONYMOUS lets in each client that asks for it.
+/// - A server always offers something, and the six profiles have six names.
 pub fn mechanisms()
     ensures one_acceptor_reply { OneAcceptorReply }
     ensures one_profile_reply { OneProfileReply }

@@ -11,7 +11,6 @@ use Rattle.fe2o3_scram.specs.ScramServer as server_states
 use Rattle.fe2o3_sasl_core.specs.Bodies.{SpellsBody}
 use Rattle.fe2o3_sasl_core.specs.Events.{Given, ServerSays, Concluded, Failed}
 use Rattle.fe2o3_sasl_core.specs.Headline.{AnswersOkExactly}
-use Rattle.fe2o3_sasl_core.specs.RestrictMechanisms.{Offering, is_passed_on, offering_machine}
 use Rattle.fe2o3_sasl_core.specs.AnyMechanism.{BothStates, any_mechanism_machine, part_for}
 use Rattle.fe2o3_sasl_core.specs.Runs.{Runs, AcceptorGives, AcceptorSteps}
 use Rattle.fe2o3_sasl_core.specs.SaslAcceptor.{Acceptor, ScramAcceptor, acceptor_machine, acceptor_names, acceptor_user}
@@ -124,20 +123,3 @@ ScramSecondAnswersOkExactly {S} names machine = (provider : Provider) (first : S
     (record { first = first; second = ScramAcceptor provider server_states.Initial; selected = None }) events replies last
     marks
     × AnswersAsScram provider (those to_second marks events) (those to_second marks replies) last.second
-
--- ---- one that offers only some of its names
-
--- each body was passed on or not, as `is_passed_on` says in the state before it: what was passed on is a run of the
--- acceptor by itself, and the rest is rejected
-pub record PassesOn {S : Type 0} (names : S → List (List ℕ)) (machine : Machine S) (offering : Offering S)
-    (events : List Given) (replies : List ServerSays) (last : Offering S) (marks : List Bool) : Type 0 where
-  pub marked : MarkedRuns (offering_machine names machine) false (is_passed_on names) offering events replies last marks
-  pub passed : Runs (AcceptorSteps machine) offering.inner (those (λ mark. mark) marks events)
-      (those (λ mark. mark) marks replies) last.inner
-  pub rest : AllByRecursion IsRefusal (those not marks replies)
-
--- a run of an acceptor that offers only some names, over any list of bodies, passes bodies on
-abbrev pub OfferingRunsPassOn : {S : Type 0} → (S → List (List ℕ)) → Machine S → Type 0
-OfferingRunsPassOn {S} names machine = (offering last : Offering S) (events : List Given) (replies : List ServerSays)
-    → Runs (AcceptorSteps (offering_machine names machine)) offering events replies last
-    → (marks : List Bool) × PassesOn names machine offering events replies last marks

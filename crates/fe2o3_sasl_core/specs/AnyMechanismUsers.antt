@@ -4,7 +4,6 @@ use Rattle.std.specs.Prelude.{◌≡◌, ℕ, true, Option, Some, None, List, Ok
 use Rattle.fe2o3_sasl_wire.specs.SaslFrames as frames
 use Rattle.fe2o3_sasl_core.specs.Bodies.{SpellsBody}
 use Rattle.fe2o3_sasl_core.specs.Events.{Given, ServerSays}
-use Rattle.fe2o3_sasl_core.specs.RestrictMechanisms.{Offering, is_passed_on, offering_machine}
 use Rattle.fe2o3_sasl_core.specs.AnyMechanism.{BothStates, both_names, any_mechanism_machine, part_for, part_names}
 use Rattle.fe2o3_sasl_core.specs.AnyMechanismLaws.{Machine}
 use Rattle.fe2o3_sasl_core.specs.Runs.{Runs, AcceptorSteps}
@@ -36,27 +35,3 @@ AnyMechanismNamesUsers {S} {T} names others machine other = (user : S → Option
     → part_names last.selected (user last.first) (other_user last.second) ≡ Some name
     → (part : Selected) × (part_names (Some part) (user last.first) (other_user last.second) ≡ Some name)
     × (last.selected ≡ Some part) × SomeEvent Step parts events replies (AsksPart names others part)
-
--- the body is an init of a mechanism of this part, which a server that offers only some names offers
-abbrev pub AsksOffered : {S T : Type 0} → (S → List (List ℕ)) → (T → List (List ℕ)) → Selected → Offering (BothStates S T)
-    → Given → Type 0
-AsksOffered {S} {T} names others part offering event = (mechanism : List ℕ) × (response hostname : Option (List ℕ))
-    × SpellsBody event.body (Ok (frames.Init mechanism response hostname))
-    × (part_for names others offering.inner (frames.Init mechanism response hostname) ≡ Some part)
-    × (is_passed_on (λ (parts : BothStates S T). both_names (names parts.first) (others parts.second)) offering
-    (frames.Init mechanism response hostname) ≡ true)
-
--- a server that offers only some names, and that no init had reached before a run, names after it only the user of the
--- part asked last, by an init of the run with an offered mechanism of that part
-abbrev pub OfferedNamesUsers : {S T : Type 0} → (S → List (List ℕ)) → (T → List (List ℕ)) → Machine S → Machine T
-    → Type 0
-OfferedNamesUsers {S} {T} names others machine other = (user : S → Option (List ℕ))
-    (other_user : T → Option (List ℕ)) (offering last : Offering (BothStates S T)) (events : List Given)
-    (replies : List ServerSays) (name : List ℕ)
-    → let Step = AcceptorSteps (offering_machine
-    (λ (parts : BothStates S T). both_names (names parts.first) (others parts.second))
-    (any_mechanism_machine names others machine other)) in
-    Runs Step offering events replies last → offering.inner.selected ≡ None
-    → part_names last.inner.selected (user last.inner.first) (other_user last.inner.second) ≡ Some name
-    → (part : Selected) × (part_names (Some part) (user last.inner.first) (other_user last.inner.second) ≡ Some name)
-    × (last.inner.selected ≡ Some part) × SomeEvent Step offering events replies (AsksOffered names others part)

@@ -83,7 +83,8 @@ ReadsOutcome login IsOpen IsVerified (Some text) (Ok verified) = (answer : Answe
     × ReadsServerFinal (is_strict_login login) (answer_at login answer).signature text (Ok verified)
 ReadsOutcome login IsOpen IsVerified (Some text) (Err kind) =
     (((answer : Answering) → ¬ IsOpen answer) × (kind ≡ IllegalClientState))
-    ⊎ ((answer : Answering) × IsOpen answer × ReadsServerFinal (is_strict_login login) (answer_at login answer).signature text (Err kind))
+    ⊎ ((answer : Answering) × IsOpen answer
+    × ReadsServerFinal (is_strict_login login) (answer_at login answer).signature text (Err kind))
 
 -- the reply to a body that spells this, where a challenge is expected for these nonces, these answers are open, and the
 -- signature of these has come in a challenge

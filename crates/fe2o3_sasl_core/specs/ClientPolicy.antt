@@ -18,7 +18,8 @@ use Rattle.fe2o3_sasl_core.specs.declared.client_policy.Mechanism.TheVariants.{S
 
 -- the mechanisms of clients, the strongest first: no standard orders them all, so this order is this library's
 abbrev pub by_strength : List Mechanism
-by_strength = ScramSha512Plus ∷ ScramSha256Plus ∷ ScramSha1Plus ∷ ScramSha512 ∷ ScramSha256 ∷ ScramSha1 ∷ External ∷ Plain ∷ Anonymous ∷ []
+by_strength = ScramSha512Plus ∷ ScramSha256Plus ∷ ScramSha1Plus ∷ ScramSha512 ∷ ScramSha256 ∷ ScramSha1 ∷ External
+    ∷ Plain ∷ Anonymous ∷ []
 
 -- the name of a mechanism
 abbrev pub policy_name : Mechanism → List ℕ

@@ -23,9 +23,10 @@ pub record Given : Type 0 where
   pub nonce : List ℕ
 
 -- what a client logs in with: user name, secret and version, the iteration counts that it accepts, what it says of its
--- channel (RFC 5802, section 6), whom it acts for, or none if it acts for itself, whether it is set to be strict (it rejects an attribute that RFC 5802 defines in the
--- place of an extension), whether it accepts the server's signature in a challenge too (RFC 4422, section 5), and the
--- hostname that its init carries, if any (AMQP 1.0, part 5, section 5.3.3.2)
+-- channel (RFC 5802, section 6), whom it acts for, or none if it acts for itself, whether it is set to be strict (it
+-- rejects an attribute that RFC 5802 defines in the place of an extension), whether it accepts the server's signature
+-- in a challenge too (RFC 4422, section 5), and the hostname that its init carries, if any (AMQP 1.0, part 5, section
+-- 5.3.3.2)
 pub record Login : Type 0 where
   pub user : List ℕ
   pub secret : Secret
@@ -45,7 +46,7 @@ login_mechanism login = mechanism_of login.version (is_bound login.channel)
 abbrev pub login_header : Login → ClientHeader
 login_header login = record { channel = login.channel; acts_for = login.acts_for }
 
--- a login is strict if it binds a channel or acts for somebody else, or is set to
+-- a login is strict if it binds a channel or sends an authorization identity, or is set to
 abbrev pub is_strict_login : Login → Bool
 is_strict_login login = needs_strict (login_header login) || login.strict
 

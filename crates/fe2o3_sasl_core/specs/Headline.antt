@@ -33,7 +33,8 @@ pub record AnswersOkExactly (provider : Provider) (events : List Given) (replies
 abbrev pub SignedAt : Login → List Given → List ClientSays → ℕ → Option (List ℕ) → Type 0
 SignedAt login events replies m (Some text) = (event : Given) × (answer : Answering) × (slice_get events m ≡ Some event)
     × SpellsBody event.body (Ok (frames.Outcome outcomes.Ok (Some text)))
-    × OpenAnswer login events replies m answer × ReadsServerFinal (is_strict_login login) (answer_at login answer).signature text (Ok tt)
+    × OpenAnswer login events replies m answer
+    × ReadsServerFinal (is_strict_login login) (answer_at login answer).signature text (Ok tt)
 SignedAt login events replies m None = (event : Given) × (answer : Answering) × (slice_get events m ≡ Some event)
     × SpellsBody event.body (Ok (frames.Outcome outcomes.Ok None)) × VerifiedAnswer login events replies m answer
 

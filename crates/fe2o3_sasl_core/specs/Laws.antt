@@ -171,8 +171,8 @@ OneStrictSideIsEnough = (sides : Sides) (k n : ℕ) (answer : Answering) (accept
     → AcceptsAt sides.provider sides.server_events sides.server_replies n accepted
     → T (is_strict_login sides.login) ⊎ T (is_strict sides.provider.rules) → NoneMisplacedIn answer accepted
 
--- a client that has a channel cannot be talked out of binding it: of an answer and an accepted response with equal
--- AuthMessages, where the server takes no `y,,`, both bind one channel, of one kind and with the same data
+-- an attacker cannot make a client that has a channel skip channel binding: of an answer and an accepted response with
+-- equal AuthMessages, where the server takes no `y,,`, both bind one channel, of one kind and with the same data
 abbrev pub EqualMessagesBindOneChannel : Type 0
 EqualMessagesBindOneChannel = (sides : Sides) (k n : ℕ) (answer : Answering) (accepted : Accepted)
     → IsRecord accepted.challenge.stored → HoldsHeaderBytes (login_header sides.login)

@@ -6,7 +6,6 @@ pub mod ClientHistory
 pub mod Complete
 pub mod SaslAcceptor
 pub mod AnyMechanism
-pub mod RestrictMechanisms
 pub mod LoginAttempts
 pub mod AnyMechanismSides
 pub mod ExternalServer

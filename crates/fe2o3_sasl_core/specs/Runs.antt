@@ -131,7 +131,8 @@ abbrev pub client_answer : Result ClientReply ProfileError → ClientSays
 client_answer (Ok reply) = client_reply reply
 client_answer (Err fault) = Refused fault
 
--- the login of these words, with the password as typed, without a channel and a hostname; the signature has to come in the outcome
+-- the login of these words, with the password as typed, without a channel and a hostname; the signature has to come in
+-- the outcome
 abbrev pub login_of : ScramVersion → List ℕ → List ℕ → ℕ → Login
 login_of version user password limit =
     let secret = Password (Typed password) in

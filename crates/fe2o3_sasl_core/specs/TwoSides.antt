@@ -120,8 +120,8 @@ abbrev pub NoneMisplacedIn : Answering → Accepted → Type 0
 NoneMisplacedIn answer accepted = NoneMisplaced answer.text accepted.challenge.client.bare accepted.final.without
 
 -- both sides mean one login: one version of keys, user name and client nonce. Where the init was plain, or one side
--- received no misplaced attribute, also one full nonce, salt and count; in the second case also one GS2 header and the data of one
--- channel
+-- received no misplaced attribute, also one full nonce, salt and count; in the second case also one GS2 header and the
+-- data of one channel
 pub record Agree (login : Login) (provider : Provider) (answer : Answering) (accepted : Accepted) : Type 0 where
   pub version : (keys_at login answer).version ≡ provider.version
   pub header : HoldsHeaderBytes (login_header login) → NoneMisplacedIn answer accepted

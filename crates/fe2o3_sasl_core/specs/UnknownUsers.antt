@@ -69,8 +69,8 @@ UnknownCostsAsMock = (rules : ServerRules) (rights : Rights) (mock : MockSetting
 -- a server of two mechanisms, each over its own store, that has the name in neither store gives the replies of one that
 -- has its mock records
 abbrev pub UnknownIsMockInBoth : Type 0
-UnknownIsMockInBoth = (rules other_rules : ServerRules) (rights other_rights : Rights) (mock other_mock : MockSettings) (store other : Store)
-    (name : List ℕ) (state other_state : ServerState) (asked : Option Selected)
+UnknownIsMockInBoth = (rules other_rules : ServerRules) (rights other_rights : Rights) (mock other_mock : MockSettings)
+    (store other : Store) (name : List ℕ) (state other_state : ServerState) (asked : Option Selected)
     → GivesAlike (any_mechanism_machine acceptor_names acceptor_names acceptor_machine acceptor_machine)
     (record {
       first = mock_server rules rights mock (without_user store name) state;

@@ -56,8 +56,8 @@ pub enum Selected {
 /// One server of two acceptors, or of more if one of them is an `AnyMechanism` itself. It offers the names of the
 /// first, followed by those that only the second has. An init goes to the first that has its mechanism, and a response
 /// to the one that the last init went to, whatever that answered. The other is unchanged. An init of a mechanism that
-/// neither has, and a response before any init, are rejected and change nothing. The user, the reason of a rejection, the
-/// HMAC values and the allocations are those of the one that answers.
+/// neither has, and a response before any init, are rejected and change nothing. Everything else (user, reason of a
+/// rejection, HMAC values, allocations) comes from the acceptor that answers.
 #[derive(Drop)]
 pub struct AnyMechanism<A, B> {
     first: A,

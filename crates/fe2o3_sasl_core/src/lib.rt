@@ -14,7 +14,6 @@ pub mod login_attempts;
 mod mechanism_names;
 pub mod plain_server;
 pub mod rejection;
-pub mod restrict_mechanisms;
 pub mod sasl_acceptor;
 pub mod sasl_profile;
 mod scram_acceptor;
@@ -30,7 +29,6 @@ pub use crate::external_server::{ExternalServer, NoExternalIdentity};
 pub use crate::login_attempts::{LoginAttempt, claimed_user};
 pub use crate::plain_server::{MAX_PASSWORD_LEN, PlainPasswords, PlainServer};
 pub use crate::rejection::Rejection;
-pub use crate::restrict_mechanisms::{OfferError, RestrictMechanisms};
 pub use crate::sasl_acceptor::{
     AuthenticatedUser, SaslAcceptor, SaslAcceptorExt, SaslAnonymousMechanism, SaslPlainMechanism,
     SaslServerFrame,

@@ -32,14 +32,22 @@ pub enum SaslServerFrame {
     Rejected(Rejection),
 }
 
-/// The server's side of a negotiation. An implementation specifies its state, on which alone its answers depend; the
-/// names of its mechanisms in that state; its machine: the replies to an init and to a response, and the state after
-/// each; at which of them it allocates; and how many HMAC values each takes. A call that runs out of memory leaves the
-/// state unchanged.
+/// The server's side of a negotiation. To write an acceptor, define:
 ///
-/// An implementation also specifies why it rejects a frame, by the state and by what it knows of users, which no call changes.
-/// Only the reason depends on that: `machine`, `allocates` and `hmacs` do not have it as an argument. So a server that answers an
-/// unknown user by a mock record may keep in its log that the user is unknown, and nothing else that it does shows it.
+/// - `State`: what its answers depend on,
+/// - `state`: the state of a value,
+/// - `names`: the names of its mechanisms in a state,
+/// - `machine`: the reply to an init or a response, and the next state,
+/// - `allocates`: at which inits and responses it allocates,
+/// - `hmacs`: how many HMAC values each takes,
+/// - `Known`, `known`: what it knows of users, which no call changes,
+/// - `reasons`: why it rejects a frame, by the state and by what it knows of users.
+///
+/// A call that runs out of memory leaves the state unchanged.
+///
+/// Only the reason depends on what it knows of users: `machine`, `allocates` and `hmacs` do not have that as an
+/// argument. So a server that answers an unknown user by a mock record may keep in its log that the user is unknown,
+/// and nothing else that it does shows it.
 pub trait SaslAcceptor: Clone {
     ghost use Rattle.fe2o3_sasl_core.specs.declared.rejection.Rejection.{Rejection};
 

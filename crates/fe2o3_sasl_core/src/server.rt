@@ -43,7 +43,8 @@ use std::mem;
 /// that the connection admits, in this order.
 ///
 /// A `Server` has one open exchange. An init that is accepted, whatever its mechanism, takes the place of the exchange or
-/// login before it, and an init that is rejected leaves that as it is. The server names a user from the outcome Ok to the next init that is accepted.
+/// login before it, and an init that is rejected leaves that as it is. The server names a user from the outcome Ok to
+/// the next init that is accepted.
 ///
 /// ```text
 /// let options = ServerOptions::new(alloc, Mechanisms::scram());

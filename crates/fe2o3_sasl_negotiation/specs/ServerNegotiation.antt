@@ -57,8 +57,8 @@ AsksAcceptor machine turn state event answer next =
     (says : ServerSays) × AcceptorSteps machine state event says next × ServerOutputs says turn answer
 
 -- what a server answers to the body of a frame
-abbrev pub ServerReplies : {S : Type 0} → (S → List ℕ → SaslFrame → SaslFrame → S → Type 0) → FrameKind → S → Given → SideOutput → S
-    → Type 0
+abbrev pub ServerReplies : {S : Type 0} → (S → List ℕ → SaslFrame → SaslFrame → S → Type 0) → FrameKind → S
+    → Given → SideOutput → S → Type 0
 ServerReplies machine turn state event answer next = (spelled : Result SaslFrame Error) × SpellsBody event.body spelled
     × AnswersTo (AsksAcceptor machine turn state event) turn state spelled answer next
 

@@ -17,7 +17,7 @@ ghost use Rattle.fe2o3_sasl_wire.specs.FrameView.{shown};
 ghost use Rattle.fe2o3_sasl_negotiation.specs.declared.progress.Expected.TheVariants.{Header};
 ghost use Rattle.fe2o3_sasl_negotiation.specs.declared.progress.Progress.TheVariants.{InProgress};
 
-use crate::framing::{MAX_FRAME, Step, is_sasl, refuse_header, screen, send};
+use crate::framing::{MAX_FRAME, Step, is_sasl, read_expected, refuse_header, send};
 use crate::progress::{CloseReason, Expected, FrameKind, Progress};
 use crate::side::{ConnectionSide, Endpoint, Role};
 use crate::snapshot::{RestoreError, Snapshot};
@@ -146,7 +146,7 @@ pub(crate) fn reply(
     ensures cost { ClientReplyCosts turn (profile_of profile.old) (record { body = drop 4 unit.now; nonce = nonce.now })
         meter.old meter.new }
 {
-    let view = match screen(turn, &unit[4..]) {
+    let view = match read_expected(turn, &unit[4..]) {
         Ok(view) => view,
         Err(why) => return Ok(Step::closed(why, Expected::Frame(turn))),
     };

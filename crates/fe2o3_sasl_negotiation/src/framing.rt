@@ -4,7 +4,7 @@ ghost use Rattle.std.specs.Prelude.{◌≡◌, ◌↔◌, ◌+◌, ◌-◌, ◌<
 ghost use Rattle.fe2o3_sasl_wire.specs.FrameView.{viewed_frame};
 ghost use Rattle.fe2o3_sasl_negotiation.specs.Framing.{sasl_header, is_sasl_header, size_of, Fits, IsPart};
 ghost use Rattle.fe2o3_sasl_negotiation.specs.Negotiations.{IsInTurn, Sends, closes};
-ghost use Rattle.fe2o3_sasl_negotiation.specs.private.Units.{TakesUnit, Appends, Screens};
+ghost use Rattle.fe2o3_sasl_negotiation.specs.private.Units.{TakesUnit, Appends, ReadsExpected};
 ghost use Rattle.fe2o3_sasl_negotiation.specs.declared.progress.Expected.TheVariants.{Header, Frame};
 ghost use Rattle.fe2o3_sasl_negotiation.specs.declared.progress.Progress.TheVariants.{Failed};
 ghost use Rattle.fe2o3_sasl_negotiation.specs.declared.progress.CloseReason.TheVariants.{ProtocolHeaderMismatch};
@@ -214,8 +214,8 @@ fn is_in_turn(turn: FrameKind, view: &FrameView<'_>) -> bool
 }
 
 /// Reads a body. A frame that is not expected closes the negotiation, and so does a malformed body.
-pub fn screen(turn: FrameKind, body: &[u8]) -> Result<FrameView<'_>, CloseReason>
-    ensures { Screens turn body.now result }
+pub fn read_expected(turn: FrameKind, body: &[u8]) -> Result<FrameView<'_>, CloseReason>
+    ensures { ReadsExpected turn body.now result }
 {
     match view_frame(body) {
         Ok((view, _)) if is_in_turn(turn, &view) => Ok(view),

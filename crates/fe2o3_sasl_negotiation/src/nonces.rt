@@ -4,7 +4,6 @@
 ghost use Rattle.fe2o3_sasl_core.specs.AnyMechanism.{any_mechanism_machine};
 ghost use Rattle.fe2o3_sasl_core.specs.ExternalServer.{external_machine};
 ghost use Rattle.fe2o3_sasl_core.specs.PlainServer.{plain_machine};
-ghost use Rattle.fe2o3_sasl_core.specs.RestrictMechanisms.{offering_machine};
 ghost use Rattle.fe2o3_sasl_core.specs.SaslAcceptor.{acceptor_machine};
 ghost use Rattle.fe2o3_sasl_core.specs.Servers.{sasl_machine};
 ghost use Rattle.fe2o3_sasl_negotiation.specs.Nonces.{ClientsIgnoreNonces, IgnoresResponseNonce, ServersIgnoreNonces};
@@ -28,7 +27,5 @@ pub fn response_nonces<A: HasMechanism, B: HasMechanism>()
     ensures plain { IgnoresResponseNonce plain_machine }
     ensures any_mechanism { IgnoresResponseNonce A.machine → IgnoresResponseNonce B.machine
         → IgnoresResponseNonce (any_mechanism_machine A.names B.names A.machine B.machine) }
-    ensures restrict_mechanisms { IgnoresResponseNonce A.machine
-        → IgnoresResponseNonce (offering_machine A.names A.machine) }
     ensures server { IgnoresResponseNonce sasl_machine }
 {}

@@ -165,8 +165,8 @@ fn answer_piece(
     ensures hostname { IfOk result (λ _. hostname_in side.new ≡ hostname_in side.old) }
     ensures ok { IfOk result (λ taken. (more : List ℕ) × (sent.new.items ≡ sent.old.items ++ more)
         × ((limit : ℕ) (profile : Profile)
-        → Continues (ClientConnection (ProfileSteps (hostname_in side.old)) limit profile) (client_side side.old) piece.now.bytes.now
-        piece.now.nonce taken more (client_side side.new))) }
+        → Continues (ClientConnection (ProfileSteps (hostname_in side.old)) limit profile) (client_side side.old)
+        piece.now.bytes.now piece.now.nonce taken more (client_side side.new))) }
 {
     let mut taken = 0;
     while taken < piece.bytes.len() && side.progress() == Progress::InProgress {

@@ -14,7 +14,7 @@ ghost use Rattle.fe2o3_sasl_negotiation.specs.declared.progress.Expected.TheVari
 ghost use Rattle.fe2o3_sasl_negotiation.specs.declared.progress.Progress.TheVariants.{InProgress};
 
 use crate::client::{ClientRole, open, reply, shown_name};
-use crate::framing::{MAX_FRAME, Step, screen};
+use crate::framing::{MAX_FRAME, Step, read_expected};
 use crate::progress::{CloseReason, Expected, FrameKind, Progress};
 use crate::side::{ConnectionSide, Endpoint};
 use bytes::BytesMut;
@@ -104,7 +104,7 @@ fn answer_offer(
     ensures cost { meter.new ≡ meter.old }
 {
     let expected = Expected::Frame(turn);
-    let view = match screen(turn, &unit[4..]) {
+    let view = match read_expected(turn, &unit[4..]) {
         Ok(view) => view,
         Err(why) => return Ok(Step::closed(why, expected)),
     };

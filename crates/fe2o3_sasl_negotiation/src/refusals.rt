@@ -6,7 +6,7 @@ ghost use Rattle.fe2o3_sasl_negotiation.specs.Refusals.{CompletesRefusal, Reject
 ghost use Rattle.fe2o3_sasl_negotiation.specs.declared.progress.Expected.TheVariants.{Header};
 ghost use Rattle.fe2o3_sasl_negotiation.specs.declared.progress.Progress.TheVariants.{InProgress};
 
-use crate::framing::screen;
+use crate::framing::read_expected;
 use crate::progress::{Expected, FrameKind};
 use crate::side::{ConnectionSide, Endpoint, Role};
 use crate::snapshot::{RestoreError, Snapshot};
@@ -48,7 +48,7 @@ fn copy_of(alloc: Global, found: Option<&[u8]>) -> Result<Option<Vec<u8>>, OutOf
 fn refusal_of(alloc: Global, turn: FrameKind, body: &[u8]) -> Result<Option<Vec<u8>>, OutOfMemory>
     ensures { IfOk result (λ copy. RejectsWith turn body.now (option_map (λ taken. taken.items) copy)) }
 {
-    match screen(turn, body) {
+    match read_expected(turn, body) {
         Ok(view) => copy_of(alloc, rejection_data(&view)),
         Err(_) => Ok(None),
     }

@@ -13,7 +13,7 @@ ghost use Rattle.fe2o3_sasl_wire.specs.declared.sasl_frames.error.Error.TheVaria
 ghost use Rattle.fe2o3_sasl_negotiation.specs.declared.progress.Expected.TheVariants.{Header};
 ghost use Rattle.fe2o3_sasl_negotiation.specs.declared.progress.Progress.TheVariants.{InProgress, Authenticated};
 
-use crate::framing::{MAX_FRAME, Step, is_sasl, refuse_header, screen, send};
+use crate::framing::{MAX_FRAME, Step, is_sasl, read_expected, refuse_header, send};
 use crate::progress::{CloseReason, Expected, FrameKind, Progress};
 use crate::side::{ConnectionSide, Endpoint, Role};
 use crate::snapshot::{RestoreError, Snapshot, is_name};
@@ -142,7 +142,7 @@ fn reply<A: SaslAcceptor>(
     ensures cost { ServerReplyCosts A.hmacs turn (A.state acceptor.old) (record { body = drop 4 unit.now; nonce = nonce.now })
         meter.old meter.new }
 {
-    let view = match screen(turn, &unit[4..]) {
+    let view = match read_expected(turn, &unit[4..]) {
         Ok(view) => view,
         Err(why) => return Ok(Step::closed(why, Expected::Frame(turn))),
     };

@@ -121,8 +121,8 @@ VerifiedTextsAgree = (side : ClientSide) (provider : Provider) (own text last it
     → (client_auth_message client ≡ server_auth_message server → TextsAgree client server)
     × (client_auth_message client ≢ server_auth_message server → Collide client server))
 
--- one strict side is enough: where the client is strict, or the server is, as each that binds a channel is, one side received no misplaced attribute, so
--- that both agree on the whole login
+-- one strict side is enough: where the client is strict, or the server is, as each that binds a channel is, one side
+-- received no misplaced attribute, so that both agree on the whole login
 abbrev pub OneStrictSideOfTextsIsEnough : Type 0
 OneStrictSideOfTextsIsEnough = (side : ClientSide) (provider : Provider) (own text its init response : List ℕ)
     (client : ClientKnows side own text) (server : ServerKnows provider its init response)

@@ -1,6 +1,6 @@
--- That a client which has a channel cannot be talked out of binding it, and that nobody in the middle of two channels logs
--- in by its proof (RFC 5802, section 6). Each law is a clause of `laws::bound_channels`. None needs an option of either side: a
--- client that has a channel tests the parts after the count in any case (`needs_strict`).
+-- An attacker cannot make a client that has a channel skip channel binding, and nobody in the middle of two channels
+-- logs in by its proof (RFC 5802, section 6). Each law is a clause of `laws::bound_channels`. None needs an option of
+-- either side: a client that has a channel tests the parts after the count in any case (`needs_strict`).
 use Rattle.std.specs.Prelude.{ℕ, List, ◌≡◌, ◌≢◌, ◌++◌, Some, T, codes, is_some, ◌||◌}
 use Rattle.fe2o3_scram.specs.Agreement.{AcceptedTexts, ClientKnows, Collide, ServerKnows, TextsAgree, Verified, client_auth_message, keys_known, server_auth_message}
 use Rattle.fe2o3_scram.specs.ChannelBinding.{AcceptsFlag, ClientHeader, HoldsHeaderBytes, cbind_data, cbind_input, data_bytes, data_of_kind, header_of, is_strict}

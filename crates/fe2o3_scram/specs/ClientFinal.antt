@@ -123,8 +123,8 @@ abbrev pub Meets : Server → ClientFinal → Type 0
 Meets server final = MeetsStoredKey server.version server.stored.stored_key final.proof
     (auth_message server.bare server.first final.without)
 
--- the message has this channel binding (the header and the data of the channel), and names the nonce of both sides and these values (RFC
--- 5802, section 5.1)
+-- the message has this channel binding (the header and the data of the channel), and names the nonce of both sides and
+-- these values (RFC 5802, section 5.1)
 pub record NamesClientFinal (header : ClientHeader) (both text : List ℕ) (final : ClientFinal) : Type 0 where
   pub binding : HasBase64 text 0 (codes "c=") (cbind_input header)
   pub nonce : Part text 1 (codes "r=" ++ both)

@@ -31,7 +31,8 @@ OpensRecord version (Both own keys) password salt count =
     ⊎ (((salt ≢ keys.salt) ⊎ (count ≢ keys.count)) × (password_bytes own ≡ password) × IsNormal own)
 
 -- the start of an exchange (RFC 5802, section 5): the client's header, its user, secret and limits, whether
--- it is set to be strict, what the server accepts, who may act as whom, the password, the salt and the count of the record, and the nonces
+-- it is set to be strict, what the server accepts, who may act as whom, the password, the salt and the count of the
+-- record, and the nonces
 pub record Exchange : Type 0 where
   pub version : ScramVersion
   pub header : ClientHeader
@@ -51,8 +52,9 @@ pub record Exchange : Type 0 where
 abbrev pub binding_expected : Exchange → List ℕ
 binding_expected x = cbind_input (expected_header x.rules.channels (header_of x.header))
 
--- the server accepts the header, the user may act for the identity that it names, the secret opens the record, the client accepts the count, and names, nonces and salts
--- are what the code holds; a strict side receives a name and nonces that the grammar allows (RFC 5802, section 7)
+-- the server accepts the header, the user may act for the identity that it names, the secret opens the record, the
+-- client accepts the count, and names, nonces and salts are what the code holds; a strict side receives a name and
+-- nonces that the grammar allows (RFC 5802, section 7)
 pub record IsSound (x : Exchange) : Type 0 where
   pub header : TakesHeader x.rules (header_of x.header)
   pub right : may_act x.rights x.user x.header.acts_for ≡ true
@@ -123,4 +125,5 @@ pub record Succeeds (x : Exchange) : Type 0 where
       (Ok (record { header = header_of x.header; user = x.user; nonce = x.client_nonce; bare = bare_in x }))
   pub server_first : ReadsServerFirst (client_in x) (first_in x) (Ok (named_in x))
   pub client_final : ReadsClientFinal (server_in x) (answer_in x).message (Ok (final_in x))
-  pub server_final : ReadsServerFinal (client_in x).strict (answer_in x).signature (server_final_of (server_in x) (final_in x)) (Ok tt)
+  pub server_final : ReadsServerFinal (client_in x).strict (answer_in x).signature
+      (server_final_of (server_in x) (final_in x)) (Ok tt)

@@ -13,8 +13,8 @@ use Rattle.fe2o3_scram.specs.ServerFinal.{ReadsServerFinal}
 use Rattle.fe2o3_scram.specs.ServerFirst.{ServerChallenge}
 
 -- the text logs this user in, for this identity or for itself: a challenge to this user is open, and the text is a
--- client-final message to it that passes every test; the last are that its proof meets the stored key of the challenge's record, and that the user may act
--- for the identity that the challenge names
+-- client-final message to it that passes every test; the last are that its proof meets the stored key of the
+-- challenge's record, and that the user may act for the identity that the challenge names
 pub record TextLogsIn (version : ScramVersion) (rules : ServerRules) (rights : Rights) (state : ServerState)
     (text user : List ℕ) (acts_for : Option (List ℕ)) : Type 0 where
   pub challenge : ServerChallenge

@@ -28,8 +28,9 @@ pub data ClientState : Type 0 where
   Complete : (keys : Option ClientKeys) → ClientState
 
 -- a client (RFC 5802, section 5): its user and its secret, its version, the counts that it accepts, what it says of its
--- channel, whom it acts for, or none if it acts for itself, whether it rejects an attribute that RFC 5802 defines in the place of an extension without a channel too,
--- whether it accepts the server's signature in a challenge too (RFC 4422, section 5), and its state
+-- channel, whom it acts for, or none if it acts for itself, whether it rejects an attribute that RFC 5802 defines in
+-- the place of an extension without a channel too, whether it accepts the server's signature in a challenge too (RFC
+-- 4422, section 5), and its state
 pub record ClientSide : Type 0 where
   pub user : List ℕ
   pub secret : Secret
@@ -154,7 +155,7 @@ abbrev pub started : ClientSide → List ℕ → ClientSide
 started side nonce = with_state side (ClientFirstSent (base64_text nonce)
     (client_first_bare side.user (base64_text nonce)))
 
--- a client is strict if it binds a channel or acts for somebody else, or is set to
+-- a client is strict if it binds a channel or sends an authorization identity, or is set to
 abbrev pub is_strict_client : ClientSide → Bool
 is_strict_client side = needs_strict (header_in side) || side.strict
 

@@ -99,8 +99,8 @@ server_for version rules may_act exchange = server_of version (expected_header r
     (is_strict rules) exchange.challenge.bare exchange.challenge.first exchange.challenge.nonce exchange.stored may_act
 
 -- what a server answers to a client-final message (RFC 5802, section 5), and its state after it: an accepted one closes
--- the challenge and logs its user in, for the identity of its header, a rejected one changes nothing, and without an open challenge it is rejected
--- unread
+-- the challenge and logs its user in, for the identity of its header, a rejected one changes nothing, and without an
+-- open challenge it is rejected unread
 abbrev pub ConcludesFrom : ServerState → ScramVersion → ServerRules → Rights → List ℕ
     → Result (Option (List ℕ)) ServerScramErrorKind → ServerState → Type 0
 ConcludesFrom (ServerFirstSent challenge stored) version rules rights text (Ok (Some message)) next =

@@ -8,7 +8,7 @@ ghost use Rattle.fe2o3_scram.specs.examples.MovedChannels.{MovedChannelsPass, Mo
 ghost use Rattle.fe2o3_scram.specs.Logins.{AcceptedTextsLogIn, VerifiedTextsAreSigned};
 ghost use Rattle.fe2o3_scram.specs.Laws.{OneVersion, OneFinalText, OneSignature, DigestsAreSized, MacsAreSized, OneBytesOfBase64, Base64IsReadAgain, NoCommaInBase64, PartsExist, OneListOfParts, OneEscapedName, NoCommaInEscapedNames, OneClientFirst, OneServerFirst, OneClientFinal, OneServerFinal, SomeClientFirst, SomeServerFirst, SomeClientFinal, SomeServerFinal, UnalteredExchangesSucceed, MadeRecordsAreReadable, OneRecord, OneSpelling, RecordsAreReadAgain, SomeRecord, OneUsersAnswer, SomeUsersAnswer, UsersAreReadAgain, OneMixedAnswer, SomeMixedAnswer, MixedAreReadAgain, MixedAreWrittenBack, NoMismatch, KeysStandForPassword, KeysAnswerAsPassword, BothAnswerAsPassword, OneRecordOfPassword, OneAnswerOfPassword, ServerErrorsAreReadAgain, OneServerError, ServerErrorsAreNoSignature};
 ghost use Rattle.fe2o3_scram.specs.ScramServer.{StatesAreReported};
-ghost use Rattle.fe2o3_scram.specs.examples.MemoryExamples.{AnsweredClientsTakeNone, CommasTakeNone, ErrorsTakeNone, OtherNoncesTakeNone, UnboundTextsTakeNone, UnknownMechanismsTakeNone, UnknownUsersTakeNone};
+ghost use Rattle.fe2o3_scram.specs.examples.MemoryExamples.{AnsweredClientsAllocateNothing, CommasAllocateNothing, ErrorsAllocateNothing, OtherNoncesAllocateNothing, MissingBindingsAllocateNothing, UnknownMechanismsAllocateNothing, UnknownUsersAllocateNothing};
 
 use crate::hmac::ScramVersion;
 
@@ -170,13 +170,13 @@ pub fn mixed_texts()
 /// message of an unknown user; a client-final message with another nonce, and one without a channel binding; a record
 /// of an unknown mechanism; and a line whose name has a comma.
 pub fn texts_without_memory()
-    ensures errors { ErrorsTakeNone }
-    ensures answered { AnsweredClientsTakeNone }
-    ensures unknown_users { UnknownUsersTakeNone }
-    ensures other_nonces { OtherNoncesTakeNone }
-    ensures cbind_flag_y { UnboundTextsTakeNone }
-    ensures unknown_mechanisms { UnknownMechanismsTakeNone }
-    ensures commas { CommasTakeNone }
+    ensures errors { ErrorsAllocateNothing }
+    ensures answered { AnsweredClientsAllocateNothing }
+    ensures unknown_users { UnknownUsersAllocateNothing }
+    ensures other_nonces { OtherNoncesAllocateNothing }
+    ensures missing_bindings { MissingBindingsAllocateNothing }
+    ensures unknown_mechanisms { UnknownMechanismsAllocateNothing }
+    ensures commas { CommasAllocateNothing }
 {}
 
 /// States what the state of a server is. Two servers with the same open challenge, record of that challenge and

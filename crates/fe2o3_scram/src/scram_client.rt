@@ -186,7 +186,8 @@ impl ScramClient {
     /// in the middle can have the client show an answer for the count 1, from which the password is soon guessed. RFC
     /// 7677, section 4, asks for at least 4096.
     pub fn with_min_iterations(self, min_iterations: u32) -> Self
-        ensures { result ≡ with_limits self (record { min_iterations = min_iterations; max_iterations = self.limits.max_iterations }) }
+        ensures { result ≡ with_limits self
+            (record { min_iterations = min_iterations; max_iterations = self.limits.max_iterations }) }
     {
         let limits = IterationLimits {
             min_iterations,
@@ -282,8 +283,8 @@ impl ScramClient {
     ///
     /// - the server's part of the nonce has to be printable and not empty (`ClientNonceMismatch`);
     /// - the iteration count has to be without a sign or leading zeros (`IterationCountParseError`);
-    /// - what follows the count, or the signature, has to be an extension (`MisplacedAttribute`), also if the client has a
-    ///   channel, bound or not, or acts for somebody else.
+    /// - what follows the count, or the signature, has to be an extension (`MisplacedAttribute`), also if the client
+    ///   has a channel, bound or not, or sends an authorization identity.
     ///
     /// If it verifies a server's signature, both agree on the whole login, collisions of HMAC values aside
     /// (`laws::accepted_messages`), whether the server is strict or not.
@@ -443,10 +444,10 @@ impl ScramClient {
     ///
     /// The errors are, in this order: `IllegalClientState` if the client has not sent the client-final message last;
     /// `Utf8Error`; `ServerSignatureMismatch` if the first part does not begin with `v=`; `Base64DecodeError`;
-    /// `MisplacedAttribute` of a client that is strict, has a channel or acts for somebody else if a part after the
-    /// signature is no extension; `ServerSignatureMismatch` for another signature. `OutOfMemory` is returned only if none
-    /// of the first three errors applies. After `ServerSignatureMismatch`, `ServerError::parse` says whether the message is
-    /// an error of the server.
+    /// `MisplacedAttribute` of a client that is strict, has a channel or sends an authorization identity if a part
+    /// after the signature is no extension; `ServerSignatureMismatch` for another signature. `OutOfMemory` is returned
+    /// only if none of the first three errors applies. After `ServerSignatureMismatch`, `ServerError::parse` says
+    /// whether the message is an error of the server.
     pub fn validate_server_final(
         &mut self,
         alloc: Global,

@@ -78,9 +78,9 @@ impl ScramAuthenticatorState {
 /// earlier one, and an accepted client-final message closes it. A call that returns an error leaves
 /// the authenticator unchanged.
 ///
-/// Each login looks its user up once, at the client-first message. The open challenge keeps a copy of
-/// the record that it was made with, so the store may change between two messages of one login: a
-/// user who is removed or gets another record can still end a login that has begun.
+/// Each login looks its user up once, at the client-first message. The open challenge keeps a copy of the record that
+/// it was made with, so the store may change between two messages of one login: a user who is removed or gets another
+/// record can still complete a login that has begun.
 #[derive(Drop)]
 pub struct ScramAuthenticator<C: ScramCredentialProvider> {
     credentials: C,
@@ -170,8 +170,8 @@ impl<C: ScramCredentialProvider> ScramAuthenticator<C> {
 
     /// Returns this server, but it is one of the mechanism with `-PLUS` (RFC 5802, section 6): it accepts only clients
     /// that bind this channel, by a kind of which it has the data, and tests extensions like a strict one. Offer it
-    /// beside a server without channel binding that does not accept `y,,`: a client that has a channel then cannot be
-    /// talked out of binding it (`laws::bound_channels`).
+    /// beside a server without channel binding that does not accept `y,,`: an attacker then cannot make a client that
+    /// has a channel skip channel binding (`laws::bound_channels`).
     pub fn with_channels(self, channels: ChannelBindings) -> Self
         ensures provider { provider_in result ≡ provider_in self }
         ensures rules { rules_in result ≡ record (rules_in self) { channels = Some channels } }

@@ -29,7 +29,8 @@ use Rattle.fe2o3_sasl_core.specs.declared.sasl_profile.error.ProfileError.{Profi
 
 -- ---- a profile that a login reaches stays one
 
-same_stands : (words : Words) (client after : ClientSide) → after ≡ client → ClientIsReached words client → ClientIsReached words after
+same_stands : (words : Words) (client after : ClientSide) → after ≡ client → ClientIsReached words client
+    → ClientIsReached words after
 same_stands words client after same stands = carried (ClientIsReached words) client after (sym same) stands
 
 answered_stands : (words : Words) (state : ClientState) (client after : ClientSide) (text : List ℕ)
@@ -197,7 +198,8 @@ message_stays mechanism message is_due hostname nonce (frames.Outcome code more)
 message_stays mechanism message is_due hostname nonce (frames.Init name response host) reply moved is = (is_due, is.1)
 message_stays mechanism message is_due hostname nonce (frames.Response text) reply moved is = (is_due, is.1)
 
-same_comes : (login : Login) (profile next : Profile) → next ≡ profile → ProfileIsReached login profile → ProfileIsReached login next
+same_comes : (login : Login) (profile next : Profile) → next ≡ profile → ProfileIsReached login profile
+    → ProfileIsReached login next
 same_comes login profile next same comes = carried (ProfileIsReached login) profile next (sym same) comes
 
 machine_comes : (login : Login) (profile : Profile) (hostname : Option (List ℕ)) (nonce : List ℕ) (frame : SaslFrame)
@@ -218,7 +220,8 @@ machine_comes login (MessageProfile mechanism message is_due) hostname nonce fra
 
 -- also where the reply is not sent
 sent_comes : (login : Login) (profile : Profile) (body : Option (List ℕ)) (moved next : Profile)
-    → ProfileIsReached login profile → ProfileIsReached login moved → next ≡ sent_or_not profile (λ _. moved) body → ProfileIsReached login next
+    → ProfileIsReached login profile → ProfileIsReached login moved → next ≡ sent_or_not profile (λ _. moved) body
+    → ProfileIsReached login next
 sent_comes login profile None moved next comes moves is = same_comes login profile next is comes
 sent_comes login profile (Some body) moved next comes moves is = same_comes login moved next is moves
 

@@ -32,7 +32,8 @@ silent_short answer other same nothing =
     let sent : length answer.sent ≡ 0 = ap (λ (a : SideOutput). length a.sent) same ∙ ap length nothing in
     omega (arith, sent)
 
-sends_short : (body : List ℕ) (progress : Progress) (expected : Expected) (answer : SideOutput) → Sends body progress expected answer
+sends_short : (body : List ℕ) (progress : Progress) (expected : Expected) (answer : SideOutput)
+    → Sends body progress expected answer
     → Short answer
 sends_short body progress expected answer (inr (long, same)) = silent_short answer _ same refl
 sends_short body progress expected answer (inl (fits, same)) =

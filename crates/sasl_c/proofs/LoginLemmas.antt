@@ -179,7 +179,8 @@ only_both : (login : Login) (status : Status) → login.secret ≡ 2
 unfolding IsNoSecret
 only_both login status is passed none (inl (zero, first)) = absurd (omega (arith, is, zero))
 only_both login status is passed none (inr (inl (one, first))) = absurd (omega (arith, is, one))
-only_both login status is passed none (inr (inr (inl (two, inl first)))) = no_first (password_tests login.form login.password.now) status passed first
+only_both login status is passed none (inr (inr (inl (two, inl first)))) =
+    no_first (password_tests login.form login.password.now) status passed first
 only_both login status is passed none (inr (inr (inl (two, inr (other, first))))) = no_first (keys_tests login) status none first
 only_both login status is passed none (inr (inr (inr (wide, same)))) = absurd (omega (arith, is, wide))
 

@@ -212,7 +212,8 @@ taken_up config before kept state keeps wants limit comes shows = (
 
 pub received : (config : Config) (bytes nonce : List ℕ) (before after : Struct) (side next : Side Logged) (taken : ℕ)
     (sent : List ℕ) → IsServer config before side → side.progress ≡ InProgress
-    → ServerTakes (accepts_extended before.connection) server_names server_machine side bytes nonce taken sent next → IsServer config after next
+    → ServerTakes (accepts_extended before.connection) server_names server_machine side bytes nonce taken sent next
+    → IsServer config after next
     → after ≡ side_struct (accepts_extended before.connection) next → Received config bytes nonce before after taken sent
 unfolding Received
 received config bytes nonce before after side next taken sent is wants held then written =

@@ -199,7 +199,8 @@ keeps_none rules identities kept before text challenge status is wrong = inr (in
 
 -- memory is requested where the message reaches a base64 text
 pub final_asks : (rules : ServerRules) (kept : Kept) (before : Struct) (text : List ℕ) (challenge : ServerChallenge)
-    (shown : VersionedRecord) (why : ServerScramErrorKind) (status : Status) → IsOpenFor rules before challenge → ShowsRecord kept shown
+    (shown : VersionedRecord) (why : ServerScramErrorKind) (status : Status) → IsOpenFor rules before challenge
+    → ShowsRecord kept shown
     → (why ≡ NoMemory → ReachesBase64 (expected_header rules.channels challenge.header) challenge.nonce text)
     → status ≡ server_status why → status ≡ statuses.OutOfMemory → FinalAsks rules kept text before
 final_asks rules kept before text challenge shown why status is shows comes gives memory =

@@ -139,5 +139,5 @@ KeepsNoPart kept = (expected : Expected) (held : List ℕ) → Keeps kept InProg
 
 -- or it is never expected to that side
 abbrev pub KeepsNoPartOf : (Expected → Bool) → Struct → Type 0
-KeepsNoPartOf is_expected kept = (expected : Expected) (held : List ℕ) → Keeps kept InProgress expected held → IsTrue (is_expected expected)
-    → ¬ IsPart expected 512 held
+KeepsNoPartOf is_expected kept = (expected : Expected) (held : List ℕ) → Keeps kept InProgress expected held
+    → IsTrue (is_expected expected) → ¬ IsPart expected 512 held

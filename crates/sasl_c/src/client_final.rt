@@ -67,7 +67,7 @@ fn nonce_text<'a>(nonce: &[u8; 32], room: &'a mut [u8; 44]) -> &'a str
 
 /// Returns the answer of a client that has sent its client-first message, by this secret.
 #[tactic(auto, using(crate::proofs::ClientLemmas::answers))]
-fn answered_by(
+fn answer_with_secret(
     alloc: Global,
     login: &Login<'_>,
     version: ScramVersion,
@@ -106,7 +106,7 @@ fn answered_by(
 
 /// Returns the answer of a client that has sent its client-first message, by the secret of its login.
 #[tactic(auto, using(crate::proofs::ClientLemmas::secrets))]
-fn answered_of(
+fn answer_of_login(
     alloc: Global,
     login: &Login<'_>,
     version: ScramVersion,
@@ -129,7 +129,7 @@ fn answered_of(
                 Err(status) => return Err(status),
             };
             let secret = ClientSecret::Password(password);
-            answered_by(
+            answer_with_secret(
                 alloc,
                 login,
                 version,
@@ -146,7 +146,7 @@ fn answered_of(
                 Err(status) => return Err(status),
             };
             let secret = ClientSecret::Keys(&keys);
-            answered_by(
+            answer_with_secret(
                 alloc,
                 login,
                 version,
@@ -170,7 +170,7 @@ fn answered_of(
                 password,
                 keys: &keys,
             };
-            answered_by(
+            answer_with_secret(
                 alloc,
                 login,
                 version,
@@ -200,7 +200,7 @@ fn not_due(login: &Login<'_>, client: &ScramClient) -> Status
 
 /// Returns the answer to a server-first message.
 #[tactic(auto, using(crate::proofs::ClientLemmas::answers))]
-fn answered(
+fn compute_answer(
     alloc: Global,
     login: &Login<'_>,
     client: &ScramClient,
@@ -224,7 +224,7 @@ fn answered(
         Ok(header) => header,
         Err(status) => return Err(status),
     };
-    answered_of(alloc, login, version, &header, client, server_first, meter)
+    answer_of_login(alloc, login, version, &header, client, server_first, meter)
 }
 
 /// Writes the client-final message.
@@ -254,7 +254,7 @@ fn answer(
     let Ok(text) = str::from_utf8(server_first) else {
         return Err(WriteError::Other(Status::Client(ScramErrorKind::Utf8Error)));
     };
-    let answer = answered(alloc, login, client, text, meter)?;
+    let answer = compute_answer(alloc, login, client, text, meter)?;
     if answer.signature.len() > 64 {
         return Err(WriteError::Other(Status::TooLong));
     }

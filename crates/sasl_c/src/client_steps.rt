@@ -45,7 +45,7 @@ fn shown_name(hostname: &Option<String>) -> Option<&str>
 
 /// The result of a frame body.
 #[derive(Drop)]
-struct Made {
+struct StepResult {
     /// The body to send, if it is not empty.
     sent: Vec<u8>,
 
@@ -64,7 +64,7 @@ fn stepped(
     body: &[u8],
     nonce: &[u8; 32],
     meter: &mut Meter,
-) -> Result<Made, Status>
+) -> Result<StepResult, Status>
     requires { meter.old ≤ 2 ^ 63 }
     ensures ok { IfOk result (λ made. ProfileStepped (shown hostname.entry) (profile_of profile.old)
         (record { body = body.now; nonce = nonce.now }) made.next made.progress made.sent.items) }
@@ -82,7 +82,7 @@ fn stepped(
     let Some(next) = scram_of(profile) else {
         return Err(Status::InvalidSnapshot);
     };
-    Ok(Made {
+    Ok(StepResult {
         sent,
         progress,
         next,
@@ -90,14 +90,14 @@ fn stepped(
 }
 
 /// Returns the result of a frame body for a client.
-fn answered(
+fn compute_step(
     alloc: Global,
     login: &SaslLogin<'_>,
     client: &ScramClient,
     body: &[u8],
     nonce: &[u8; 32],
     meter: &mut Meter,
-) -> Result<Made, Status>
+) -> Result<StepResult, Status>
     requires { meter.old ≤ 2 ^ 63 }
     ensures ok { IfOk result (λ made. ClientStepped login.now (record { body = body.now; nonce = nonce.now })
         client.now made.next (progress_number made.progress) made.sent.items) }
@@ -141,7 +141,7 @@ fn step(
     ensures memory { AsksText (¬ HasNoHostname login.now) result }
 {
     has_room(out, out_len)?;
-    let made = match answered(alloc, login, client, body, nonce, meter) {
+    let made = match compute_step(alloc, login, client, body, nonce, meter) {
         Ok(made) => made,
         Err(status) => return Err(WriteError::Other(status)),
     };

@@ -69,7 +69,8 @@ fn number_of(expected: Expected) -> u32
 
 /// What is expected, of its number.
 fn expected_of(number: u32) -> Option<Expected>
-    ensures { MatchOption result ((expected : ExpectedUnit) → expected_number expected ≢ number) (λ expected. expected_number expected ≡ number) }
+    ensures { MatchOption result ((expected : ExpectedUnit) → expected_number expected ≢ number)
+        (λ expected. expected_number expected ≡ number) }
 {
     match number {
         0 => Some(Expected::Header),

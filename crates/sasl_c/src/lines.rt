@@ -260,7 +260,8 @@ pub extern "C" fn fe2o3_scram_line(
     out: &mut [u8],
     out_len: &mut usize,
 ) -> u32
-    ensures { AnswersText result (λ answer. Fills (SpellsLine username.now kept.now) (record { bytes = out.old; len = out_len.old })
+    ensures { AnswersText result (λ answer. Fills (SpellsLine username.now kept.now)
+        (record { bytes = out.old; len = out_len.old })
         (record { bytes = out.new; len = out_len.new }) answer × AsksText (IsUtf8 username.now) answer) }
 {
     text_number(write(compute_line(alloc, username, kept), out, out_len))

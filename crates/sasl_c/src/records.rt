@@ -44,7 +44,8 @@ pub struct ScramRecord {
 impl ScramRecord {
     /// Returns the struct of a record, or `None` if the record does not fit.
     pub fn of(kept: &fe2o3_scram::ScramRecord) -> Option<ScramRecord>
-        ensures { MatchOption result (¬ RecordHasRoom kept.now) (λ shown. RecordHasRoom kept.now × (shown ≡ record_struct kept.now)) }
+        ensures { MatchOption result (¬ RecordHasRoom kept.now)
+            (λ shown. RecordHasRoom kept.now × (shown ≡ record_struct kept.now)) }
     {
         let (version, stored) = (*kept.scram_version(), kept.as_stored_password());
         let len = digest_len(version);

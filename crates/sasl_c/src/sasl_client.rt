@@ -311,7 +311,7 @@ pub extern "C" fn fe2o3_sasl_client_open(out: &mut [u8], out_len: &mut usize) ->
 
 /// The result of received bytes.
 #[derive(Drop)]
-struct Made {
+struct ReceiveResult {
     /// How many bytes were used.
     taken: usize,
 
@@ -330,7 +330,7 @@ fn taken(
     bytes: &[u8],
     nonce: &[u8; 32],
     meter: &mut Meter,
-) -> Result<Made, Status>
+) -> Result<ReceiveResult, Status>
     requires { meter.old ≤ 2 ^ 63 }
     ensures ok { IfOk result (λ made. (login : LoginStruct) (before : Structs) → IsClient login before (client_side side.old)
         → (client_side side.old).progress ≡ InProgress → ClientTakes (extended_in side.old) (hostname_in side.old)
@@ -345,7 +345,7 @@ fn taken(
     let Some(next) = SaslClient::of(side) else {
         return Err(Status::InvalidSnapshot);
     };
-    Ok(Made {
+    Ok(ReceiveResult {
         taken: received.taken,
         sent,
         next,
@@ -360,7 +360,7 @@ fn received(
     bytes: &[u8],
     nonce: &[u8; 32],
     meter: &mut Meter,
-) -> Result<Made, Status>
+) -> Result<ReceiveResult, Status>
     requires { meter.old ≤ 2 ^ 63 }
     ensures ok { IfOk result (λ made. ReceivesAsClient login.now bytes.now nonce.now client.now made.next made.taken
         (Ok made.sent.items)) }

@@ -388,7 +388,7 @@ impl SaslServerConfig<'_> {
 
 /// What a side of a connection makes of bytes.
 #[derive(Drop)]
-struct TakenUp<A> {
+struct RestoredResult<A> {
     taken: usize,
     sent: BytesMut,
 
@@ -405,14 +405,15 @@ fn restore<A: AuthenticatedUser + Drop>(
     bytes: &[u8],
     nonce: &[u8; 32],
     meter: &mut Meter,
-) -> Result<TakenUp<A>, Status>
+) -> Result<RestoredResult<A>, Status>
     requires meter { meter.old ≤ 2 ^ 63 }
     requires wanting { kept.now.progress ≡ InProgress }
     ensures ok { IfOk result (λ call. IsServerKept kept.now
         × ServerTakes kept.now.extended_headers A.names A.machine (side_of kept.now (A.state acceptor)) bytes.now nonce.now
         call.taken call.sent.items (server_side A.state call.side)
         × (extended_in call.side ≡ kept.now.extended_headers)) }
-    ensures err { IfErr result (λ status. status ≢ StatusOutOfMemory → (status ≡ StatusInvalidSnapshot) × ¬ IsServerKept kept.now) }
+    ensures err { IfErr result (λ status. status ≢ StatusOutOfMemory
+        → (status ≡ StatusInvalidSnapshot) × ¬ IsServerKept kept.now) }
 {
     let mut side = match ServerNegotiation::restore(alloc, acceptor, kept) {
         Ok(side) => side,
@@ -422,7 +423,7 @@ fn restore<A: AuthenticatedUser + Drop>(
     };
     let mut sent = BytesMut::new(alloc);
     let received = side.receive(alloc, bytes, nonce, meter, &mut sent)?;
-    Ok(TakenUp {
+    Ok(RestoredResult {
         taken: received.taken,
         sent,
         side,
@@ -448,7 +449,7 @@ impl SaslServer {
 
 /// What a call makes of bytes.
 #[derive(Drop)]
-struct Made {
+struct ReceiveResult {
     /// How many it takes.
     taken: usize,
 
@@ -467,17 +468,18 @@ fn taken<A: Shows + Drop>(
     bytes: &[u8],
     nonce: &[u8; 32],
     meter: &mut Meter,
-) -> Result<Made, Status>
+) -> Result<ReceiveResult, Status>
     requires meter { meter.old ≤ 2 ^ 63 }
     requires wanting { kept.now.progress ≡ InProgress }
     ensures ok { IfOk result (λ made. (next : ServerConnectionSide A) × ServerTakes kept.now.extended_headers A.names A.machine
         (side_of kept.now (A.state acceptor)) bytes.now nonce.now made.taken made.sent.items (server_side A.state next)
         × (extended_in next ≡ kept.now.extended_headers) × ShowsBy A.state A.shows made.next next
         × (made.next ≡ struct_by A.state A.written_for next)) }
-    ensures err { IfErr result (λ status. status ≢ StatusOutOfMemory → ((status ≡ StatusInvalidSnapshot) × ¬ IsServerKept kept.now)
+    ensures err { IfErr result (λ status. status ≢ StatusOutOfMemory
+        → ((status ≡ StatusInvalidSnapshot) × ¬ IsServerKept kept.now)
         ⊎ ((status ≡ StatusTooLong) × ((next : ServerConnectionSide A) × (taken : ℕ) × (sent : List ℕ)
-        × ServerTakes kept.now.extended_headers A.names A.machine (side_of kept.now (A.state acceptor)) bytes.now nonce.now taken sent
-        (server_side A.state next) × HasNone A.state A.shows next))) }
+        × ServerTakes kept.now.extended_headers A.names A.machine (side_of kept.now (A.state acceptor)) bytes.now nonce.now
+        taken sent (server_side A.state next) × HasNone A.state A.shows next))) }
 {
     let call = match restore(alloc, acceptor, kept, bytes, nonce, meter) {
         Ok(call) => call,
@@ -486,7 +488,7 @@ fn taken<A: Shows + Drop>(
     let Some(next) = SaslServer::of(&call.side) else {
         return Err(Status::TooLong);
     };
-    Ok(Made {
+    Ok(ReceiveResult {
         taken: call.taken,
         sent: call.sent,
         next,
@@ -502,7 +504,7 @@ fn received(
     bytes: &[u8],
     nonce: &[u8; 32],
     meter: &mut Meter,
-) -> Result<Made, Status>
+) -> Result<ReceiveResult, Status>
     requires { meter.old ≤ 2 ^ 63 }
     ensures ok { IfOk result (λ made. Received config.now bytes.now nonce.now server.now made.next made.taken
         made.sent.items) }

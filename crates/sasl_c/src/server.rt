@@ -271,7 +271,8 @@ fn open_header(state: u32) -> Option<ChannelBindingFlag>
 impl ScramServer {
     /// Returns the open challenge with its hash, if the struct holds both.
     pub fn exchange(&self) -> Option<(ScramVersion, OpenChallenge<'_>)>
-        ensures { MatchOption result ((version : ScramVersions) (challenge : ServerChallenge) → ¬ IsOpenBy self.now version challenge)
+        ensures { MatchOption result
+            ((version : ScramVersions) (challenge : ServerChallenge) → ¬ IsOpenBy self.now version challenge)
             (λ shown. IsOpenBy self.now shown.0 (challenge_kept shown.1)) }
     {
         let version = version_of(self.version)?;

@@ -284,7 +284,8 @@ pub extern "C" fn fe2o3_scram_server_claimed_user(
     out_len: &mut usize,
 ) -> u32
     ensures { AnswersText result (λ answer. Fills (ClaimedUser either_header client_first.now)
-        (record { bytes = out.old; len = out_len.old }) (record { bytes = out.new; len = out_len.new }) answer × AsksText (HasEscapes either_header client_first.now) answer) }
+        (record { bytes = out.old; len = out_len.old }) (record { bytes = out.new; len = out_len.new }) answer
+        × AsksText (HasEscapes either_header client_first.now) answer) }
 {
     text_number(claimed_into(alloc, EITHER_HEADER, client_first, out, out_len))
 }
@@ -456,9 +457,11 @@ pub extern "C" fn fe2o3_scram_server_final(
     out: &mut [u8],
     out_len: &mut usize,
 ) -> u32
-    ensures { AnswersText result (λ answer. FillsWithin 90 (Concludes default_rules [] kept.now client_final.now server.old server.new)
+    ensures { AnswersText result (λ answer. FillsWithin 90
+        (Concludes default_rules [] kept.now client_final.now server.old server.new)
         (record { bytes = out.old; len = out_len.old }) (record { bytes = out.new; len = out_len.new }) answer
-        × OnErr answer (server.new ≡ server.old) × AsksText (FinalAsks default_rules kept.now client_final.now server.old) answer) }
+        × OnErr answer (server.new ≡ server.old)
+        × AsksText (FinalAsks default_rules kept.now client_final.now server.old) answer) }
 {
     let mut meter = Meter::new();
     text_number(conclude(

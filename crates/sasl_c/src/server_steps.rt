@@ -85,7 +85,7 @@ fn told(reply: ServerReply) -> Result<(Vec<u8>, Progress), Status>
 
 /// The result of a frame body.
 #[derive(Drop)]
-struct Made {
+struct StepResult {
     /// The body to send.
     sent: Vec<u8>,
 
@@ -103,7 +103,7 @@ fn stepped<A: Shows + Drop>(
     body: &[u8],
     nonce: &[u8; 32],
     meter: &mut Meter,
-) -> Result<Made, Status>
+) -> Result<StepResult, Status>
     requires { meter.old ≤ 2 ^ 63 }
     ensures ok { IfOk result (λ made. IsStepped A.state A.machine A.shows A.written_for (A.state acceptor)
         (record { body = body.now; nonce = nonce.now }) made.next made.progress made.sent.items) }
@@ -123,7 +123,7 @@ fn stepped<A: Shows + Drop>(
     let Some(next) = acceptor.shown(progress) else {
         return Err(Status::TooLong);
     };
-    Ok(Made {
+    Ok(StepResult {
         sent,
         progress,
         next,
@@ -131,14 +131,14 @@ fn stepped<A: Shows + Drop>(
 }
 
 /// Returns the result of a frame body for a server.
-fn answered(
+fn compute_step(
     alloc: Global,
     config: &SaslServerConfig<'_>,
     server: &ScramServer,
     body: &[u8],
     nonce: &[u8; 32],
     meter: &mut Meter,
-) -> Result<Made, Status>
+) -> Result<StepResult, Status>
     requires { meter.old ≤ 2 ^ 63 }
     ensures ok { IfOk result (λ made. ServerStepped config.now (record { body = body.now; nonce = nonce.now })
         server.now made.next (progress_number made.progress) made.sent.items) }
@@ -182,7 +182,7 @@ fn step(
     ensures memory { AsksText (NoneHolds (config_tests config.now)) result }
 {
     has_room(out, out_len)?;
-    let made = match answered(alloc, config, server, body, nonce, meter) {
+    let made = match compute_step(alloc, config, server, body, nonce, meter) {
         Ok(made) => made,
         Err(status) => return Err(WriteError::Other(status)),
     };
@@ -247,8 +247,9 @@ fn compute_claimed_user(alloc: Global, server: &ScramServer, body: &[u8]) -> Res
 }
 
 /// Writes the user name that a frame body claims: that of an init for SCRAM or PLAIN, for a response that of the open
-/// challenge of SCRAM, and for the response to an empty challenge that of the initial response. Nobody is authenticated yet: use it only to look up the record for
-/// `fe2o3_sasl_server_step`. Returns FE2O3_NAMES_NO_USER if the body claims no name; then no record is needed.
+/// challenge of SCRAM, and for the response to an empty challenge that of the initial response. Nobody is authenticated
+/// yet: use it only to look up the record for `fe2o3_sasl_server_step`. Returns FE2O3_NAMES_NO_USER if the body claims
+/// no name; then no record is needed.
 #[unsafe(no_mangle)]
 #[tactic(auto, using(crate::proofs::StatusLemmas::written))]
 pub extern "C" fn fe2o3_sasl_server_step_claimed_user(

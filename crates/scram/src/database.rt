@@ -2,23 +2,25 @@
 
 use fe2o3_scram::{MultiRecordStore, ScramCredentialProvider, ScramRecord, ScramVersion};
 use scram_base_lib::database::{Database, WAIT};
-use scram_base_lib::database_fault::DatabaseFault;
 use scram_base_lib::lines;
+use scram_base_lib::shown::shown;
 use scram_base_lib::stop::Stop;
 use scram_base_lib::store::{Change, Changed};
 use scram_db_lib::error::DatabaseError;
-use scram_db_lib::row::{Columns, StoredUser, lend, row_of};
-use scram_db_lib::scan::fill_after;
+use scram_db_lib::row::{Columns, StoredUser};
+use scram_db_lib::scan::Walk;
 use scram_db_lib::{file, schema, table};
-use sqlite_btree::Batch;
 use sqlite_pages::Pages;
-use sqlite_value::row::Row;
-use sqlite_value::value::ValueRef;
 use std::alloc::Global;
+use std::cell::Cell;
+use std::io::Write;
 
 /// SQLite files.
-#[derive(Clone, Copy)]
-pub struct SqliteFile;
+#[derive(Drop)]
+pub struct SqliteFile {
+    /// Whether a row was found that is no record.
+    pub has_wrong_rows: Cell<bool>,
+}
 
 /// The versions, in the order of the lines of a user.
 static VERSIONS: [ScramVersion; 3] = [
@@ -35,8 +37,8 @@ impl Database<HostRuntime> for SqliteFile {
         name: &str,
         version: Option<ScramVersion>,
     ) -> Result<String, Stop> {
-        let mut pages = file::open(rt, path, WAIT, false).map_err(stop_of)?;
-        user_lines(rt.alloc(), &mut pages, name, version)
+        let mut pages = file::read(rt, path, WAIT).map_err(stop_of)?;
+        user_lines(rt, path, &mut pages, name, version)
     }
 
     fn first_line(
@@ -45,15 +47,26 @@ impl Database<HostRuntime> for SqliteFile {
         path: &str,
         version: ScramVersion,
     ) -> Result<String, Stop> {
-        let mut pages = file::open(rt, path, WAIT, false).map_err(stop_of)?;
+        let mut pages = file::read(rt, path, WAIT).map_err(stop_of)?;
         let mut text = String::new(rt.alloc());
         push_first(rt.alloc(), &mut pages, version, &mut text)?;
         Ok(text)
     }
 
     fn lines(&self, rt: &HostRuntime, path: &str) -> Result<String, Stop> {
-        let mut pages = file::open(rt, path, WAIT, false).map_err(stop_of)?;
-        all_lines(rt.alloc(), &mut pages)
+        let alloc = rt.alloc();
+        let mut pages = file::read(rt, path, WAIT).map_err(stop_of)?;
+        let (mut walk, mut text) = (walk(alloc, &mut pages)?, String::new(alloc));
+        for _ in 0..u64::MAX {
+            if !walk.next(alloc, &mut pages).map_err(stop_of)? {
+                break;
+            }
+            if !push_row(alloc, &walk, &mut text)? {
+                tell(rt, path, walk.name(), walk.mechanism())?;
+                self.has_wrong_rows.set(true);
+            }
+        }
+        Ok(text)
     }
 
     fn make_change<C: Change>(
@@ -65,77 +78,105 @@ impl Database<HostRuntime> for SqliteFile {
         change: &C,
     ) -> Result<Changed, Stop> {
         let mut pages = file::open(rt, path, wait, change.makes_files()).map_err(stop_of)?;
-        let changed = apply(rt, &mut pages, name, change)?;
-        file::save(&mut pages).map_err(stop_of)?;
+        let saved = match apply(rt, path, &mut pages, name, change) {
+            Ok(changed) => file::save(&mut pages).map(|()| changed).map_err(stop_of),
+            Err(stop) => Err(stop),
+        };
+        let closed = file::close(rt, path, pages).map_err(stop_of);
+        let changed = saved?;
+        closed?;
         Ok(changed)
     }
 }
 
-/// Returns the lines of a user's records, for one mechanism or for all.
+/// Returns the lines of a user's records, for one mechanism or for all. A row that is no record is an error, which the
+/// errors get with the user's name.
 fn user_lines<P: Pages>(
-    alloc: Global,
+    rt: &HostRuntime,
+    path: &str,
     pages: &mut P,
     name: &str,
     version: Option<ScramVersion>,
 ) -> Result<String, Stop> {
+    let alloc = rt.alloc();
     let root = schema::root(alloc, pages).map_err(stop_of)?;
     let mut text = String::new(alloc);
     for known in &VERSIONS {
         if version.is_none_or(|version| version == *known) {
-            push_user(alloc, pages, root, name, *known, &mut text)?;
+            let mechanism = known.mechanism().as_bytes();
+            let found = table::fetch(alloc, pages, root, name.as_bytes(), mechanism);
+            let is_read = match found.transpose() {
+                Some(found) => push_user(alloc, name, *known, found, &mut text)?,
+                None => true,
+            };
+            if !is_read {
+                tell(rt, path, name.as_bytes(), mechanism)?;
+                return Err(stop_of(DatabaseError::WrongRow));
+            }
         }
     }
     Ok(text)
 }
 
-/// Appends the line of a user's record for a mechanism, if there is one.
-fn push_user<P: Pages>(
+/// Appends the line of a record that was read, and returns whether there is one: its salt, count and keys may be none of a
+/// record's.
+fn push_user(
     alloc: Global,
-    pages: &mut P,
-    root: u32,
     name: &str,
     version: ScramVersion,
+    read: Result<StoredUser, DatabaseError>,
     text: &mut String,
-) -> Result<(), Stop> {
-    let mechanism = version.mechanism().as_bytes();
-    match table::fetch(alloc, pages, root, name.as_bytes(), mechanism) {
-        Ok(Some(user)) => push_line(alloc, name, record_of(version, user), text),
-        Ok(None) => Ok(()),
-        Err(error) => Err(stop_of(error)),
-    }
-}
-
-/// Appends the line of a record.
-fn push_line(
-    alloc: Global,
-    name: &str,
-    record: ScramRecord,
-    text: &mut String,
-) -> Result<(), Stop> {
-    let line = lines::line_of(alloc, name, record)?;
-    Ok(text.push_str(&line)?)
-}
-
-/// Returns the record of a row for a mechanism.
-fn record_of(version: ScramVersion, user: StoredUser) -> ScramRecord {
-    ScramRecord::from_parts(
+) -> Result<bool, Stop> {
+    let user = match read {
+        Ok(user) => user,
+        Err(DatabaseError::WrongRow) => return Ok(false),
+        Err(error) => return Err(stop_of(error)),
+    };
+    let record = ScramRecord::from_parts(
         version,
         user.salt,
         user.iterations,
         user.stored_key,
         user.server_key,
-    )
+    );
+    match valid_line(alloc, name, record) {
+        Ok(line) => text.push_str(&line)?,
+        Err(Stop::OutOfMemory) => return Err(Stop::OutOfMemory),
+        Err(_) => return Ok(false),
+    }
+    Ok(true)
+}
+
+/// Returns the line of a record, if a file of lines can have it.
+fn valid_line(alloc: Global, name: &str, record: ScramRecord) -> Result<String, Stop> {
+    let line = lines::line_of(alloc, name, record)?;
+    MultiRecordStore::parse_lines(alloc, &line)?;
+    Ok(line)
+}
+
+/// Prints, on the errors, whose row is no record.
+fn tell(rt: &HostRuntime, path: &str, name: &[u8], mechanism: &[u8]) -> Result<(), Stop> {
+    let alloc = rt.alloc();
+    let mut line = format!(in alloc; "scram: {path}: the row of ")?.into_bytes();
+    line.extend_from_slice(&shown(alloc, name)?)?;
+    line.extend_from_slice(b" for ")?;
+    line.extend_from_slice(&shown(alloc, mechanism)?)?;
+    line.extend_from_slice(b" is not a record\n")?;
+    // The command goes on or stops, whether or not that can be written.
+    let _ = rt.stderr().write_all(&line);
+    Ok(())
 }
 
 /// Changes the rows of a user.
 fn apply<P: Pages, C: Change>(
     rt: &HostRuntime,
+    path: &str,
     pages: &mut P,
     name: &str,
     change: &C,
 ) -> Result<Changed, Stop> {
     let alloc = rt.alloc();
-    let old = user_lines(alloc, pages, name, None)?;
+    let old = user_lines(rt, path, pages, name, None)?;
     let firsts = firsts(alloc, pages, &old, change)?;
     let changed = change.apply(rt, &old, &firsts)?;
     let root = schema::root(alloc, pages).map_err(stop_of)?;
@@ -162,50 +203,30 @@ fn firsts<P: Pages, C: Change>(
     Ok(text)
 }
 
-/// Appends the line of the first record for a version, in the order of the names, if there is one.
+/// Appends the line of the first record for a version, in the order of the names, if there is one. Passes over rows that
+/// are no records.
 fn push_first<P: Pages>(
     alloc: Global,
     pages: &mut P,
     version: ScramVersion,
     text: &mut String,
 ) -> Result<(), Stop> {
-    let root = schema::root(alloc, pages).map_err(stop_of)?;
-    let (mut key, mut batch) = (Row::new(alloc), Batch::new(alloc));
+    let mut walk = walk(alloc, pages)?;
     for _ in 0..u64::MAX {
-        let filled = fill_after(alloc, pages, root, &key, &mut batch);
-        filled.map_err(DatabaseError::from).map_err(stop_of)?;
-        if batch.is_empty() || push_first_of(alloc, pages, &mut batch, &mut key, version, text)? {
+        if !walk.next(alloc, pages).map_err(stop_of)? {
+            break;
+        }
+        if walk.mechanism() == version.mechanism().as_bytes() && push_row(alloc, &walk, text)? {
             break;
         }
     }
     Ok(())
 }
 
-/// Appends the line of the first row of a batch for a version, and returns whether there is one. Sets the key of the last row
-/// that was read.
-fn push_first_of<P: Pages>(
-    alloc: Global,
-    pages: &mut P,
-    batch: &mut Batch,
-    key: &mut Row,
-    version: ScramVersion,
-    text: &mut String,
-) -> Result<bool, Stop> {
-    for _ in 0..u64::MAX {
-        let taken = batch.next(pages);
-        if !taken.map_err(DatabaseError::from).map_err(stop_of)? {
-            break;
-        }
-        let row = row_of(alloc, batch.payload())?;
-        key.clear();
-        key.push(row.get(0))?;
-        key.push(row.get(1))?;
-        if version_in(&row) == Some(version) {
-            push_row(alloc, batch.payload(), key, text)?;
-            return Ok(true);
-        }
-    }
-    Ok(false)
+/// Begins a walk over all rows.
+fn walk<P: Pages>(alloc: Global, pages: &mut P) -> Result<Walk, Stop> {
+    let root = schema::root(alloc, pages).map_err(stop_of)?;
+    Ok(Walk::new(alloc, root))
 }
 
 /// Gives a user the row of the record for a mechanism, or none if there is no record.
@@ -230,97 +251,32 @@ fn put<P: Pages>(
         server_key: kept.server_key,
     };
     let added = table::add(alloc, pages, root, name.as_bytes(), mechanism, &columns);
-    added.map_err(stop_of)?;
-    Ok(())
-}
-
-/// Returns the lines of all records, in the order of the names.
-fn all_lines<P: Pages>(alloc: Global, pages: &mut P) -> Result<String, Stop> {
-    let root = schema::root(alloc, pages).map_err(stop_of)?;
-    let (mut text, mut batch) = (String::new(alloc), Batch::new(alloc));
-    let mut key = Row::new(alloc);
-    for _ in 0..u64::MAX {
-        let filled = fill_after(alloc, pages, root, &key, &mut batch);
-        filled.map_err(DatabaseError::from).map_err(stop_of)?;
-        if batch.is_empty() {
-            break;
-        }
-        push_batch(alloc, pages, &mut batch, &mut key, &mut text)?;
-    }
-    Ok(text)
-}
-
-/// Appends the lines of a batch, and sets the key of the last one.
-fn push_batch<P: Pages>(
-    alloc: Global,
-    pages: &mut P,
-    batch: &mut Batch,
-    key: &mut Row,
-    text: &mut String,
-) -> Result<(), Stop> {
-    for _ in 0..u64::MAX {
-        let taken = batch.next(pages);
-        if !taken.map_err(DatabaseError::from).map_err(stop_of)? {
-            break;
-        }
-        push_row(alloc, batch.payload(), key, text)?;
+    if !added.map_err(stop_of)? {
+        // The row was removed just before.
+        return Err(stop_of(DatabaseError::Damaged));
     }
     Ok(())
 }
 
-/// Appends the line of a row, and sets its key.
-fn push_row(alloc: Global, bytes: &[u8], key: &mut Row, text: &mut String) -> Result<(), Stop> {
-    let row = row_of(alloc, bytes)?;
-    key.clear();
-    key.push(row.get(0))?;
-    key.push(row.get(1))?;
-    let (Some(name), Some(version), Some(found)) = (name_in(&row), version_in(&row), lend(&row))
-    else {
-        return Err(stop_of(DatabaseError::WrongRow));
+/// Appends the line of the row of a walk, and returns whether it is a record.
+fn push_row(alloc: Global, walk: &Walk, text: &mut String) -> Result<bool, Stop> {
+    let (Ok(name), Ok(mechanism)) = (
+        str::from_utf8(walk.name()),
+        str::from_utf8(walk.mechanism()),
+    ) else {
+        return Ok(false);
     };
-    let record = ScramRecord::from_parts(
-        version,
-        found.salt.to_vec(alloc)?,
-        found.iterations,
-        found.stored_key.to_vec(alloc)?,
-        found.server_key.to_vec(alloc)?,
-    );
-    push_line(alloc, name, record, text)
-}
-
-/// Returns the name of a row, or `None` if it is no text.
-fn name_in(row: &Row) -> Option<&str> {
-    text_in(row, 0)
-}
-
-/// Returns the version of a row, or `None` if its mechanism is another one.
-fn version_in(row: &Row) -> Option<ScramVersion> {
-    ScramVersion::from_mechanism(text_in(row, 1)?)
-}
-
-/// Returns the text of a column, or `None` if it is no text.
-fn text_in(row: &Row, at: usize) -> Option<&str> {
-    match row.get(at) {
-        ValueRef::Text(bytes) => str::from_utf8(bytes).ok(),
-        _ => None,
+    match ScramVersion::from_mechanism(mechanism) {
+        Some(version) => push_user(alloc, name, version, walk.user(alloc), text),
+        None => Ok(false),
     }
 }
 
 /// Converts the error of a database.
 fn stop_of(error: DatabaseError) -> Stop {
-    Stop::Database(match error {
-        DatabaseError::OutOfMemory => return Stop::OutOfMemory,
-        DatabaseError::Beside => return Stop::Busy,
-        DatabaseError::DanglingLink => return Stop::DanglingLink,
-        DatabaseError::Missing => DatabaseFault::Missing,
-        DatabaseError::Locked => DatabaseFault::Locked,
-        DatabaseError::Journal => DatabaseFault::Journal,
-        DatabaseError::Unopened(_) => DatabaseFault::Unopened,
-        DatabaseError::NotADatabase => DatabaseFault::NotADatabase,
-        DatabaseError::OtherSchema => DatabaseFault::OtherSchema,
-        DatabaseError::Damaged => DatabaseFault::Damaged,
-        DatabaseError::WrongRow => DatabaseFault::WrongRow,
-        DatabaseError::Io => DatabaseFault::Io,
-        DatabaseError::Full => DatabaseFault::Full,
-    })
+    match error {
+        DatabaseError::OutOfMemory => Stop::OutOfMemory,
+        DatabaseError::DanglingLink => Stop::DanglingLink,
+        error => Stop::Database(error.text()),
+    }
 }

@@ -10,7 +10,8 @@ use Rattle.scram_db_lib.specs.declared.error.DatabaseError.{DatabaseError}
 use Rattle.scram_db_lib.specs.declared.error.DatabaseError.TheVariants as fault
 use Rattle.scram_db_lib.specs.Users.{FailsToFetch, IsFetched, ReadsRow, named}
 
-pub fails : {P : Type 0} (g : Ghosts P) (old new : P) (row : Option Row) (e : Error) → FailsFor g old new ⊥ e → FailsToFetch g old new row (named e)
+pub fails : {P : Type 0} (g : Ghosts P) (old new : P) (row : Option Row) (e : Error) → FailsFor g old new ⊥ e
+    → FailsToFetch g old new row (named e)
 fails g old new None Corrupt h = absurd h
 fails g old new None Io h = h
 fails g old new None Full h = h
@@ -20,10 +21,11 @@ fails g old new (Some row) Io h = h
 fails g old new (Some row) Full h = h
 fails g old new (Some row) OutOfMemory h = tt
 
-pub misreads : {P : Type 0} (g : Ghosts P) (old new : P) (row : Row) (e : DatabaseError) → ReadsRow row (Err e) → FailsToFetch g old new (Some row) e
+pub misreads : {P : Type 0} (g : Ghosts P) (old new : P) (row : Row) (e : DatabaseError) → ReadsRow row (Err e)
+    → FailsToFetch g old new (Some row) e
 misreads g old new row fault.Missing h = absurd h
 misreads g old new row fault.DanglingLink h = absurd h
-misreads g old new row fault.Beside h = absurd h
+misreads g old new row fault.NotAFile h = absurd h
 misreads g old new row fault.Locked h = absurd h
 misreads g old new row fault.Journal h = absurd h
 misreads g old new row (fault.Unopened kind) h = absurd h
@@ -35,7 +37,8 @@ misreads g old new row fault.Io h = absurd h
 misreads g old new row fault.Full h = absurd h
 misreads g old new row fault.OutOfMemory h = tt
 
-pub given : {P : Type 0} (g : Ghosts P) (old new : P) (row : Row) (read : Result StoredUser DatabaseError) (out : Result (Option StoredUser) DatabaseError)
+pub given : {P : Type 0} (g : Ghosts P) (old new : P) (row : Row) (read : Result StoredUser DatabaseError)
+    (out : Result (Option StoredUser) DatabaseError)
     → ReadsRow row read → MatchResult read (λ user. out ≡ Ok (Some user)) (λ e. out ≡ Err e)
     → MatchResult out (IsFetched (Some row)) (FailsToFetch g old new (Some row))
 given g old new row (Ok user) out h same = rw same h

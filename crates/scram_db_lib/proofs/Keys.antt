@@ -33,14 +33,18 @@ prefix_is o (x ∷ y ∷ z ∷ row) a b = refl
 pub strict : IsStrict by_key
 strict = record {
   strict = λ x. ap is_lt (tied_itself (entry_cmp_total plain) (take 2 (decode x)));
-  trans = λ x y z a b. ap is_lt ((entry_cmp_total plain).trans (take 2 (decode x)) (take 2 (decode y)) (take 2 (decode z)) (less _ a) (less _ b));
+  trans = λ x y z a b. ap is_lt ((entry_cmp_total plain).trans (take 2 (decode x)) (take 2 (decode y))
+      (take 2 (decode z)) (less _ a) (less _ b));
 }
 
 -- what is below a row that is not above the key is below the key
-under : (a b key : Row) → entry_cmp plain a b ≡ Less → (o : Ordering) → entry_cmp plain b key ≡ o → is_gt o ≡ false → entry_cmp plain a key ≡ Less
+under : (a b key : Row) → entry_cmp plain a b ≡ Less → (o : Ordering) → entry_cmp plain b key ≡ o → is_gt o ≡ false
+    → entry_cmp plain a key ≡ Less
 under a b key h Less e p = (entry_cmp_total plain).trans a b key h e
 under a b key h Equal e p =
-    (entry_cmp_total plain).antisymm a key ∙ ap ordering_reverse (sym ((entry_cmp_total plain).congr b key a e) ∙ (entry_cmp_total plain).antisymm b a ∙ ap ordering_reverse h)
+    (entry_cmp_total plain).antisymm a key
+    ∙ ap ordering_reverse (sym ((entry_cmp_total plain).congr b key a e) ∙ (entry_cmp_total plain).antisymm b a
+    ∙ ap ordering_reverse h)
 under a b key h Greater e p = absurd (cc)
 
 abbrev pub key_side : Value → Value → List ℕ → Ordering
@@ -49,7 +53,8 @@ key_side a b bytes = prefix_cmp plain (decode bytes) (a ∷ b ∷ [])
 pub probe : (a b : Value) → IsProbe by_key (key_side a b)
 probe a b x y h p =
     ap is_lt (prefix_is plain (decode x) a b)
-    ∙ ap is_lt (under (take 2 (decode x)) (take 2 (decode y)) (a ∷ b ∷ []) (less _ h) _ refl (sym (ap is_gt (prefix_is plain (decode y) a b)) ∙ p))
+    ∙ ap is_lt (under (take 2 (decode x)) (take 2 (decode y)) (a ∷ b ∷ []) (less _ h) _ refl
+    (sym (ap is_gt (prefix_is plain (decode y) a b)) ∙ p))
 
 -- a record after one that is not below the key is not at it
 past : (a b : Value) (x y : List ℕ) → is_lt (key_side a b x) ≡ false → by_key x y ≡ true → is_eq (key_side a b y) ≡ false

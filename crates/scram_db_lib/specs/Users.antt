@@ -107,10 +107,20 @@ user_row name mechanism stored =
     Text name ∷ Text mechanism ∷ Blob stored.salt ∷ Int (pos stored.count) ∷ Blob stored.stored_key ∷ Blob stored.server_key ∷ []
 
 abbrev pub user_record : StoredUser → Record
-user_record user = record { salt = user.salt.items; count = user.iterations; stored_key = user.stored_key.items; server_key = user.server_key.items }
+user_record user = record {
+  salt = user.salt.items;
+  count = user.iterations;
+  stored_key = user.stored_key.items;
+  server_key = user.server_key.items;
+}
 
 abbrev pub lent : Columns → Record
-lent found = record { salt = found.salt.now; count = found.iterations; stored_key = found.stored_key.now; server_key = found.server_key.now }
+lent found = record {
+  salt = found.salt.now;
+  count = found.iterations;
+  stored_key = found.stored_key.now;
+  server_key = found.server_key.now;
+}
 
 -- a row is read as its record, or it has none, or memory runs out
 abbrev pub ReadsRow : Row → Result StoredUser DatabaseError → Type 0

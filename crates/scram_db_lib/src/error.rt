@@ -7,9 +7,8 @@ use sqlite_pages::Error as PageError;
 use sqlite_std_file::OpenError;
 use sqlite_wal::Error as LogError;
 use std::alloc::AllocError;
-use std::error::Error;
+use std::io;
 use std::io::ErrorKind;
-use std::{fmt, io};
 
 /// Why a database cannot be used.
 #[derive(Debug, Clone, Copy, PartialEq, Eq)]
@@ -20,8 +19,8 @@ pub enum DatabaseError {
     /// The file is a link to a file that does not exist.
     DanglingLink,
 
-    /// A new database cannot be made, because `FILE.new` beside it is another program's file, or has users.
-    Beside,
+    /// The name is that of a folder, a pipe or a device.
+    NotAFile,
 
     /// Another program had the file open during the whole wait.
     Locked,
@@ -29,7 +28,7 @@ pub enum DatabaseError {
     /// SQLite left a rollback journal, which only SQLite can play back.
     Journal,
 
-    /// The file or its log cannot be opened for reading and writing.
+    /// The file, its folder or its log cannot be opened.
     Unopened(ErrorKind),
 
     /// The file is not a SQLite database, or its header or its free list is damaged.
@@ -60,13 +59,17 @@ impl DatabaseError {
         match self {
             DatabaseError::Missing => "it does not exist",
             DatabaseError::DanglingLink => "it is a link to a file that does not exist",
-            DatabaseError::Beside => "the file with .new after its name is in the way",
+            DatabaseError::NotAFile => "it is not a regular file",
             DatabaseError::Locked => "another program has it open",
             DatabaseError::Journal => "it has a rollback journal: open it with sqlite3 first",
-            DatabaseError::Unopened(_) => "it or its log cannot be opened for reading and writing",
+            DatabaseError::Unopened(ErrorKind::PermissionDenied) => {
+                "permission denied for it, its folder or its log"
+            }
+            DatabaseError::Unopened(_) => "it, its folder or its log cannot be opened",
             DatabaseError::NotADatabase => "it is not a SQLite database",
             DatabaseError::OtherSchema => "it does not have exactly the table of users",
-            DatabaseError::Damaged => "it is damaged",
+            DatabaseError::Damaged =>
+                "a page is damaged: PRAGMA integrity_check of sqlite3 shows which",
             DatabaseError::WrongRow => "the row of the user is not a record",
             DatabaseError::Io => "it cannot be read or written",
             DatabaseError::Full => "it is full",
@@ -98,6 +101,7 @@ impl DatabaseError {
 /// Converts the error of a call on a file.
 pub(crate) fn of_system(error: io::Error) -> DatabaseError {
     match error.kind() {
+        ErrorKind::WouldBlock => DatabaseError::Locked,
         ErrorKind::OutOfMemory => DatabaseError::OutOfMemory,
         ErrorKind::StorageFull | ErrorKind::QuotaExceeded => DatabaseError::Full,
         kind => DatabaseError::Unopened(kind),
@@ -133,11 +137,3 @@ impl From<AllocError> for DatabaseError {
         DatabaseError::OutOfMemory
     }
 }
-
-impl fmt::Display for DatabaseError {
-    fn fmt<W: fmt::Write>(&self, f: &mut fmt::Formatter<W>) -> fmt::Result {
-        f.write_str(self.text())
-    }
-}
-
-impl Error for DatabaseError {}

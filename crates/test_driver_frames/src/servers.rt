@@ -138,7 +138,7 @@ fn serve<A: AuthenticatedUser + Drop>(
 }
 
 /// Checks an acceptor: `MECHANISM,.. NAME PASSWORD`, of which `ANONYMOUS` has no further words, and `EXTERNAL` no
-/// password. After those of two mechanisms, the words `only MECHANISM,..` may follow.
+/// password.
 pub fn check_acceptor(row: &mut Row<'_>, run: &Run<'_>) {
     let (anonymous, names) = (SaslAnonymousMechanism::new(), row.word());
     if names == "ANONYMOUS" {
@@ -154,27 +154,7 @@ pub fn check_acceptor(row: &mut Row<'_>, run: &Run<'_>) {
         return serve(row, run, Some(plain), "SaslPlainMechanism::clone");
     }
     let both = AnyMechanism::new(plain, anonymous);
-    if row.takes("only") {
-        let (only, mut restricted) = (row.word(), None);
-        again!(row: restricted = restricted_of(row, &both, only));
-        return serve(row, run, restricted, "RestrictMechanisms::clone");
-    }
     serve(row, run, Some(both), "AnyMechanism::clone");
-}
-
-/// Returns a copy that offers only these of its mechanisms, or says why there is none.
-fn restricted_of<A: HasMechanism + Drop>(
-    row: &mut Row<'_>,
-    acceptor: &A,
-    only: &str,
-) -> Option<RestrictMechanisms<A>> {
-    let (copy, mut names) = (row.get(acceptor.clone())?, Vec::new(row.alloc));
-    for name in only.split(',') {
-        row.push(&mut names, name);
-    }
-    let restricted =
-        call!(row: "RestrictMechanisms::new" => RestrictMechanisms::new(row.alloc, copy, &names));
-    row.get(restricted)
 }
 
 /// Returns the credential of a server: `USER PASSWORD SALT`.

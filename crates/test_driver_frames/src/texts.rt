@@ -33,7 +33,6 @@ pub fn errors(row: &mut Row<'_>) {
         "ProfileError" => say_each!(row, ProfileError: NotImplemented
             Scram(ScramErrorKind::Utf8Error) StaleKeys Frame(Error::DecodeError) OutOfMemory),
         "UrlError" => say_each!(row, UrlError: NoCredentials OutOfMemory),
-        "OfferError" => say_each!(row, OfferError: NoMechanismLeft OutOfMemory),
         "EventError" => say_each!(row, EventError: Invalid OutOfMemory),
         "ChoiceError" => say_each!(row, ChoiceError: NoAcceptableMechanism OutOfMemory),
         _ => {

@@ -254,15 +254,15 @@ class Meters(unittest.TestCase):
         """An export, and what it calls, that makes its answer on a meter of its own before it looks for the room."""
         early = (
             "let Ok(text) = str::from_utf8(server_first) else { return 0 };\n    "
-            "let _ = answered(alloc, login, client, text, &mut Meter::new());\n    "
+            "let _ = compute_answer(alloc, login, client, text, &mut Meter::new());\n    "
         )
         self.refused(
-            ["fe2o3_scram_client_final: Meter::new x2", "fe2o3_scram_client_final: answered"],
+            ["fe2o3_scram_client_final: Meter::new x2", "fe2o3_scram_client_final: compute_answer"],
             C_FINAL,
             first("let mut meter = Meter::new();", early),
         )
         self.refused(
-            ["answer: Meter::new", "answer: answered x2"],
+            ["answer: Meter::new", "answer: compute_answer x2"],
             C_FINAL,
             first(
                 "let suffices = server_first.len() + answer_more(login);", early.replace("return 0", "return Ok(())")
@@ -275,16 +275,18 @@ class Meters(unittest.TestCase):
             " IterationLimits::none(), &mut Meter::new());\n    "
         )
         self.refused(
-            ["answered_by: Meter::new", "answered_by: answer_server_first x2"],
+            ["answer_with_secret: Meter::new", "answer_with_secret: answer_server_first x2"],
             C_FINAL,
             first("match version.answer_server_first(", stretched),
         )
 
     def test_an_answer_for_c_that_is_made_twice(self):
         """The contracts of the library for C do not count what is done on the meter of an export."""
-        again = "let _ = answered(alloc, login, client, text, meter);\n    "
+        again = "let _ = compute_answer(alloc, login, client, text, meter);\n    "
         self.refused(
-            ["answer: answered x2"], C_FINAL, first("let answer = answered(alloc, login, client, text, meter)?;", again)
+            ["answer: compute_answer x2"],
+            C_FINAL,
+            first("let answer = compute_answer(alloc, login, client, text, meter)?;", again),
         )
 
     def test_a_connection_for_c_before_there_is_room(self):
@@ -300,18 +302,20 @@ class Meters(unittest.TestCase):
 
     def test_a_step_for_c_before_there_is_room(self):
         for side, call in (
-            ("server", "answered(alloc, host, server, body, nonce, &mut Meter::new())"),
-            ("client", "answered(alloc, login, client, body, nonce, &mut Meter::new())"),
+            ("server", "compute_step(alloc, host, server, body, nonce, &mut Meter::new())"),
+            ("client", "compute_step(alloc, login, client, body, nonce, &mut Meter::new())"),
         ):
             path, export = f"crates/sasl_c/src/{side}_steps.rt", f"fe2o3_sasl_{side}_step"
             step = f"let _ = {call};\n    "
             with self.subTest(export):
                 self.refused(
-                    [f"{export}: Meter::new x2", f"{export}: answered"],
+                    [f"{export}: Meter::new x2", f"{export}: compute_step"],
                     path,
                     first("let mut meter = Meter::new();", step),
                 )
-                self.refused(["step: Meter::new", "step: answered x2"], path, first("has_room(out, out_len)?;", step))
+                self.refused(
+                    ["step: Meter::new", "step: compute_step x2"], path, first("has_room(out, out_len)?;", step)
+                )
 
     def test_keys_and_passwords_for_c_that_are_stretched_twice(self):
         again = (

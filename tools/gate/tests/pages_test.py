@@ -14,14 +14,19 @@ BUDGET = {
     "docs/A.md": (3, 9),
     "pages": (4, 10),
     "READMEs": (None, 3),
+    "by-hand": (None, 70),
+    "repository": (None, 90),
+    "docs/WRONG_BODIES.md": (None, None),
     "CHANGELOG.md": (None, None),
 }
+SUMS = [(2720, 32000), (None, 45000), (None, 60000)]
 FIT = {
     "README.md": "one two\nthree\n",
     "docs/A.md": "one\ntwo\n",
     "crates/a/README.md": "one two\n",
     "CHANGELOG.md": "one\n" * 50,
-    "crates/a/SIGNATURES.md": "x" * 500 + "\n",
+    "docs/WRONG_BODIES.md": "one\n" * 10,
+    ".github/a.md": "one two\n",
 }
 
 
@@ -41,6 +46,10 @@ class Pages(unittest.TestCase):
         self.assertEqual(self.faults(README="1 2 3 4 5\n"), ["README.md: 5 words, and the budget is 4"])
         self.assertEqual(self.faults(docs__A="1 2 3 4 5 6 7 8\n"), ["pages: 11 words, and the budget is 10"])
         self.assertEqual(self.faults(bench__README="1 2\n"), ["READMEs: 4 words, and the budget is 3"])
+
+    def test_sums(self):
+        self.assertEqual(self.faults(CHANGELOG="1 " * 63), ["by-hand: 72 words, and the budget is 70"])
+        self.assertEqual(self.faults(docs__WRONG_BODIES="1 " * 32), ["repository: 91 words, and the budget is 90"])
 
     def test_width(self):
         self.assertEqual(
@@ -64,7 +73,7 @@ class Pages(unittest.TestCase):
     def test_budgets(self):
         found = pages.budgets()
         self.assertIn("README.md", found)
-        self.assertEqual(found["pages"], (2600, 32000))
+        self.assertEqual([found[name] for name in pages.SUMS if name != "READMEs"], SUMS)
 
 
 if __name__ == "__main__":

@@ -9,7 +9,6 @@ use Rattle.fe2o3_sasl_wire.specs.SaslFrames as frames
 use Rattle.fe2o3_sasl_wire.specs.SaslFrames.{SaslFrame, canonical}
 use Rattle.fe2o3_sasl_core.specs.Bodies.{SpellsBody, carried, server_says}
 use Rattle.fe2o3_sasl_core.specs.Events.{Given, ServerSays, Failed}
-use Rattle.fe2o3_sasl_core.specs.RestrictMechanisms.{Offering, offering_machine}
 use Rattle.fe2o3_sasl_core.specs.AnyMechanism.{BothStates, PartReplies, part_for, any_mechanism_machine}
 use Rattle.fe2o3_sasl_core.specs.AnyMechanismLaws.{Machine, IsRefusal, those}
 use Rattle.fe2o3_sasl_core.specs.Runs.{Runs, AcceptorSteps, AcceptorAnswers}
@@ -17,7 +16,6 @@ use Rattle.fe2o3_sasl_core.specs.SaslAcceptor.{ends_with}
 use Rattle.fe2o3_sasl_core.specs.declared.any_mechanism.Selected.{Selected}
 use Rattle.fe2o3_sasl_core.specs.declared.any_mechanism.Selected.TheVariants.{First, Second}
 use Rattle.fe2o3_sasl_core.proofs.lemmas.frames.SpellingLemmas.{one_spelled_frame}
-use Rattle.fe2o3_sasl_core.proofs.lemmas.machines.RestrictMechanismsLemmas.{offering_runs}
 use Rattle.fe2o3_sasl_core.proofs.lemmas.machines.AnyMechanismLemmas.{Goes, auth_is_refusal, one_goes}
 use Rattle.fe2o3_sasl_negotiation.specs.declared.progress.Progress.TheVariants.{InProgress}
 use Rattle.fe2o3_sasl_negotiation.specs.declared.progress.FrameKind.{FrameKind}
@@ -26,7 +24,7 @@ use Rattle.fe2o3_sasl_negotiation.specs.Connections.{Piece, AreFrames, Replied, 
 use Rattle.fe2o3_sasl_negotiation.specs.Negotiations.{Side, SideOutput}
 use Rattle.fe2o3_sasl_negotiation.specs.ServerNegotiation.{ServerOutputs, server_follows}
 use Rattle.fe2o3_sasl_negotiation.proofs.lemmas.LoginLemmas.{servers_log_in}
-use Rattle.connection_laws.specs.Servers.{ServerBy, side_with, NegotiatesAs, PartNegotiates, AnyMechanismServersActAsPart, OfferingServersActAsInner}
+use Rattle.connection_laws.specs.Servers.{ServerBy, side_with, NegotiatesAs, PartNegotiates, AnyMechanismServersActAsPart}
 use Rattle.connection_laws.proofs.lemmas.ServerLemmas.{response_of, server_waits}
 
 -- ---- replies
@@ -223,44 +221,3 @@ module _ {S T : Type 0} (names : S → List (List ℕ)) (others : T → List (Li
           → PartNegotiates whole state server machine other part
       go First run = negotiates_as whole state server machine state.first server.last.state.first run
       go Second run = negotiates_as whole state server other state.second server.last.state.second run
-
--- ---- only some of the names
-
-run_count : {S : Type 0} (Step : S → Given → ServerSays → S → Type 0) (state last : S) (events : List Given)
-    (replies : List ServerSays) → Runs Step state events replies last → length replies ≡ length events
-run_count Step state last [] replies run = ap length run.0
-run_count Step state last (event ∷ events) replies run =
-    ap length run.4 ∙ ap suc (run_count Step run.1 last events run.2 run.5)
-
--- where none is rejected all were passed on
-all_passed : (marks : List Bool) (events : List Given) (replies : List ServerSays) → length marks ≡ length events
-    → length replies ≡ length events → NoneRefuses replies → AllByRecursion IsRefusal (those not marks replies)
-    → (those (λ mark. mark) marks events ≡ events) × (those (λ mark. mark) marks replies ≡ replies)
-all_passed [] [] [] count many kept rest = (refl, refl)
-all_passed [] [] (says ∷ replies) count many kept rest = absurd (cc)
-all_passed [] (event ∷ events) replies count many kept rest = absurd (cc)
-all_passed (mark ∷ marks) [] replies count many kept rest = absurd (cc)
-all_passed (mark ∷ marks) (event ∷ events) [] count many kept rest = absurd (cc)
-all_passed (true ∷ marks) (event ∷ events) (says ∷ replies) count many (kept, more) rest =
-    let fewer : length marks ≡ length events = cc in
-    let less : length replies ≡ length events = cc in
-    let both = all_passed marks events replies fewer less more rest in
-    (ap (λ (l : List Given). event ∷ l) both.0, ap (λ (l : List ServerSays). says ∷ l) both.1)
-all_passed (false ∷ marks) (event ∷ events) (says ∷ replies) count many (kept, more) (refused, rest) =
-    absurd (kept refused)
-
-pub offering_servers_act_as_inner : {S : Type 0} (names : S → List (List ℕ)) (machine : Machine S)
-    → OfferingServersActAsInner names machine
-offering_servers_act_as_inner {S} names machine state server logged =
-    let whole : Machine (Offering S) = offering_machine names machine in
-    let n = server.connection in
-    let end : S = server.last.state.inner in
-    let ok = (servers_log_in whole server.limit state server.pieces server.taken server.sent server.last n).0 logged in
-    let (marks, on) = offering_runs names machine state server.last.state n.events n.replies n.run in
-    let (all, said) = all_passed marks n.events n.replies on.marked.count
-    (run_count (AcceptorSteps whole) state server.last.state n.events n.replies n.run)
-    (none_refuses turns.Init n.replies n.answer n.replied ok) on.rest in
-    negotiates_as whole state server machine state.inner end
-    (subst (λ (events : List Given). Runs (AcceptorSteps machine) state.inner events n.replies end) all
-    (subst (λ (replies : List ServerSays). Runs (AcceptorSteps machine) state.inner (those (λ mark. mark) marks n.events)
-    replies end) said on.passed))

@@ -61,10 +61,17 @@ frame_is_unit turn limit body wide least small = record {
 module _ {S : Type 0} (Answers : Expected → S → List ℕ → List ℕ → SideOutput → S → Type 0) where
   -- a side that holds the beginning of a unit
   abbrev holding : Expected → ℕ → S → List ℕ → Side S
-  holding expected limit state held = record { progress = InProgress; expected = expected; limit = limit; held = held; state = state }
+  holding expected limit state held = record {
+    progress = InProgress;
+    expected = expected;
+    limit = limit;
+    held = held;
+    state = state;
+  }
 
   module _ (expected : Expected) (limit : ℕ) (state next : S) (unit more nonce sent : List ℕ) (answer : SideOutput)
-      (after : List Call) (last : Side S) (is : IsUnit expected limit unit) (answers : Answers expected state nonce unit answer next)
+      (after : List Call) (last : Side S) (is : IsUnit expected limit unit)
+      (answers : Answers expected state nonce unit answer next)
       (others : Calls (Receives Answers) (behind_answer answer limit next) after more sent last []) where
     -- a call that takes the rest of the unit
     completes : (held rest : List ℕ) (handed : ℕ) → held ++ rest ≡ unit → length rest ≤ handed
@@ -128,8 +135,8 @@ module _ {S : Type 0} (Answers : Expected → S → List ℕ → List ℕ → Si
             is.part (held ++ front) back joined (omega (arith, few, back_length)),
             (sym front_length, refl, refl),
           )),
-      subst (λ (l : List ℕ). Calls (Receives Answers) (holding expected limit state (held ++ front)) calls l (answer.sent ++ sent) last
-          []) (sym (drop-append-le call.handed rest more (omega (arith, few))))
+      subst (λ (l : List ℕ). Calls (Receives Answers) (holding expected limit state (held ++ front)) calls l
+          (answer.sent ++ sent) last []) (sym (drop-append-le call.handed rest more (omega (arith, few))))
           (unit_calls calls (held ++ front) back joined
           (subst (λ (n : ℕ). Finishes calls n nonce after) (sym back_length) finishes)),
       refl,
@@ -158,7 +165,8 @@ module _ {S : Type 0} (Answers : Expected → S → List ℕ → List ℕ → Si
         )
 
   -- a side that has logged in takes nothing
-  pub rests : (calls : List Call) (side : Side S) → side.progress ≡ Authenticated → Calls (Receives Answers) side calls [] [] side []
+  pub rests : (calls : List Call) (side : Side S) → side.progress ≡ Authenticated
+      → Calls (Receives Answers) side calls [] [] side []
   rests [] side logged_in = (refl, refl, refl)
   rests (call ∷ calls) side logged_in = (
     0,

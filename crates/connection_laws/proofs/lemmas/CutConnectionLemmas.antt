@@ -84,7 +84,8 @@ module _ {S : Type 0} (names : S → List (List ℕ)) (machine : Machine S) (fun
   servers_equal pieces others sent out last end (inr (inl other)) (inl part) nonces =
       absurd (part_is_not_other limit state taken out end last part other.0)
   servers_equal pieces others sent out last end (inr (inl other)) (inr (inl too)) nonces =
-      closed_equally (ProtocolHeaderMismatch taken) state sent out last end (other.1 ∙ sym too.1) other.0.2 too.0.2 other.0.3 too.0.3
+      closed_equally (ProtocolHeaderMismatch taken) state sent out last end (other.1 ∙ sym too.1) other.0.2
+      too.0.2 other.0.3 too.0.3
   servers_equal pieces others sent out last end (inr (inl other)) (inr (inr (inl none))) nonces =
       absurd (other_is_not state taken [] last other.0 (none.0 ∙ sym (append-nil sasl_header)))
   servers_equal pieces others sent out last end (inr (inl other)) (inr (inr (inr all))) nonces =
@@ -135,7 +136,8 @@ clients_end_equally hostname limit profile pieces others taken sent out last end
     absurd (part_is_not_other limit profile taken out end last part other.0)
 clients_end_equally hostname limit profile pieces others taken sent out last end small (inr (inl other)) (inr (inl too))
     nonces =
-    closed_equally (ProtocolHeaderMismatch taken) profile sent out last end (other.1 ∙ sym too.1) other.0.2 too.0.2 other.0.3 too.0.3
+    closed_equally (ProtocolHeaderMismatch taken) profile sent out last end (other.1 ∙ sym too.1) other.0.2
+    too.0.2 other.0.3 too.0.3
 clients_end_equally hostname limit profile pieces others taken sent out last end small (inr (inl other)) (inr (inr all))
     nonces =
     absurd (other_is_not profile taken _ last other.0 all.carried)

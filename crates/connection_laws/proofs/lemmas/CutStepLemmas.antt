@@ -28,7 +28,8 @@ use Rattle.connection_laws.proofs.lemmas.ServerLemmas.{server_chain}
 use Rattle.fe2o3_sasl_core.specs.declared.sasl_profile.error.ProfileError.TheVariants.{NotImplemented, Scram, StaleKeys, Frame as FrameFault, OutOfMemory}
 
 -- a body is sent in one way
-one_sent : (body : List ℕ) (progress : Progress) (expected : Expected) (answer reply : SideOutput) → Sends body progress expected answer
+one_sent : (body : List ℕ) (progress : Progress) (expected : Expected) (answer reply : SideOutput)
+    → Sends body progress expected answer
     → Sends body progress expected reply → answer ≡ reply
 one_sent body progress expected answer reply (inl (fits, is)) (inl (also, too)) = is ∙ sym too
 one_sent body progress expected answer reply (inl (fits, is)) (inr (long, too)) = absurd (omega (arith, fits, long))
@@ -86,7 +87,8 @@ module _ {S : Type 0} (machine : Machine S) (function : IsFunction machine) wher
   server_gives (Ok (frames.Response text)) state event says other next end memory too one two =
       server_answers state event.nonce (frames.Response text) says other next end memory too one two
 
-  server_step : (turn : FrameKind) (state : S) (event : Given) (says other : ServerSays) (answer reply : SideOutput) (next end : S)
+  server_step : (turn : FrameKind) (state : S) (event : Given) (says other : ServerSays) (answer reply : SideOutput)
+      (next end : S)
       → AcceptorSteps machine state event says next → of_server.ServerOutputs says turn answer
       → AcceptorSteps machine state event other end → of_server.ServerOutputs other turn reply
       → (says ≡ other) × (next ≡ end) × (answer ≡ reply)

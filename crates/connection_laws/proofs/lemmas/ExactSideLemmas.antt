@@ -48,7 +48,8 @@ exact_at Answers (Failed why) side bytes nonce taken sent next long rests = rest
 
 pub exact_calls : {S : Type 0} (Answers : Expected → S → List ℕ → List ℕ → SideOutput → S → Type 0) (calls : List Call)
     (side : Side S) (stream sent : List ℕ) (last : Side S) (rest : List ℕ) → AllByRecursion HasNonce calls
-    → Calls (Receives Answers) side calls stream sent last rest → Calls (Receives (Exact Answers)) side calls stream sent last rest
+    → Calls (Receives Answers) side calls stream sent last rest
+    → Calls (Receives (Exact Answers)) side calls stream sent last rest
 exact_calls Answers [] side stream sent last rest all made = made
 exact_calls Answers (call ∷ calls) side stream sent last rest all
     (taken, first, next, more, receives, others, whole) = (
@@ -107,12 +108,17 @@ ServerMakes limit expected acceptor nonces bytes sent last =
 
 -- the one mechanism of a SCRAM server is offered in a frame
 offers : (provider : Provider) (offer : Option (List ℕ)) (answer : SideOutput)
-    → offer ≡ canonical (frames.Mechanisms (server_mechanism provider.version provider.rules ∷ [])) → of_server.Offers offer answer
+    → offer ≡ canonical (frames.Mechanisms (server_mechanism provider.version provider.rules ∷ []))
+    → of_server.Offers offer answer
     → (body : List ℕ) × (offer ≡ Some body) × (length body + 4 ≤ 512)
     × (answer ≡ record { sent = framed body; progress = InProgress; expected = Frame turns.Init })
-offers provider None answer is same = let fits = names_fit provider.version (is_some provider.rules.channels) in let none = is ∙ fits.1 in absurd (cc)
+offers provider None answer is same =
+    let fits = names_fit provider.version (is_some provider.rules.channels) in
+    let none = is ∙ fits.1 in
+    absurd (cc)
 offers provider (Some body) answer is sent =
-    let small = fits_as (frames.Mechanisms (server_mechanism provider.version provider.rules ∷ [])) body (names_fit provider.version (is_some provider.rules.channels))
+    let small = fits_as (frames.Mechanisms (server_mechanism provider.version provider.rules ∷ [])) body
+    (names_fit provider.version (is_some provider.rules.channels))
     (sym is) in
     (body, refl, small, sends_small body InProgress (Frame turns.Init) answer small sent)
 

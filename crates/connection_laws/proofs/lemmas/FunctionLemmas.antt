@@ -3,7 +3,6 @@ use Rattle.std.proofs.Common.{◌≡◌, ℕ, Bool, true, false, Option, Some, N
 use Rattle.fe2o3_sasl_wire.specs.SaslFrames as frames
 use Rattle.fe2o3_sasl_wire.specs.SaslFrames.{SaslFrame}
 use Rattle.fe2o3_sasl_core.specs.ExternalServer.{external_machine}
-use Rattle.fe2o3_sasl_core.specs.RestrictMechanisms.{Offering, OfferingReplies, is_passed_on}
 use Rattle.fe2o3_sasl_core.specs.AnyMechanism.{BothStates, PartReplies, part_for}
 use Rattle.fe2o3_sasl_core.specs.AnyMechanismLaws.{Machine}
 use Rattle.fe2o3_sasl_core.specs.PlainServer.{asked_identity, plain_machine}
@@ -11,7 +10,7 @@ use Rattle.fe2o3_sasl_core.specs.declared.any_mechanism.Selected.{Selected}
 use Rattle.fe2o3_sasl_core.specs.declared.any_mechanism.Selected.TheVariants.{First, Second}
 use Rattle.fe2o3_sasl_core.proofs.lemmas.machines.PlainServerLemmas.{one_asked}
 use Rattle.connection_laws.specs.Cuts.{IsFunction}
-use Rattle.connection_laws.specs.Functions.{AnyMechanismIsFunction, OfferingIsFunction}
+use Rattle.connection_laws.specs.Functions.{AnyMechanismIsFunction}
 
 -- ---- EXTERNAL and PLAIN
 
@@ -66,18 +65,3 @@ pub any_mechanism_is_function : {S T : Type 0} (names : S → List (List ℕ)) (
     (other : Machine T) → AnyMechanismIsFunction names others machine other
 any_mechanism_is_function names others machine other function also parts nonce frame reply again next last is too =
     one_part machine other function also parts (part_for names others parts frame) nonce frame reply again next last is too
-
-one_offered : {S : Type 0} (machine : Machine S) → IsFunction machine → (offering : Offering S) (passed : Bool)
-    (nonce : List ℕ) (frame reply again : SaslFrame) (next last : Offering S)
-    → OfferingReplies machine offering passed nonce frame reply next
-    → OfferingReplies machine offering passed nonce frame again last → (reply ≡ again) × (next ≡ last)
-one_offered machine function offering false nonce frame reply again next last is too =
-    (is.0 ∙ sym too.0, is.1 ∙ sym too.1)
-one_offered machine function offering true nonce frame reply again next last (moved, is, to) (went, too, goes) =
-    let one = function offering.inner nonce frame reply again moved went is too in
-    (one.0, to ∙ ((λ i. record offering { inner = one.1 i }) ∙ sym goes))
-
-pub offering_is_function : {S : Type 0} (names : S → List (List ℕ)) (machine : Machine S)
-    → OfferingIsFunction names machine
-offering_is_function names machine function offering nonce frame reply again next last is too =
-    one_offered machine function offering (is_passed_on names offering frame) nonce frame reply again next last is too

@@ -244,7 +244,8 @@ joined_sides_exist login provider password salt count client_limit server_limit 
 
     c1 : Finished (length (framed (names_fit login.version (is_bound login.channel)).0)) c0.after 1024 2
     c1 = let (some, small) = size_of_sent _ (names_fit login.version (is_bound login.channel)) in
-        finish (length (framed (names_fit login.version (is_bound login.channel)).0)) 512 1024 2 c0.after some small (omega arith) c0.longs c0.enough
+        finish (length (framed (names_fit login.version (is_bound login.channel)).0)) 512 1024 2 c0.after some small
+        (omega arith) c0.longs c0.enough
 
     s0 : Finished 8 server_calls 1024 2
     s0 = finish 8 8 1024 2 server_calls (omega arith) (omega arith) (omega arith) server_longs server_enough
@@ -321,7 +322,8 @@ module _ (client_calls server_calls handed : ℕ) where
       (replicate server_calls server_call)
   user_joins client_enough server_enough = joined_sides_exist user_login user_provider (codes "pencil") user_salt 4096
       512 512 (replicate client_calls client_call) (replicate server_calls server_call) premises_can_be_met.2 user_holds
-      user_fits (omega arith) (omega arith) (each_equal HasNonce client_call client_calls (IsBytes-replicate 32 1 (omega arith), refl))
+      user_fits (omega arith) (omega arith)
+      (each_equal HasNonce client_call client_calls (IsBytes-replicate 32 1 (omega arith), refl))
       (each_equal HasNonce server_call server_calls (IsBytes-replicate 32 2 (omega arith), refl)) client_enough server_enough
 
   each_passed : (least : ℕ) → least ≤ handed

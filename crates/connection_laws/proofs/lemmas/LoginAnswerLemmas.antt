@@ -196,8 +196,8 @@ module _ (p : Premises) where
   ClientAnswersBy expected profile nonce unit answer next =
       of_client.ClientSideAnswers login.hostname expected profile nonce unit answer next
 
-  pub client_opens : (nonce : List ℕ) → ClientAnswersBy Header (scram_profile login) nonce sasl_header (quiet InProgress turns.Mechanisms)
-      (scram_profile login)
+  pub client_opens : (nonce : List ℕ) → ClientAnswersBy Header (scram_profile login) nonce sasl_header
+      (quiet InProgress turns.Mechanisms) (scram_profile login)
   client_opens nonce = (inr (refl, refl), refl)
 
   starts : ProfileReplies login.hostname (scram_profile login) mine names (Started init_body)
@@ -214,7 +214,8 @@ module _ (p : Premises) where
       (waits init_body turns.Challenge) (ScramProfile started_side)
   client_starts = client_answer login.hostname turns.Mechanisms (scram_profile login) (ScramProfile started_side)
       names_body mine names (Started init_body) (waits init_body turns.Challenge)
-      (spells_mechanisms login.version (is_bound login.channel) names_body (frame.names_sent p).1) tt starts (inl ((frame.init_sent p).2, refl))
+      (spells_mechanisms login.version (is_bound login.channel) names_body (frame.names_sent p).1) tt starts
+      (inl ((frame.init_sent p).2, refl))
 
   answers : (nonce : List ℕ) → ProfileReplies login.hostname (ScramProfile started_side) nonce
       (frames.Challenge (first_in exchange)) (Answered response_body) (ScramProfile answered_side)
@@ -237,8 +238,8 @@ module _ (p : Premises) where
         (frame.response_sent p).1,
   )
 
-  pub client_answers : (nonce : List ℕ) → ClientAnswersBy (Frame turns.Challenge) (ScramProfile started_side) nonce (framed challenge_body)
-      (waits response_body last_turn) (ScramProfile answered_side)
+  pub client_answers : (nonce : List ℕ) → ClientAnswersBy (Frame turns.Challenge) (ScramProfile started_side)
+      nonce (framed challenge_body) (waits response_body last_turn) (ScramProfile answered_side)
   client_answers nonce = client_answer login.hostname turns.Challenge (ScramProfile started_side) (ScramProfile answered_side)
       challenge_body nonce (frames.Challenge (first_in exchange)) (Answered response_body)
       (waits response_body last_turn) (spells_challenge (first_in exchange) challenge_body (frame.challenge_sent p).1)
@@ -271,7 +272,12 @@ module _ (p : Premises) where
   -- ---- the server, answer by answer
 
   abbrev read_first : ClientFirst
-  read_first = record { header = header_of (login_header login); user = login.user; nonce = base64_text mine; bare = bare_in exchange }
+  read_first = record {
+    header = header_of (login_header login);
+    user = login.user;
+    nonce = base64_text mine;
+    bare = bare_in exchange;
+  }
 
   abbrev challenge : ServerChallenge
   challenge = challenge_of read_first (base64_text theirs) (record_in exchange)
@@ -363,8 +369,9 @@ module _ (p : Premises) where
         challenged_acceptor last_acceptor (frame.outcome_sent p).1,
   )
 
-  pub server_accepts : (nonce : List ℕ) → ServerAnswersBy (Frame turns.Response) challenged_acceptor nonce (framed response_body) (ends outcome_body)
-      last_acceptor
+  pub server_accepts : (nonce : List ℕ) → ServerAnswersBy (Frame turns.Response) challenged_acceptor nonce
+      (framed response_body) (ends outcome_body) last_acceptor
   server_accepts nonce = server_answer turns.Response challenged_acceptor last_acceptor response_body
       nonce (frames.Response message) (Concluded outcomes.Ok outcome_body)
-      (ends outcome_body) (spells_response message response_body (frame.response_sent p).1) tt (accepts nonce) (inl ((frame.outcome_sent p).2, refl))
+      (ends outcome_body) (spells_response message response_body (frame.response_sent p).1) tt (accepts nonce)
+      (inl ((frame.outcome_sent p).2, refl))

@@ -119,7 +119,8 @@ module _ (p : Premises) where
   pub response_sent : CanBeSent (frames.Response message)
   response_sent =
       let keys : ClientKeys = keys_for login.version login.secret (named_in exchange) in
-      let auth : List ℕ = auth_message (bare_in exchange) (first_in exchange) (without_proof_with (login_header login) (nonce_in exchange)) in
+      let auth : List ℕ = auth_message (bare_in exchange) (first_in exchange)
+      (without_proof_with (login_header login) (nonce_in exchange)) in
       (texts_fit message
       (response_length (login_header login) (nonce_in exchange) (client_proof keys.version keys.client_key auth) p.fits.binding
       (length-append (base64_text mine) (base64_text theirs) ∙ omega (arith, mine_long, theirs_long))

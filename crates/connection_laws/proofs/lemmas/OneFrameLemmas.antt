@@ -81,7 +81,8 @@ module _ {S : Type 0} (machine : Machine S) (only_inits : OnlyInits machine) whe
 -- an outcome Auth is no Ok
 auth_is_no_ok : {S : Type 0} (reply : SaslFrame) (state moved next : S) (body : List ℕ)
     → reply ≡ ends_with outcomes.Auth
-    → ¬ SendsCanonical (Failed faults.TooLarge) (server_says reply) (canonical reply) state moved (Concluded outcomes.Ok body) next
+    → ¬ SendsCanonical (Failed faults.TooLarge) (server_says reply) (canonical reply) state moved
+    (Concluded outcomes.Ok body) next
 auth_is_no_ok {S} reply state moved next body is said =
     none (canonical (ends_with outcomes.Auth))
     (subst (λ (f : SaslFrame). SendsCanonical (Failed faults.TooLarge) (server_says f) (canonical f) state moved

@@ -41,13 +41,14 @@ module _ (login : Login) (client_events : List Given) (client_replies : List Cli
 
   challenges : (slice_get server_replies 0 ≡ Some (Challenged run.challenge.body))
       × (canonical (frames.Challenge (first_in exchange)) ≡ Some run.challenge.body)
-  challenges = step.challenges sides password salt count run.offer run.init histories is holds fits run.printable run.challenge.body
-      (server_event 0, starts.1) run.challenged
+  challenges = step.challenges sides password salt count run.offer run.init histories is holds fits
+      run.printable run.challenge.body (server_event 0, starts.1) run.challenged
 
   has_started : step.HasStarted sides password salt count run.offer run.init histories is holds fits run.printable
   has_started = ((client_event 0, run.offered), (run.init.body, starts.0))
 
-  has_challenge : step.HasChallenge sides password salt count run.offer run.init histories is holds fits run.printable run.challenge
+  has_challenge : step.HasChallenge sides password salt count run.offer run.init histories is holds fits
+      run.printable run.challenge
   has_challenge = (client_event 1, challenges.1)
 
   answers : (slice_get client_replies 1 ≡ Some (Answered run.response.body))

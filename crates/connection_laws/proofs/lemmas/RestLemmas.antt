@@ -45,7 +45,8 @@ part_of_whole (Frame turn) limit front more whole short = λ four.
     (subst (λ (n : ℕ). Fits limit n) size whole.0, omega (arith, less, size))
 
 -- and what is shorter than a size
-part_of_size : (expected : Expected) (limit : ℕ) (front more : List ℕ) → IsRefused expected limit (front ++ more) → length front < 4
+part_of_size : (expected : Expected) (limit : ℕ) (front more : List ℕ) → IsRefused expected limit (front ++ more)
+    → length front < 4
     → IsPart expected limit front
 part_of_size Header limit front more refused short = absurd refused
 part_of_size (Frame turn) limit front more refused short = λ four. absurd (omega (arith, short, four))

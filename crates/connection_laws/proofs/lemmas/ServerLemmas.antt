@@ -7,9 +7,7 @@ use Rattle.fe2o3_sasl_core.specs.Bodies.{SpellsBody}
 use Rattle.fe2o3_sasl_core.specs.Events.{Given, ServerSays, Challenged}
 use Rattle.fe2o3_sasl_core.specs.Runs.{Runs, AcceptorSteps}
 use Rattle.fe2o3_sasl_core.specs.SaslAcceptor.{Acceptor, ScramAcceptor, acceptor_machine, acceptor_user}
-use Rattle.fe2o3_sasl_core.proofs.lemmas.machines.RestrictMechanismsLemmas.{offering_runs}
 use Rattle.fe2o3_sasl_core.proofs.lemmas.machines.AnyMechanismLemmas.{any_mechanism_runs}
-use Rattle.fe2o3_sasl_core.proofs.lemmas.machines.AnyMechanismUserLemmas.{offered_names_users}
 use Rattle.fe2o3_sasl_core.proofs.lemmas.machines.ServerMachineLemmas.{acceptor_runs_are_histories, acceptor_runs_name_users}
 use Rattle.fe2o3_sasl_core.proofs.lemmas.two_sides.HeadlineLemmas.{answers_ok_exactly}
 use Rattle.fe2o3_sasl_negotiation.specs.declared.progress.Expected.TheVariants.{Frame}
@@ -23,7 +21,7 @@ use Rattle.fe2o3_sasl_negotiation.specs.ServerNegotiation.{ServerOutputs, server
 use Rattle.fe2o3_sasl_negotiation.proofs.lemmas.ChallengeLemmas.{waits_after_challenge, one_challenge}
 use Rattle.fe2o3_sasl_negotiation.proofs.lemmas.KindLemmas.{due_of, closes_waits_not}
 use Rattle.fe2o3_sasl_negotiation.proofs.lemmas.PieceLemmas.{IsChain}
-use Rattle.connection_laws.specs.Servers.{ScramRunsServe, AnyMechanismServersSplit, OfferingServersPassOn, OfferingServersNameUsers}
+use Rattle.connection_laws.specs.Servers.{ScramRunsServe, AnyMechanismServersSplit}
 
 pub scram_runs_serve : ScramRunsServe acceptor_machine (λ provider. ScramAcceptor provider Initial) acceptor_user
 scram_runs_serve provider events replies last run =
@@ -39,18 +37,6 @@ pub any_mechanism_servers_split : {S T : Type 0} (names : S → List (List ℕ))
 any_mechanism_servers_split names others machine other state server =
     let n = server.connection in
     any_mechanism_runs names others machine other state server.last.state n.events n.replies n.run
-
-pub offering_servers_pass_on : {S : Type 0} (names : S → List (List ℕ)) (machine : Machine S)
-    → OfferingServersPassOn names machine
-offering_servers_pass_on names machine state server =
-    let n = server.connection in offering_runs names machine state server.last.state n.events n.replies n.run
-
-pub offering_servers_name_users : {S T : Type 0} (names : S → List (List ℕ)) (others : T → List (List ℕ))
-    (machine : Machine S) (other : Machine T) → OfferingServersNameUsers names others machine other
-offering_servers_name_users names others machine other user other_user state server name fresh is =
-    let n = server.connection in
-    offered_names_users names others machine other user other_user state server.last.state n.events n.replies name n.run
-    fresh is
 
 -- ---- a server that waits
 

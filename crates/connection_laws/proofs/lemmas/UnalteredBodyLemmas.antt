@@ -47,11 +47,13 @@ module _ (c : Case) where
   -- the server challenges
   module _ (offer init server_sends client_sends : List ℕ)
       (offered : canonical (frames.Mechanisms (login_mechanism c.login ∷ [])) ≡ Some offer)
-      (zeroth : ClientTakes c.login c.joined.client_limit turns.Mechanisms (scram_profile c.login) offer server_sends c.joined.client_sent c.client)
-      (started : zeroth.says ≡ Started init)
+      (zeroth : ClientTakes c.login c.joined.client_limit turns.Mechanisms (scram_profile c.login) offer server_sends
+      c.joined.client_sent c.client) (started : zeroth.says ≡ Started init)
       (sent_init : canonical (frames.Init (login_mechanism c.login)
-      (Some (client_first_with (header_of (login_header c.login)) c.login.user (base64_text zeroth.nonce))) c.login.hostname) ≡ Some init)
-      (first : ServerTakes c.joined.server_limit turns.Init (ScramAcceptor c.provider Initial) init client_sends server_sends c.server) where
+      (Some (client_first_with (header_of (login_header c.login)) c.login.user (base64_text zeroth.nonce))) c.login.hostname)
+      ≡ Some init)
+      (first : ServerTakes c.joined.server_limit turns.Init (ScramAcceptor c.provider Initial) init client_sends
+      server_sends c.server) where
     abbrev exchange : Exchange
     exchange = exchange_by c zeroth.nonce first.nonce
 
@@ -98,7 +100,8 @@ module _ (c : Case) where
         (first_length exchange mine theirs c.fits.salt (omega (arith, c.holds.within, c.is.limit)))).0
 
     fits_as_init : FitsAsInit c.provider (event init first.nonce) (frames.Init (login_mechanism c.login)
-        (Some (client_first_with (header_of (login_header c.login)) c.login.user (base64_text zeroth.nonce))) c.login.hostname) (step.challenge_in exchange)
+        (Some (client_first_with (header_of (login_header c.login)) c.login.user (base64_text zeroth.nonce))) c.login.hostname)
+        (step.challenge_in exchange)
     fits_as_init = (mechanism, meets.client_first, c.holds.stored, refl)
 
     first_fine : ServerFine first.says
@@ -106,9 +109,10 @@ module _ (c : Case) where
       server_memory first.says turns.Init first.answer first.said,
       challenge_is_small c.provider server_events server_replies 0 (event init first.nonce) first.says
           (acceptor_runs_are_histories c.provider server_events server_replies first.next server_run) refl refl
-          (login_mechanism c.login) (client_first_with (header_of (login_header c.login)) c.login.user (base64_text zeroth.nonce)) c.login.hostname
-          (step.challenge_in exchange)
-          (spells_init c.login.version (is_bound c.login.channel) (client_first_with (header_of (login_header c.login)) c.login.user (base64_text zeroth.nonce)) c.login.hostname init
+          (login_mechanism c.login) (client_first_with (header_of (login_header c.login)) c.login.user
+          (base64_text zeroth.nonce)) c.login.hostname (step.challenge_in exchange)
+          (spells_init c.login.version (is_bound c.login.channel)
+          (client_first_with (header_of (login_header c.login)) c.login.user (base64_text zeroth.nonce)) c.login.hostname init
           c.is.hostname sent_init) fits_as_init challenge_fits,
     )
 
@@ -133,7 +137,8 @@ module _ (c : Case) where
     -- the client answers
     module _ (challenge server_ends : List ℕ) (challenged : first.says ≡ Challenged challenge)
         (sent_challenge : canonical (frames.Challenge (first_in exchange)) ≡ Some challenge)
-        (second : ClientTakes c.login c.joined.client_limit turns.Challenge zeroth.next challenge server_ends client_sends c.client)
+        (second : ClientTakes c.login c.joined.client_limit turns.Challenge zeroth.next challenge server_ends client_sends
+        c.client)
       where
         abbrev next_events : List Given
         next_events = event offer zeroth.nonce ∷ event challenge second.nonce ∷ []
@@ -178,10 +183,11 @@ module _ (c : Case) where
         response_fits : CanBeSent (frames.Response (answer_in exchange).message)
         response_fits =
             let keys : ClientKeys = keys_for c.login.version c.login.secret (named_in exchange) in
-            let auth : List ℕ = auth_message (bare_in exchange) (first_in exchange) (without_proof_with (login_header c.login) (nonce_in exchange))
-            in
+            let auth : List ℕ = auth_message (bare_in exchange) (first_in exchange)
+            (without_proof_with (login_header c.login) (nonce_in exchange)) in
             (texts_fit (answer_in exchange).message
-            (response_length (login_header c.login) (nonce_in exchange) (client_proof keys.version keys.client_key auth) c.fits.binding
+            (response_length (login_header c.login) (nonce_in exchange) (client_proof keys.version keys.client_key auth)
+            c.fits.binding
             (length-append (base64_text zeroth.nonce) (base64_text first.nonce) ∙ omega (arith, mine, theirs))
             (proof_length keys c.login.version c.password c.salt auth c.count by_keys))).1
 
@@ -236,7 +242,8 @@ module _ (c : Case) where
           some_challenged : slice_get last_replies 0 ≡ Some (Challenged challenge)
           some_challenged = ap (λ (s : ServerSays). Some s) challenged
 
-          server_runs : Runs (AcceptorSteps acceptor_machine) (ScramAcceptor c.provider Initial) last_events last_replies third.next
+          server_runs : Runs (AcceptorSteps acceptor_machine) (ScramAcceptor c.provider Initial) last_events last_replies
+              third.next
           server_runs = (
             first.says,
             first.next,
@@ -364,8 +371,8 @@ module _ (c : Case) where
     from_init server_all client_all waits =
         let (challenge, challenged, sent_challenge) = challenges in
         let small = fits_as (frames.Challenge (first_in exchange)) challenge challenge_fits sent_challenge in
-        let (all, server_waits) = server_goes_on c turns.Init (ScramAcceptor c.provider Initial) init client_sends server_sends first challenge
-        InProgress (Frame turns.Response) small
+        let (all, server_waits) = server_goes_on c turns.Init (ScramAcceptor c.provider Initial) init client_sends
+        server_sends first challenge InProgress (Frame turns.Response) small
         (subst (λ (s : ServerSays). of_server.ServerOutputs s turns.Init first.answer) challenged first.said) in
         let second = client_takes c turns.Challenge zeroth.next zeroth.nonces challenge first.after server_sends
         client_sends (frames.Challenge (first_in exchange)) sent_challenge small
@@ -375,9 +382,11 @@ module _ (c : Case) where
 
   pub from_offer : (offer server_sends : List ℕ) (server_nonces : List (List ℕ))
       (offered : canonical (frames.Mechanisms (login_mechanism c.login ∷ [])) ≡ Some offer)
-      (zeroth : ClientTakes c.login c.joined.client_limit turns.Mechanisms (scram_profile c.login) offer server_sends c.joined.client_sent
+      (zeroth : ClientTakes c.login c.joined.client_limit turns.Mechanisms (scram_profile c.login) offer
+      server_sends c.joined.client_sent
       c.client) → c.joined.server_sent ≡ sasl_header ++ (framed offer ++ server_sends)
-      → ServerMakes c.joined.server_limit (Frame turns.Init) (ScramAcceptor c.provider Initial) server_nonces c.joined.client_sent server_sends c.server
+      → ServerMakes c.joined.server_limit (Frame turns.Init) (ScramAcceptor c.provider Initial) server_nonces
+      c.joined.client_sent server_sends c.server
       → UpToOk c
   from_offer offer server_sends server_nonces offered zeroth server_all waits =
       let (init, started, sent_init) = starts c offer server_sends c.joined.client_sent offered zeroth in
@@ -388,7 +397,8 @@ module _ (c : Case) where
       zeroth init turns.Challenge small
       (subst (λ (s : ClientSays). ClientSends (scram_profile c.login) s turns.Mechanisms zeroth.answer) started
       zeroth.said) in
-      let first = server_takes c turns.Init (ScramAcceptor c.provider Initial) server_nonces init zeroth.after c.joined.client_sent server_sends
+      let first = server_takes c turns.Init (ScramAcceptor c.provider Initial) server_nonces init zeroth.after
+      c.joined.client_sent server_sends
       (frames.Init (login_mechanism c.login) (Some text) c.login.hostname) sent_init small
       (spells_init c.login.version (is_bound c.login.channel) text c.login.hostname init c.is.hostname sent_init) tt all waits in
       from_init offer init server_sends zeroth.after offered zeroth started sent_init first server_all

@@ -36,15 +36,16 @@ taken_whole Answers first last bytes taken sent nonces same made =
 
 module _ (c : Case) where
   log_in : (client_nonces server_nonces : List (List ℕ))
-      → ClientMakes c.login.hostname c.joined.client_limit Header (scram_profile c.login) client_nonces c.joined.server_sent c.joined.client_sent
-      c.client
-      → ServerMakes c.joined.server_limit Header (ScramAcceptor c.provider Initial) server_nonces (sasl_header ++ c.joined.client_sent)
-      c.joined.server_sent c.server → BothLogIn c.joined c.salt c.count
+      → ClientMakes c.login.hostname c.joined.client_limit Header (scram_profile c.login) client_nonces
+      c.joined.server_sent c.joined.client_sent c.client
+      → ServerMakes c.joined.server_limit Header (ScramAcceptor c.provider Initial) server_nonces
+      (sasl_header ++ c.joined.client_sent) c.joined.server_sent c.server → BothLogIn c.joined c.salt c.count
   log_in client_nonces server_nonces client_made server_made =
       opened_by (server_header c.provider c.joined.server_limit server_nonces c.joined.client_sent c.joined.server_sent c.server
       server_made)
     where
-      opened_by : ServerOffers c.provider c.joined.server_limit c.joined.client_sent c.joined.server_sent c.server → BothLogIn c.joined c.salt c.count
+      opened_by : ServerOffers c.provider c.joined.server_limit c.joined.client_sent c.joined.server_sent c.server
+          → BothLogIn c.joined c.salt c.count
       opened_by offer =
           let offered : canonical (frames.Mechanisms (login_mechanism c.login ∷ [])) ≡ Some offer.body =
           ap (λ (name : List ℕ). canonical (frames.Mechanisms (name ∷ [])))
@@ -52,8 +53,8 @@ module _ (c : Case) where
           ∙ offer.offer in
           let (nonces, waits) = client_header c.login.hostname c.joined.client_limit (scram_profile c.login) client_nonces
           (framed offer.body ++ offer.after) c.joined.client_sent c.client
-          (subst (λ (l : List ℕ). ClientMakes c.login.hostname c.joined.client_limit Header (scram_profile c.login) client_nonces l
-          c.joined.client_sent c.client) offer.all client_made) in
+          (subst (λ (l : List ℕ). ClientMakes c.login.hostname c.joined.client_limit Header (scram_profile c.login)
+          client_nonces l c.joined.client_sent c.client) offer.all client_made) in
           let zeroth = client_takes c turns.Mechanisms (scram_profile c.login) nonces offer.body offer.after
           (framed offer.body ++ offer.after) c.joined.client_sent
           (frames.Mechanisms (login_mechanism c.login ∷ [])) offered offer.small

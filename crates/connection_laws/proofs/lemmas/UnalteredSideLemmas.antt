@@ -189,14 +189,15 @@ module _ (c : Case) where
   -- ---- what either makes of what the other sends
 
   pub client_goes_on : (turn : FrameKind) (profile : Profile) (body more sent : List ℕ)
-      (made : ClientTakes c.login c.joined.client_limit turn profile body more sent c.client) (reply : List ℕ) (expected : FrameKind)
+      (made : ClientTakes c.login c.joined.client_limit turn profile body more sent c.client)
+      (reply : List ℕ) (expected : FrameKind)
       → length reply + 4 ≤ 512 → Sends reply InProgress (Frame expected) made.answer
       → (sent ≡ framed reply ++ made.after)
       × ClientMakes c.login.hostname c.joined.client_limit (Frame expected) made.next made.nonces more made.after c.client
   client_goes_on turn profile body more sent made reply expected small is =
       goes_on_with (of_client.ClientSideAnswers c.login.hostname) (ProfileSteps c.login.hostname) ClientSends
-      (asked_client c.login.hostname) c.joined.client_limit turn profile body more sent c.client made reply InProgress (Frame expected) small
-      is
+      (asked_client c.login.hostname) c.joined.client_limit turn profile body more sent c.client made reply
+      InProgress (Frame expected) small is
 
   pub client_takes : (turn : FrameKind) (profile : Profile) (nonces : List (List ℕ)) (body more bytes sent : List ℕ)
       (frame : SaslFrame) → canonical frame ≡ Some body → length body + 4 ≤ 512 → SpellsBody body (Ok frame)
@@ -215,8 +216,13 @@ module _ (c : Case) where
       (expected : Expected) → length reply + 4 ≤ 512 → Sends reply progress expected made.answer
       → (sent ≡ framed reply ++ made.after)
       × Negotiates (Exact (of_server.ServerSideAnswers acceptor_names acceptor_machine))
-      (record { progress = progress; expected = expected; limit = c.joined.server_limit; held = []; state = made.next }) made.nonces more
-      made.after c.server
+      (record {
+        progress = progress;
+        expected = expected;
+        limit = c.joined.server_limit;
+        held = [];
+        state = made.next;
+      }) made.nonces more made.after c.server
   server_goes_on turn acceptor body more sent made reply progress expected small is =
       goes_on_with (of_server.ServerSideAnswers acceptor_names acceptor_machine) (AcceptorSteps acceptor_machine)
       ServerSends asked_server c.joined.server_limit turn acceptor body more sent c.server made reply progress expected
@@ -261,7 +267,8 @@ module _ (c : Case) where
 
     pub starts : (body : List ℕ) × (zeroth.says ≡ Started body)
         × (canonical (frames.Init (login_mechanism c.login)
-        (Some (client_first_with (header_of (login_header c.login)) c.login.user (base64_text zeroth.nonce))) c.login.hostname) ≡ Some body)
+        (Some (client_first_with (header_of (login_header c.login)) c.login.user (base64_text zeroth.nonce))) c.login.hostname)
+        ≡ Some body)
     starts =
         let (body, arrives) = arriving (client_body (Some zeroth.says)) in
         let events : List Given = offer_event ∷ [] in
@@ -303,7 +310,8 @@ pub record UpToOk (c : Case) : Type 0 where
   pub offered : canonical (frames.Mechanisms (login_mechanism c.login ∷ [])) ≡ Some offer
   pub started : zeroth.says ≡ Started init
   pub sent_init : canonical (frames.Init (login_mechanism c.login)
-      (Some (client_first_with (header_of (login_header c.login)) c.login.user (base64_text zeroth.nonce))) c.login.hostname) ≡ Some init
+      (Some (client_first_with (header_of (login_header c.login)) c.login.user (base64_text zeroth.nonce))) c.login.hostname)
+      ≡ Some init
   pub challenged : first.says ≡ Challenged challenge
   pub sent_challenge : canonical (frames.Challenge (first_in (exchange_by c zeroth.nonce first.nonce))) ≡ Some challenge
   pub answered : second.says ≡ Answered response

@@ -17,7 +17,6 @@ pub mod ChannelPolicyLemmas
 pub mod AnyMechanismLemmas
 pub mod AnyMechanismUserLemmas
 pub mod UnknownUserLemmas
-pub mod RestrictMechanismsLemmas
 pub mod ScramInAnyMechanismLemmas
 pub mod ChallengeCountLemmas
 pub mod LoginAttemptLemmas

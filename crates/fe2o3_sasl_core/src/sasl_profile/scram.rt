@@ -140,7 +140,8 @@ impl<V: OfVersion> SaslScram<V> {
     /// Returns this client, but with a minimum iteration count, below which it rejects a challenge by
     /// `IterationCountTooSmall`. RFC 7677, section 4, asks for at least 4096.
     pub fn with_min_iterations(self, min_iterations: u32) -> Self
-        ensures { result ≡ with_limits self (record { min_iterations = min_iterations; max_iterations = self.limits.max_iterations }) }
+        ensures { result ≡ with_limits self
+            (record { min_iterations = min_iterations; max_iterations = self.limits.max_iterations }) }
     {
         Self::of(self.client.with_min_iterations(min_iterations))
     }

@@ -47,7 +47,8 @@ pub closes_keeps : {why : CloseReason} {expected : Expected} (budget : Expected 
 closes_keeps {why} {expected} budget most answer same = silent budget most answer (closes why expected) same refl (closed why)
 
 -- a body is sent in a frame of at most 512 bytes, and 512 less are left for what is expected after it
-pub sends_keeps : (budget : Expected → ℕ) (most : ℕ) (body : List ℕ) (progress : Progress) (expected : Expected) (answer : SideOutput)
+pub sends_keeps : (budget : Expected → ℕ) (most : ℕ) (body : List ℕ) (progress : Progress) (expected : Expected)
+    (answer : SideOutput)
     → 512 ≤ most → (progress ≡ InProgress → 512 + budget expected ≤ most) → Sends body progress expected answer
     → Keeps budget most answer
 sends_keeps budget most body progress expected answer room left (inr (long, same)) = closes_keeps budget most answer same

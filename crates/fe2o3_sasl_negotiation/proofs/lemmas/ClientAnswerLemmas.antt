@@ -12,13 +12,13 @@ use Rattle.fe2o3_sasl_negotiation.specs.declared.progress.Expected.TheVariants.{
 use Rattle.fe2o3_sasl_negotiation.specs.declared.progress.FrameKind.{FrameKind}
 use Rattle.fe2o3_sasl_negotiation.specs.Negotiations.{Side, closes}
 use Rattle.fe2o3_sasl_negotiation.specs.ClientNegotiation.{ClientOutputs, ClientReplies, ClientReplyCosts, ClientCosts}
-use Rattle.fe2o3_sasl_negotiation.specs.private.Units.{Appends, CompletesUnit, Screens}
+use Rattle.fe2o3_sasl_negotiation.specs.private.Units.{Appends, CompletesUnit, ReadsExpected}
 use Rattle.fe2o3_sasl_negotiation.specs.Connections.{SpellsTurn}
 use Rattle.fe2o3_sasl_negotiation.proofs.lemmas.ReceivingLemmas.{completes_body}
 
 -- what closes before the profile is asked
 pub screened : (hostname : Option (List ℕ)) (turn : FrameKind) (state : Profile)
-    (event : Given) (why : CloseReason) → Screens turn event.body (Err why)
+    (event : Given) (why : CloseReason) → ReadsExpected turn event.body (Err why)
     → ClientReplies hostname turn state event (closes why (Frame turn)) state
 screened hostname turn state event why (inl (fault, spells, is)) =
     (Err fault, spells, (ap (λ (w : CloseReason). closes w (Frame turn)) is, refl))

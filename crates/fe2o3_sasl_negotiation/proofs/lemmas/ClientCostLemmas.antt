@@ -347,8 +347,8 @@ module _ (hostname : Option (List ℕ)) (most : ℕ) (side next : Side Profile) 
 
 pub clients_cost : ClientsCost
 clients_cost hostname client limit calls stream before after made =
-    open_calls (ClientSideAnswers hostname) ClientCosts (client.limits.max_iterations + 4) (Open client.limits.max_iterations) Done
-    (λ side next bytes nonce sent taken before after begun receives costs.
+    open_calls (ClientSideAnswers hostname) ClientCosts (client.limits.max_iterations + 4) (Open client.limits.max_iterations)
+    Done (λ side next bytes nonce sent taken before after begun receives costs.
     open_step hostname client.limits.max_iterations side next bytes nonce sent taken before after receives begun costs)
     (λ side next bytes nonce sent taken before after done receives costs.
     done_step hostname client.limits.max_iterations side next bytes nonce sent taken before after receives done costs)
@@ -380,8 +380,8 @@ done_tries side bytes nonce before after (inr late) costs = late_tries side byte
 
 pub clients_retry : ClientsRetry
 clients_retry hostname client limit calls stream failed before after made =
-    open_retried (ClientSideAnswers hostname) ClientCosts (client.limits.max_iterations + 4) (Open client.limits.max_iterations) Done
-    (λ side next bytes nonce sent taken before after begun receives costs.
+    open_retried (ClientSideAnswers hostname) ClientCosts (client.limits.max_iterations + 4)
+    (Open client.limits.max_iterations) Done (λ side next bytes nonce sent taken before after begun receives costs.
     open_step hostname client.limits.max_iterations side next bytes nonce sent taken before after receives begun costs)
     (λ side next bytes nonce sent taken before after done receives costs.
     done_step hostname client.limits.max_iterations side next bytes nonce sent taken before after receives done costs)

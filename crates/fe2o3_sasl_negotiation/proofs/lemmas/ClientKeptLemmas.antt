@@ -31,7 +31,8 @@ pub at_client : (answer other : SideOutput) → answer ≡ other → IsTrue (cli
     → IsTrue (client_fits answer.progress answer.expected)
 at_client answer other is holds = subst (λ (a : SideOutput). IsTrue (client_fits a.progress a.expected)) (sym is) holds
 
-sent_at_client : (body : List ℕ) (expected : Expected) (answer : SideOutput) → IsTrue (client_due expected) → IsTrue (outcome_due expected)
+sent_at_client : (body : List ℕ) (expected : Expected) (answer : SideOutput) → IsTrue (client_due expected)
+    → IsTrue (outcome_due expected)
     → Sends body InProgress expected answer → IsTrue (client_fits answer.progress answer.expected)
 sent_at_client body expected answer holds after (inl (fits, is)) =
     at_client answer (record { sent = _; progress = InProgress; expected = expected }) is holds

@@ -52,7 +52,8 @@ whole_is_taken expected limit come more whole =
     ∙ take_at (take (unit_size expected come) come) more (unit_size expected come)
     (length-take-le (unit_size expected come) come (whole_within expected limit come whole))
   where
-    whole_within : (expected : Expected) (limit : ℕ) (come : List ℕ) → IsWhole expected limit come → unit_size expected come ≤ length come
+    whole_within : (expected : Expected) (limit : ℕ) (come : List ℕ) → IsWhole expected limit come
+        → unit_size expected come ≤ length come
     whole_within Header limit come whole = whole
     whole_within (Frame turn) limit come whole = whole.1
 
@@ -71,7 +72,8 @@ refused_stays (Frame turn) limit come more refused =
     )
 
 -- neither a whole unit nor a size that is not allowed is less than a unit
-pub whole_is_no_part : (expected : Expected) (limit : ℕ) (come : List ℕ) → IsWhole expected limit come → ¬ IsPart expected limit come
+pub whole_is_no_part : (expected : Expected) (limit : ℕ) (come : List ℕ) → IsWhole expected limit come
+    → ¬ IsPart expected limit come
 whole_is_no_part Header limit come whole part = omega (arith, whole, part)
 whole_is_no_part (Frame turn) limit come whole part =
     let eight : 8 ≤ size_of come = whole.0.0 in
@@ -79,7 +81,8 @@ whole_is_no_part (Frame turn) limit come whole part =
     let short : length come < size_of come = (part (omega arith)).1 in
     omega arith
 
-pub refused_is_no_part : (expected : Expected) (limit : ℕ) (come : List ℕ) → IsRefused expected limit come → ¬ IsPart expected limit come
+pub refused_is_no_part : (expected : Expected) (limit : ℕ) (come : List ℕ) → IsRefused expected limit come
+    → ¬ IsPart expected limit come
 refused_is_no_part Header limit come refused part = refused
 refused_is_no_part (Frame turn) limit come refused part = refused.1 (part refused.0).0
 
@@ -87,7 +90,8 @@ pub refused_long : (expected : Expected) (limit : ℕ) (come : List ℕ) → IsR
 refused_long Header limit come refused = absurd refused
 refused_long (Frame turn) limit come refused = refused.0
 
-pub whole_long : (expected : Expected) (limit : ℕ) (come : List ℕ) → IsWhole expected limit come → unit_size expected come ≤ length come
+pub whole_long : (expected : Expected) (limit : ℕ) (come : List ℕ) → IsWhole expected limit come
+    → unit_size expected come ≤ length come
 whole_long Header limit come whole = whole
 whole_long (Frame turn) limit come whole = whole.1
 
@@ -95,7 +99,8 @@ module _ {S : Type 0} (Answers : Expected → S → List ℕ → List ℕ → Si
   -- what has come ends a unit of n bytes
   abbrev pub EndsUnit : Side S → List ℕ → List ℕ → ℕ → ℕ → List ℕ → Side S → Type 0
   EndsUnit side come nonce n taken sent next =
-      (IsRefused side.expected side.limit come × (n ≡ 4) × Ends side 4 (closes FrameSize side.expected) side.state taken sent next)
+      (IsRefused side.expected side.limit come × (n ≡ 4)
+      × Ends side 4 (closes FrameSize side.expected) side.state taken sent next)
       ⊎ ((answer : SideOutput) × (state : S) × IsWhole side.expected side.limit come × (n ≡ unit_size side.expected come)
       × Answers side.expected side.state nonce (take n come) answer state × Ends side n answer state taken sent next)
 

@@ -40,7 +40,8 @@ pub body_in_room : (room body : List ℕ) (size : ℕ) → take size room ≡ fr
 body_in_room room body size is = ap (drop 4) is ∙ body_of-framed body
 
 -- what is read of a whole frame is a whole frame
-module _ (limit : ℕ) (come : List ℕ) (turn : FrameKind) (small : size_of come ≤ 512) (whole : IsWhole (Frame turn) limit come) where
+module _ (limit : ℕ) (come : List ℕ) (turn : FrameKind) (small : size_of come ≤ 512)
+    (whole : IsWhole (Frame turn) limit come) where
   abbrev unit : List ℕ
   unit = take (size_of come) come
 

@@ -53,7 +53,8 @@ sent_at_server : (body : List ℕ) (progress : Progress) (expected : Expected) (
     → IsTrue (server_fits answer.progress answer.expected)
 sent_at_server body progress expected answer holds unit (inl (fits, is)) =
     at_server answer (record { sent = _; progress = progress; expected = expected }) is holds
-sent_at_server body progress expected answer holds unit (inr (long, is)) = at_server answer (closes ReplyTooLarge expected) is unit
+sent_at_server body progress expected answer holds unit (inr (long, is)) =
+    at_server answer (closes ReplyTooLarge expected) is unit
 
 -- a server that closes at a frame for a fault of its body or of its answer
 unread_at_server : (fault : Error) (turn : FrameKind) → fault ≢ faults.OutOfMemory → IsTrue (server_due (Frame turn))

@@ -42,7 +42,8 @@ in_progress_is_not_authenticated : InProgress ≢ Authenticated
 in_progress_is_not_authenticated same = cc
 
 -- what is sent and is no Ok
-sends_kind : (body : List ℕ) (progress : Progress) (expected : Expected) (answer : SideOutput) (Is : Type 0) → progress ≢ Authenticated
+sends_kind : (body : List ℕ) (progress : Progress) (expected : Expected) (answer : SideOutput) (Is : Type 0)
+    → progress ≢ Authenticated
     → ¬ Is → Sends body progress expected answer → Kind Is answer
 sends_kind body progress expected answer Is out other (inl (fits, same)) =
     not_in answer progress Is out (progress_of answer _ same) other

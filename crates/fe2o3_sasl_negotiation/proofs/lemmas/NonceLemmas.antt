@@ -69,11 +69,13 @@ module _ {S : Type 0} (names : S → List (List ℕ)) (machine : Machine S) (sam
   gives_alike turn (frames.Response text) unused in_turn state next body says (inr (reply, moved, replies, sends)) =
       inr (reply, moved, same state moved nonce other text reply replies, sends)
   gives_alike turns.Init (frames.Init mechanism response hostname) unused in_turn state next body says gives = absurd (cc)
-  gives_alike turns.Mechanisms (frames.Init mechanism response hostname) unused in_turn state next body says gives = absurd in_turn
+  gives_alike turns.Mechanisms (frames.Init mechanism response hostname) unused in_turn state next body says gives =
+      absurd in_turn
   gives_alike turns.Challenge (frames.Init mechanism response hostname) unused in_turn state next body says gives = absurd in_turn
   gives_alike turns.Response (frames.Init mechanism response hostname) unused in_turn state next body says gives = absurd in_turn
   gives_alike turns.Outcome (frames.Init mechanism response hostname) unused in_turn state next body says gives = absurd in_turn
-  gives_alike turns.SignatureChallenge (frames.Init mechanism response hostname) unused in_turn state next body says gives = absurd in_turn
+  gives_alike turns.SignatureChallenge (frames.Init mechanism response hostname) unused in_turn state next body says gives =
+      absurd in_turn
 
   asks_alike : (turn : FrameKind) (frame : SaslFrame) → server_nonce_at InProgress (Frame turn) ≡ false → IsInTurn turn frame
       → (state next : S) (body : List ℕ) (answer : SideOutput) → SpellsBody body (Ok frame)

@@ -26,13 +26,13 @@ use Rattle.fe2o3_sasl_negotiation.specs.declared.progress.CloseReason.TheVariant
 use Rattle.fe2o3_sasl_negotiation.specs.declared.progress.Expected.TheVariants.{Frame}
 use Rattle.fe2o3_sasl_negotiation.specs.declared.progress.FrameKind.{FrameKind}
 use Rattle.fe2o3_sasl_negotiation.specs.declared.progress.Progress.TheVariants.{InProgress}
-use Rattle.fe2o3_sasl_negotiation.specs.private.Units.{Appends, Screens}
+use Rattle.fe2o3_sasl_negotiation.specs.private.Units.{Appends, ReadsExpected}
 use Rattle.fe2o3_sasl_negotiation.proofs.lemmas.ClientKeptLemmas.{at_client, replied_at_client, unread_at_client}
 use Rattle.fe2o3_sasl_negotiation.proofs.lemmas.KeptLemmas.{unread_is_no_memory}
 
 module _ (selection : Selection) (turn : FrameKind) (event : Given) where
   -- what closes before a profile is selected
-  pub unread_offer : (why : CloseReason) (next : Option Profile) → next ≡ None → Screens turn event.body (Err why)
+  pub unread_offer : (why : CloseReason) (next : Option Profile) → next ≡ None → ReadsExpected turn event.body (Err why)
       → PolicyReplies selection turn None event (closes why (Frame turn)) next
   unread_offer why next none (inl (fault, spells, is)) =
       (Err fault, spells, (ap (λ (w : CloseReason). closes w (Frame turn)) is, none))
@@ -41,7 +41,7 @@ module _ (selection : Selection) (turn : FrameKind) (event : Given) where
 
   -- a frame in turn that is no list of mechanisms
   pub other_frame : (view : FrameView) (next : Option Profile) → next ≡ None
-      → ((names : SymbolsView) → view ≡ views.Mechanisms names → ⊥) → Screens turn event.body (Ok view)
+      → ((names : SymbolsView) → view ≡ views.Mechanisms names → ⊥) → ReadsExpected turn event.body (Ok view)
       → PolicyReplies selection turn None event (closes UnexpectedFrame (Frame turn)) next
   other_frame view next none other screens =
       (Ok (viewed_frame view), screens.0, inr (screens.1, (viewed_frame view, screens.0, by view other)))

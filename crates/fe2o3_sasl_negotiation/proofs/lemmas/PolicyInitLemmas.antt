@@ -102,7 +102,8 @@ module _ (hostname : Option (List ℕ)) (profile moved : Profile) (event : Given
   abbrev signs : Bool
   signs = accepts_signature_by_challenge profile
 
-  sends : (init : List ℕ) → canonical (frames.Init (profile_name profile) (initial_response profile event.nonce) hostname) ≡ Some init
+  sends : (init : List ℕ) → canonical (frames.Init (profile_name profile) (initial_response profile event.nonce) hostname)
+      ≡ Some init
       → Sends init InProgress (Frame turns.Challenge) answer → SendsInit (profile_name profile) hostname answer
   sends init is (inl (fits, same)) = (initial_response profile event.nonce, init, is, sent_is answer _ same)
   sends init is (inr (long, same)) = absurd (some (sent_is answer _ same))

@@ -186,7 +186,8 @@ selects_at_offer selection side next bytes nonce body sent taken names none (goi
     (subst (λ (s : Side (Option Profile)). PolicyReceives selection s bytes nonce taken sent next) same receives))
   where
     moved_back : (profile moved : Profile)
-        → ClientReceives selection.hostname (waiting side.limit side.held profile) bytes nonce taken sent (side_in_state next moved)
+        → ClientReceives selection.hostname (waiting side.limit side.held profile) bytes nonce taken sent
+        (side_in_state next moved)
         → ClientReceives selection.hostname (side_in_state side profile) bytes nonce taken sent (side_in_state next moved)
     moved_back profile moved holds = subst (λ (s : Side Profile).
         ClientReceives selection.hostname s bytes nonce taken sent (side_in_state next moved)) (λ i. record {

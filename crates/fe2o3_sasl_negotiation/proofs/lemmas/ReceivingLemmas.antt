@@ -35,7 +35,8 @@ closed_appends Answers out why expected step is holds = (
 )
 
 -- a whole unit has come
-whole_within : (expected : Expected) (limit : ℕ) (come : List ℕ) → IsWhole expected limit come → unit_size expected come ≤ length come
+whole_within : (expected : Expected) (limit : ℕ) (come : List ℕ) → IsWhole expected limit come
+    → unit_size expected come ≤ length come
 whole_within Header limit come whole = whole
 whole_within (Frame turn) limit come whole = whole.1
 

@@ -9,7 +9,6 @@ use Rattle.fe2o3_sasl_core.specs.declared.any_mechanism.Selected.TheVariants.{Fi
 use Rattle.fe2o3_sasl_core.specs.ExternalServer.{external_machine}
 use Rattle.fe2o3_sasl_core.specs.Servers.{sasl_machine}
 use Rattle.fe2o3_sasl_core.specs.PlainServer.{plain_machine}
-use Rattle.fe2o3_sasl_core.specs.RestrictMechanisms.{offering_machine}
 use Rattle.fe2o3_sasl_core.specs.SaslAcceptor.{ScramAcceptor, PlainAcceptor, AnonymousAcceptor, acceptor_machine}
 use Rattle.fe2o3_sasl_negotiation.specs.Nonces.{IgnoresResponseNonce}
 
@@ -35,11 +34,6 @@ any_mechanisms_ignore_nonces {S} {T} names others machine second same too parts 
     by None replies = replies
     by (Some First) (moved, answers, is) = (moved, same parts.first moved nonce other text reply answers, is)
     by (Some Second) (moved, answers, is) = (moved, too parts.second moved nonce other text reply answers, is)
-
-pub restricted_ignore_nonces : {S : Type 0} (names : S → List (List ℕ)) (machine : Machine S)
-    → IgnoresResponseNonce machine → IgnoresResponseNonce (offering_machine names machine)
-restricted_ignore_nonces names machine same offering next nonce other text reply (moved, answers, is) =
-    (moved, same offering.inner moved nonce other text reply answers, is)
 
 pub servers_ignore_response_nonces : IgnoresResponseNonce sasl_machine
 servers_ignore_response_nonces server next nonce other text reply replies = replies

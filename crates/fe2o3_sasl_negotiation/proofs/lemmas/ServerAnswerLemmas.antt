@@ -14,7 +14,7 @@ use Rattle.fe2o3_sasl_negotiation.specs.declared.progress.FrameKind.TheVariants 
 use Rattle.fe2o3_sasl_negotiation.specs.Framing.{sasl_header}
 use Rattle.fe2o3_sasl_negotiation.specs.Negotiations.{Side, closes, Sends}
 use Rattle.fe2o3_sasl_negotiation.specs.ServerNegotiation.{offer_body, ServerOpens, Offers, ServerOutputs, ServerReplies, ServerReplyCosts, ServerCosts}
-use Rattle.fe2o3_sasl_negotiation.specs.private.Units.{Appends, CompletesUnit, Screens}
+use Rattle.fe2o3_sasl_negotiation.specs.private.Units.{Appends, CompletesUnit, ReadsExpected}
 use Rattle.fe2o3_sasl_negotiation.specs.Connections.{SpellsTurn}
 use Rattle.fe2o3_sasl_negotiation.proofs.lemmas.ReceivingLemmas.{completes_body}
 
@@ -36,7 +36,7 @@ offered names body mid new step is sends =
 
 -- what closes before the acceptor is asked
 pub screened : {S : Type 0} (machine : S → List ℕ → SaslFrame → SaslFrame → S → Type 0) (turn : FrameKind) (state : S)
-    (event : Given) (why : CloseReason) → Screens turn event.body (Err why)
+    (event : Given) (why : CloseReason) → ReadsExpected turn event.body (Err why)
     → ServerReplies machine turn state event (closes why (Frame turn)) state
 screened machine turn state event why (inl (fault, spells, is)) =
     (Err fault, spells, (ap (λ (w : CloseReason). closes w (Frame turn)) is, refl))

@@ -104,8 +104,8 @@ module _ {S : Type 0} (names : S → List (List ℕ)) (machine : S → List ℕ 
       let within = kept.0 in (
         omega (arith, sent, within),
         λ wants. let rest = kept.1 (sym (ap (λ (a : SideOutput). a.progress) same) ∙ wants) in
-            let behind : budget next answer.expected ≡ budget next first.expected = ap (λ (a : SideOutput). budget next a.expected)
-            same in
+            let behind : budget next answer.expected ≡ budget next first.expected =
+            ap (λ (a : SideOutput). budget next a.expected) same in
             omega (arith, sent, rest, behind),
       )
 

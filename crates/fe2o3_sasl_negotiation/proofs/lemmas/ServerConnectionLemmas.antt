@@ -50,12 +50,22 @@ module _ {S : Type 0} (names : S → List (List ℕ)) (machine : S → List ℕ 
   module _ (taken bytes first : List ℕ) (k : ℕ) (next : Side S) (answer : SideOutput) (moved : S)
       (come : taken ++ take k bytes ≡ take 8 (taken ++ bytes)) (whole : 8 ≤ length (taken ++ bytes))
       (kept : moved ≡ state) (sends : first ≡ answer.sent)
-      (same : next ≡ record { progress = answer.progress; expected = answer.expected; limit = limit; held = []; state = moved }) where
+      (same : next ≡ record {
+        progress = answer.progress;
+        expected = answer.expected;
+        limit = limit;
+        held = [];
+        state = moved;
+      }) where
     state_is : next.state ≡ state
     state_is = ap (λ (s : Side S). s.state) same ∙ kept
 
     other_header : take 8 (taken ++ bytes) ≢ sasl_header
-        → answer ≡ record { sent = sasl_header ++ []; progress = HasFailed (ProtocolHeaderMismatch (take 8 (taken ++ bytes))); expected = Header }
+        → answer ≡ record {
+          sent = sasl_header ++ [];
+          progress = HasFailed (ProtocolHeaderMismatch (take 8 (taken ++ bytes)));
+          expected = Header;
+        }
         → Is (taken ++ take k bytes) first next
     other_header other is = inr (inl (
       (

@@ -35,7 +35,8 @@ pub body_of-framed : (body : List ℕ) → drop 4 (framed body) ≡ body
 body_of-framed body = drop_at (to_be_bytes w32 (length body + 4)) body 4 refl
 
 -- a whole unit is not rejected
-whole_is_not_refused : (expected : Expected) (limit : ℕ) (come : List ℕ) → IsWhole expected limit come → ¬ IsRefused expected limit come
+whole_is_not_refused : (expected : Expected) (limit : ℕ) (come : List ℕ) → IsWhole expected limit come
+    → ¬ IsRefused expected limit come
 whole_is_not_refused Header limit come whole refused = refused
 whole_is_not_refused (Frame turn) limit come whole refused = refused.1 whole.0
 

@@ -28,9 +28,9 @@ Appends Answers old new step = (sent : List ℕ) × (new ≡ old ++ sent)
     × Answers (record { sent = sent; progress = step.progress; expected = step.expected })
 
 -- a body whose frame is of this turn is read, and another closes the negotiation
-abbrev pub Screens : FrameKind → List ℕ → Result FrameView CloseReason → Type 0
-Screens turn body (Ok view) = SpellsBody body (Ok (viewed_frame view)) × IsInTurn turn (viewed_frame view)
-Screens turn body (Err why) = ((fault : Error) × SpellsBody body (Err fault) × (why ≡ MalformedFrame fault))
+abbrev pub ReadsExpected : FrameKind → List ℕ → Result FrameView CloseReason → Type 0
+ReadsExpected turn body (Ok view) = SpellsBody body (Ok (viewed_frame view)) × IsInTurn turn (viewed_frame view)
+ReadsExpected turn body (Err why) = ((fault : Error) × SpellsBody body (Err fault) × (why ≡ MalformedFrame fault))
     ⊎ ((frame : SaslFrame) × SpellsBody body (Ok frame) × ¬ IsInTurn turn frame × (why ≡ UnexpectedFrame))
 
 -- these bytes complete this unit, with those that have arrived of it

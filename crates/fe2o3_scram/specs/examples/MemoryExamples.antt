@@ -15,18 +15,18 @@ use Rattle.fe2o3_scram.specs.ServerFirst.{ServerChallenge, ReachesChallenge}
 use Rattle.fe2o3_scram.specs.ChannelBinding.{own_header}
 
 -- a server-final message that is an error (RFC 5802, section 7), to a client that has answered
-abbrev pub ErrorsTakeNone : Type 0
-ErrorsTakeNone = (signature : List ℕ) (keys : Option ClientKeys)
+abbrev pub ErrorsAllocateNothing : Type 0
+ErrorsAllocateNothing = (signature : List ℕ) (keys : Option ClientKeys)
     → ¬ ReachesVerifierIn (ClientFinalSent signature keys) (codes "e=invalid-proof")
 
 -- a server-first message, to a client that has answered one already (RFC 5802, section 5)
-abbrev pub AnsweredClientsTakeNone : Type 0
-AnsweredClientsTakeNone = (signature text : List ℕ) (keys : Option ClientKeys)
+abbrev pub AnsweredClientsAllocateNothing : Type 0
+AnsweredClientsAllocateNothing = (signature text : List ℕ) (keys : Option ClientKeys)
     → ¬ ReachesSaltIn (ClientFinalSent signature keys) text
 
 -- a client-first message without escapes, of an unknown user (RFC 5802, section 5.1)
-abbrev pub UnknownUsersTakeNone : Type 0
-UnknownUsersTakeNone = (version : ScramVersion) (rules : ServerRules)
+abbrev pub UnknownUsersAllocateNothing : Type 0
+UnknownUsersAllocateNothing = (version : ScramVersion) (rules : ServerRules)
     → ¬ ReachesChallenge (serving rules (record { version = version; records = [] })) (codes "n,,n=user,r=abc")
 
 -- the challenge with the nonce abc, to any user
@@ -35,20 +35,20 @@ challenge_abc user bare first =
     record { user = user; header = own_header NotSupported; bare = bare; first = first; nonce = codes "abc" }
 
 -- a client-final message with the nonce of another exchange (RFC 5802, section 5.1)
-abbrev pub OtherNoncesTakeNone : Type 0
-OtherNoncesTakeNone = (rules : ServerRules) (stored : Record) (user bare first : List ℕ)
+abbrev pub OtherNoncesAllocateNothing : Type 0
+OtherNoncesAllocateNothing = (rules : ServerRules) (stored : Record) (user bare first : List ℕ)
     → ¬ ReachesBase64In (ServerFirstSent (challenge_abc user bare first) stored) rules
     (client_final_of (without_proof (codes "abd")) [])
 
 -- a client-final message without a channel binding (RFC 5802, section 7)
-abbrev pub UnboundTextsTakeNone : Type 0
-UnboundTextsTakeNone = (rules : ServerRules) (stored : Record) (user bare first : List ℕ)
+abbrev pub MissingBindingsAllocateNothing : Type 0
+MissingBindingsAllocateNothing = (rules : ServerRules) (stored : Record) (user bare first : List ℕ)
     → ¬ ReachesBase64In (ServerFirstSent (challenge_abc user bare first) stored) rules (codes "r=abc,p=AA==")
 
 -- a record of an unknown mechanism (RFC 5803, section 2)
-abbrev pub UnknownMechanismsTakeNone : Type 0
-UnknownMechanismsTakeNone = ¬ ReachesValues (codes "SCRAM-MD5$1:AA==$AA==:AA==")
+abbrev pub UnknownMechanismsAllocateNothing : Type 0
+UnknownMechanismsAllocateNothing = ¬ ReachesValues (codes "SCRAM-MD5$1:AA==$AA==:AA==")
 
 -- a line whose name has a comma (RFC 5802, section 5.1)
-abbrev pub CommasTakeNone : Type 0
-CommasTakeNone = ¬ ReachesUser (codes "a,b SCRAM-SHA-1$1:AA==$AA==:AA==" ++ (10 ∷ []))
+abbrev pub CommasAllocateNothing : Type 0
+CommasAllocateNothing = ¬ ReachesUser (codes "a,b SCRAM-SHA-1$1:AA==$AA==:AA==" ++ (10 ∷ []))

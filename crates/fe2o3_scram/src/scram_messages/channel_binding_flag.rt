@@ -68,7 +68,8 @@ impl ChannelBindingFlag {
 
 /// Splits the flag and its comma off a client-first message, if the rules accept it.
 pub(crate) fn cut_flag(text: &str, rules: ServerRules) -> Option<(ChannelBindingFlag, &str)>
-    ensures { MatchOption result ((flag : ChannelBindingFlag) → AcceptsFlag rules flag → ¬ StartsWith text.now (flag_text flag ++ codes ","))
+    ensures { MatchOption result
+        ((flag : ChannelBindingFlag) → AcceptsFlag rules flag → ¬ StartsWith text.now (flag_text flag ++ codes ","))
         (λ cut. AcceptsFlag rules cut.0 × (text.now ≡ (flag_text cut.0 ++ codes ",") ++ cut.1.now)) }
 {
     match rules.channels {
@@ -79,7 +80,8 @@ pub(crate) fn cut_flag(text: &str, rules: ServerRules) -> Option<(ChannelBinding
 
 /// Splits off the flag of a client that binds no channel: `n`, or `y` if that is accepted.
 fn cut_unbound(text: &str, accept_y: bool) -> Option<(ChannelBindingFlag, &str)>
-    ensures { MatchOption result ((flag : ChannelBindingFlag) → TakesUnbound accept_y flag → ¬ StartsWith text.now (flag_text flag ++ codes ","))
+    ensures { MatchOption result
+        ((flag : ChannelBindingFlag) → TakesUnbound accept_y flag → ¬ StartsWith text.now (flag_text flag ++ codes ","))
         (λ cut. TakesUnbound accept_y cut.0 × (text.now ≡ (flag_text cut.0 ++ codes ",") ++ cut.1.now)) }
 {
     if let Some(rest) = after(text, NOT_SUPPORTED_FLAG) {
@@ -94,7 +96,8 @@ fn cut_unbound(text: &str, accept_y: bool) -> Option<(ChannelBindingFlag, &str)>
 
 /// Splits off the flag of a client that binds a channel, if the server has the data of its kind.
 fn cut_bound(text: &str, channels: ChannelBindings) -> Option<(ChannelBindingFlag, &str)>
-    ensures { MatchOption result ((flag : ChannelBindingFlag) → TakesBound channels flag → ¬ StartsWith text.now (flag_text flag ++ codes ","))
+    ensures { MatchOption result
+        ((flag : ChannelBindingFlag) → TakesBound channels flag → ¬ StartsWith text.now (flag_text flag ++ codes ","))
         (λ cut. TakesBound channels cut.0 × (text.now ≡ (flag_text cut.0 ++ codes ",") ++ cut.1.now)) }
 {
     let (kind, rest) = cut_kind(text)?;

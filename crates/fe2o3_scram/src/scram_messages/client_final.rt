@@ -60,7 +60,8 @@ impl ScramVersion {
         client_first_message_bare: &[u8],
     ) -> Result<(Vec<u8>, Vec<u8>), ScramErrorKind>
         ensures { Gives ScramErrorKind.OutOfMemory (ReachesSalt client_nonce.now server_first.now) pair_values result
-            (SendsServerFirst self.now (client_of client_nonce.now (ByPassword (Typed password.now)) (up_to no_limit) plain_header false)
+            (SendsServerFirst self.now
+            (client_of client_nonce.now (ByPassword (Typed password.now)) (up_to no_limit) plain_header false)
             client_first_message_bare.now server_first.now) }
     {
         self.compute_client_final_message_metered(
@@ -86,9 +87,11 @@ impl ScramVersion {
         requires { meter.old ≤ 2 ^ 63 }
         ensures answer { Gives ScramErrorKind.OutOfMemory (ReachesSalt client_nonce.now server_first.now)
             pair_values result
-            (SendsServerFirst self.now (client_of client_nonce.now (ByPassword (Typed password.now)) (up_to no_limit) plain_header false)
+            (SendsServerFirst self.now
+            (client_of client_nonce.now (ByPassword (Typed password.now)) (up_to no_limit) plain_header false)
             client_first_message_bare.now server_first.now) }
-        ensures cost { AnswerCosts (client_of client_nonce.now (ByPassword (Typed password.now)) (up_to no_limit) plain_header false)
+        ensures cost { AnswerCosts
+            (client_of client_nonce.now (ByPassword (Typed password.now)) (up_to no_limit) plain_header false)
             server_first.now result meter.old meter.new }
     {
         self.compute_client_final_message_limited(
@@ -117,7 +120,8 @@ impl ScramVersion {
         requires { meter.old ≤ 2 ^ 63 }
         ensures answer { Gives ScramErrorKind.OutOfMemory (ReachesSalt client_nonce.now server_first.now)
             pair_values result
-            (SendsServerFirst self.now (client_of client_nonce.now (ByPassword (Typed password.now)) (up_to limit) plain_header false)
+            (SendsServerFirst self.now
+            (client_of client_nonce.now (ByPassword (Typed password.now)) (up_to limit) plain_header false)
             client_first_message_bare.now server_first.now) }
         ensures cost { AnswerCosts (client_of client_nonce.now (ByPassword (Typed password.now)) (up_to limit) plain_header false)
             server_first.now result meter.old meter.new }
@@ -137,8 +141,8 @@ impl ScramVersion {
     }
 
     /// Answers a server-first message by a secret, if its iteration count is within the limits. The header is
-    /// that of the client-first message. The other arguments are those of `compute_client_final_message`. The version is that of an answer by the password; an answer by keys has
-    /// theirs.
+    /// that of the client-first message. The other arguments are those of `compute_client_final_message`. The version
+    /// is that of an answer by the password; an answer by keys has theirs.
     ///
     /// The errors are those of `ServerFirst::parse_with_header`, in its order. `OutOfMemory` is returned only if no error
     /// before `Base64DecodeError` applies.
@@ -222,7 +226,8 @@ impl ScramVersion {
     ) -> CachedKeys
         requires some { 1 ≤ first.iterations }
         requires meter { meter.old ≤ 2 ^ 63 }
-        ensures keys { result ≡ keys_of self.now (password_bytes (password_of password.entry)) first.entry.salt.items first.entry.iterations }
+        ensures keys { result
+            ≡ keys_of self.now (password_bytes (password_of password.entry)) first.entry.salt.items first.entry.iterations }
         ensures counted { meter.new ≡ meter.old + (first.entry.iterations + 2) }
     {
         let salted_password = self.salted_password(

@@ -58,8 +58,8 @@ pub enum ScramErrorKind {
     IterationCountTooLarge,
 
     /// A part in the place of an extension is none (RFC 5802, section 7): after the iteration count, or after the
-    /// signature. Only a client that is strict, has a channel (also one that says `y,,`) or acts for somebody else returns
-    /// it.
+    /// signature. Only a client that is strict, has a channel (also one that says `y,,`) or sends an authorization
+    /// identity returns it.
     #[error("Attribute in the place of an extension")]
     MisplacedAttribute,
 

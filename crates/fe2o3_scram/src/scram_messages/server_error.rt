@@ -56,7 +56,8 @@ impl ServerError {
     /// A client calls it where `validate_server_final` returns `ServerSignatureMismatch`, to distinguish an error of the
     /// server from a wrong signature.
     pub fn parse(text: &[u8]) -> Option<ServerError>
-        ensures { MatchOption result ((error : Error) → ¬ NamesServerError text.now error) (λ error. NamesServerError text.now error) }
+        ensures { MatchOption result ((error : Error) → ¬ NamesServerError text.now error)
+            (λ error. NamesServerError text.now error) }
     {
         let Ok(message) = str::from_utf8(text) else {
             return None;

@@ -78,8 +78,8 @@ impl ScramVersion {
     }
 
     /// Like `validate_server_final`, by a client with this header, which is `strict` or not. After the other errors of
-    /// the text, and before another signature, a client that is strict, has a channel or acts for somebody else returns
-    /// `MisplacedAttribute` if a part after the signature is no extension (RFC 5802, section 7).
+    /// the text, and before another signature, a client that is strict, has a channel or sends an authorization
+    /// identity returns `MisplacedAttribute` if a part after the signature is no extension (RFC 5802, section 7).
     pub fn validate_server_final_with_header(
         &self,
         alloc: Global,

@@ -51,7 +51,8 @@ impl<'a> ServerFirst<'a> {
     ) -> Result<Self, ScramErrorKind>
         ensures reads { Gives ScramErrorKind.OutOfMemory (ReachesSalt client_nonce.now text.now)
             server_first_values result
-            (ReadsServerFirst (client_of client_nonce.now (ByPassword (Typed password.now)) (up_to limit) plain_header false) text.now) }
+            (ReadsServerFirst
+            (client_of client_nonce.now (ByPassword (Typed password.now)) (up_to limit) plain_header false) text.now) }
         ensures count { IfOk result (λ first. (1 ≤ first.iterations) × (first.iterations ≤ limit)) }
     {
         let limits = IterationLimits::up_to(limit);
@@ -67,16 +68,17 @@ impl<'a> ServerFirst<'a> {
         Ok(first)
     }
 
-    /// Reads a server-first message like `parse`, for a client with this header and this secret, which accepts the counts
-    /// within these limits. A client that has a channel or acts for somebody else tests extensions like a strict one.
+    /// Reads a server-first message like `parse`, for a client with this header and this secret, which accepts the
+    /// counts within these limits. A client that has a channel or sends an authorization identity tests extensions like
+    /// a strict one.
     ///
     /// The errors are, in this order: those of `parse` up to `IterationCountParseError`; `IterationCountTooSmall` and
     /// `IterationCountTooLarge`; of a strict client `ClientNonceMismatch` if the server's part of the nonce is empty or
-    /// not printable, and `IterationCountParseError` if the count has a sign or leading zeros; `MisplacedAttribute` of a
-    /// client that is strict, has a channel or acts for somebody else if a part after the count is no extension (RFC 5802,
-    /// section 7); `NormalizeError` if a typed password is needed and is not printable ASCII, or `StaleKeys` if the secret
-    /// is only keys and the message names another salt or count than theirs. Only the salt is allocated: `OutOfMemory` is
-    /// returned only if none of the first five errors applies.
+    /// not printable, and `IterationCountParseError` if the count has a sign or leading zeros; `MisplacedAttribute` of
+    /// a client that is strict, has a channel or sends an authorization identity if a part after the count is no
+    /// extension (RFC 5802, section 7); `NormalizeError` if a typed password is needed and is not printable ASCII, or
+    /// `StaleKeys` if the secret is only keys and the message names another salt or count than theirs. Only the salt is
+    /// allocated: `OutOfMemory` is returned only if none of the first five errors applies.
     pub fn parse_with_header(
         alloc: Global,
         header: &ClientHeader<'_>,

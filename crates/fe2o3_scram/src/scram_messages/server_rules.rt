@@ -21,9 +21,10 @@ pub struct ServerRules {
     /// any case. A server that binds channels or accepts identities tests what follows the nonce in any case.
     pub strict: bool,
 
-    /// Whether the server rejects what is no extension in the place of one, as one that binds channels does, and nothing
-    /// more: an empty user name is accepted. A server that offers SCRAM with and without `-PLUS` sets it for both, so that
-    /// no client that has a channel is talked out of binding it, whatever the client tests itself.
+    /// Whether the server rejects what is no extension in the place of one, as one that binds channels does, and
+    /// nothing more: an empty user name is accepted. A server that offers SCRAM with and without `-PLUS` sets it for
+    /// both, so that no attacker can make a client that has a channel skip channel binding, whatever the client tests
+    /// itself.
     pub reject_misplaced: bool,
 
     /// The channel, if the server is of a mechanism with `-PLUS` (RFC 5802, section 6). It then accepts only clients

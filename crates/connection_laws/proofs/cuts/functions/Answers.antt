@@ -16,8 +16,5 @@ pub returns-clause-any_mechanism : goal.returns-clause-any_mechanism
 returns-clause-any_mechanism g c = lemma.any_mechanism_is_function g.A.SaslAcceptor.names g.B.SaslAcceptor.names
     g.A.SaslAcceptor.machine g.B.SaslAcceptor.machine
 
-pub returns-clause-restrict_mechanisms : goal.returns-clause-restrict_mechanisms
-returns-clause-restrict_mechanisms g c = lemma.offering_is_function g.A.SaslAcceptor.names g.A.SaslAcceptor.machine
-
 pub returns-clause-server : goal.returns-clause-server
 returns-clause-server g c = server_is_function

@@ -10,5 +10,5 @@ pub returns-clause-scram : goal.returns-clause-scram
 returns-clause-scram g c = scram_runs_serve
 
 pub returns-clause-logged_in : goal.returns-clause-logged_in
-returns-clause-logged_in g c = any_mechanism_servers_act_as_part g.A.SaslAcceptor.names g.B.SaslAcceptor.names g.A.SaslAcceptor.machine
-    g.B.SaslAcceptor.machine
+returns-clause-logged_in g c = any_mechanism_servers_act_as_part g.A.SaslAcceptor.names g.B.SaslAcceptor.names
+    g.A.SaslAcceptor.machine g.B.SaslAcceptor.machine

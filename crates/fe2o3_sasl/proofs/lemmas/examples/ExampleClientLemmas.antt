@@ -80,7 +80,8 @@ module _ (some : Login) (unsigned : some.signature_by_challenge ≡ false)
       (canonical (frames.Response answer.message))) (sym one)
 
   signature_taken : ReadsServerFinal (is_strict_login some) (answer_at some made).signature (verifier made) (Ok tt)
-  signature_taken = subst (λ (answer : Answer). ReadsServerFinal (is_strict_login some) answer.signature (verifier made) (Ok tt)) (sym one)
+  signature_taken = subst (λ (answer : Answer). ReadsServerFinal (is_strict_login some) answer.signature
+      (verifier made) (Ok tt)) (sym one)
       (signature_read made.text both (client_message login made) refl (is_strict_login some))
 
   answered : (events : List Given) (replies : List ClientSays) (k : ℕ) → IsDue events replies k client_nonce
@@ -145,8 +146,8 @@ keys_log_in =
 other_bytes : IsBytes other_salt
 other_bytes = IsBytes-replicate 32 4 (omega arith)
 
-others_refused : ReadsServerFirst (client_of client_nonce with_keys.secret with_keys.limits (login_header with_keys) with_keys.strict)
-    (joined (salted other_salt both)) (Err NamesStaleKeys)
+others_refused : ReadsServerFirst (client_of client_nonce with_keys.secret with_keys.limits (login_header with_keys)
+    with_keys.strict) (joined (salted other_salt both)) (Err NamesStaleKeys)
 others_refused =
     let text = joined (salted other_salt both) in
     let named = names_salted other_salt other_bytes both server_nonce [] refl plain_both tt in
@@ -157,7 +158,8 @@ others_refused =
     (salt_passes other_salt other_bytes both server_nonce [] refl plain_both tt)
     (count_passes other_salt other_bytes both server_nonce [] refl plain_both tt with_keys.limits (omega arith)
     (omega arith))
-    (λ wrong. wrong.0, (λ wrong. wrong.0, (λ wrong. wrong.0, tt))) (inl (λ has. apart (one_has_salt text other_salt salt named.salt has.0), refl))
+    (λ wrong. wrong.0, (λ wrong. wrong.0, (λ wrong. wrong.0, tt)))
+    (inl (λ has. apart (one_has_salt text other_salt salt named.salt has.0), refl))
 
 pub stale_keys_log_in_later : StaleKeysLogInLater
 stale_keys_log_in_later =

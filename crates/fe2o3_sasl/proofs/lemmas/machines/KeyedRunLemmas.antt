@@ -27,7 +27,8 @@ use Rattle.fe2o3_sasl_core.proofs.lemmas.machines.ClientMachineLemmas.{profile_r
 use Rattle.fe2o3_sasl_core.specs.declared.sasl_profile.error.ProfileError.{ProfileError}
 use Rattle.fe2o3_sasl_core.specs.declared.sasl_profile.error.ProfileError.TheVariants.{StaleKeys}
 
-module _ (user : List ℕ) (limits : IterationLimits) (channel : ClientChannel) (acts_for : Option (List ℕ)) (strict accept : Bool) (keys : ClientKeys)
+module _ (user : List ℕ) (limits : IterationLimits) (channel : ClientChannel) (acts_for : Option (List ℕ))
+    (strict accept : Bool) (keys : ClientKeys)
     (password : PasswordText) (normal : IsNormal password) (are : AreKeysOf keys (password_bytes password)) where
   -- the client with this secret, and the two profiles
   abbrev side : Secret → ClientState → ClientSide
@@ -65,10 +66,27 @@ module _ (user : List ℕ) (limits : IterationLimits) (channel : ClientChannel) 
   answer_alike (ClientFirstSent nonce bare) own text (Ok message) next fit is = (
     ClientFinalSent is.0.signature (Some is.0.keys),
     is.3,
-    (is.0, keys_stand keys password nonce bare text limits (record { channel = channel; acts_for = acts_for }) strict (Ok is.0) normal are (λ e. cc) is.1, is.2, refl),
+    (
+      is.0,
+      keys_stand keys password nonce bare text limits (record {
+        channel = channel;
+        acts_for = acts_for;
+      }) strict (Ok is.0) normal are (λ e. cc) is.1,
+      is.2,
+      refl,
+    ),
   )
-  answer_alike (ClientFirstSent nonce bare) own text (Err fault) next fit is =
-      (own, is.1, (keys_stand keys password nonce bare text limits (record { channel = channel; acts_for = acts_for }) strict (Err fault) normal are other is.0, refl))
+  answer_alike (ClientFirstSent nonce bare) own text (Err fault) next fit is = (
+    own,
+    is.1,
+    (
+      keys_stand keys password nonce bare text limits (record {
+        channel = channel;
+        acts_for = acts_for;
+      }) strict (Err fault) normal are other is.0,
+      refl,
+    ),
+  )
     where
       same_fault : ◌≡◌ {A = Result Answer ScramErrorKind} (Err fault) (Err kinds.StaleKeys) → fault ≡ kinds.StaleKeys
       same_fault e = cc
@@ -285,8 +303,8 @@ keyed_runs_are_runs login keys password events replies last same normal are run 
     replies last → (after : Profile)
     × Runs (ProfileSteps login.hostname) (profile_by login version (Password password)) events replies after)
     same
-    (λ here. runs_alike login.user login.limits login.channel login.acts_for login.strict login.signature_by_challenge keys password
-    normal are
+    (λ here. runs_alike login.user login.limits login.channel login.acts_for login.strict login.signature_by_challenge
+    keys password normal are
     ClientInitial login.hostname events replies last here fit) run
 
 pub keyed_runs_are_histories : KeyedRunsAreHistories

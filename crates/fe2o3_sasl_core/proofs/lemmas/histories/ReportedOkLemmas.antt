@@ -82,8 +82,14 @@ pub signature_of_ok : (login : Login) (events : List Given) (replies : List Clie
     → (answer : Answering) × (text : List ℕ) × SignedAnswer login events replies m more answer
     × VerifierText events replies m more text × HasBase64 text 0 (codes "v=") (answer_at login answer).signature
 signature_of_ok login events replies m (Some given) history at =
-    let reads = (reported_at login events replies m (Some given) history at).3 in
-    (reads.0, given, reads.1, refl, names_server_final (is_strict_login login) (answer_at login reads.0).signature given tt reads.2)
+    let reads = (reported_at login events replies m (Some given) history at).3 in (
+      reads.0,
+      given,
+      reads.1,
+      refl,
+      names_server_final (is_strict_login login) (answer_at login reads.0).signature given
+          tt reads.2,
+    )
 signature_of_ok login events replies m None history at =
     let reads = (reported_at login events replies m None history at).3 in
     let signs = reads.1.2 in (

@@ -6,10 +6,9 @@ use Rattle.fe2o3_sasl_wire.specs.SaslFrames as frames
 use Rattle.fe2o3_sasl_wire.specs.SaslFrames.{SaslFrame, canonical}
 use Rattle.fe2o3_sasl_core.specs.Bodies.{SpellsBody, carried}
 use Rattle.fe2o3_sasl_core.specs.Events.{Given, ServerSays}
-use Rattle.fe2o3_sasl_core.specs.RestrictMechanisms.{Offering, OfferingReplies, is_passed_on, offering_machine}
 use Rattle.fe2o3_sasl_core.specs.AnyMechanism.{BothStates, PartReplies, both_names, part_for, part_names, any_mechanism_machine}
 use Rattle.fe2o3_sasl_core.specs.AnyMechanismLaws.{Machine}
-use Rattle.fe2o3_sasl_core.specs.AnyMechanismUsers.{AnyMechanismNamesUsers, OfferedNamesUsers, SomeEvent}
+use Rattle.fe2o3_sasl_core.specs.AnyMechanismUsers.{AnyMechanismNamesUsers, SomeEvent}
 use Rattle.fe2o3_sasl_core.specs.Runs.{Runs, AcceptorSteps, AcceptorGives}
 use Rattle.fe2o3_sasl_core.specs.declared.any_mechanism.Selected.{Selected}
 use Rattle.fe2o3_sasl_core.specs.declared.any_mechanism.Selected.TheVariants.{First, Second}
@@ -181,89 +180,3 @@ any_mechanism_names_users {S} {T} names others machine other user other_user par
     (changes_over Step (λ (p : BothStates S T). p.selected) (SetsAsked names others)
     (λ state next event says step. one_asked names others machine other state next event step.0 says step.1 step.2)
     parts last events replies runs) fresh is
-
--- ---- one that offers only some of its names
-
--- the names of both
-abbrev names_of : {S T : Type 0} → (S → List (List ℕ)) → (T → List (List ℕ)) → BothStates S T → List (List ℕ)
-names_of names others parts = both_names (names parts.first) (others parts.second)
-
--- an init that asks a part is passed on
-abbrev SetsOffered : {S T : Type 0} → (S → List (List ℕ)) → (T → List (List ℕ)) → Option Selected → Offering (BothStates S T)
-    → Given → Type 0
-SetsOffered names others asked offering event = (mechanism : List ℕ) × (response hostname : Option (List ℕ))
-    × SpellsBody event.body (Ok (frames.Init mechanism response hostname))
-    × (part_for names others offering.inner (frames.Init mechanism response hostname) ≡ asked)
-    × (is_passed_on (names_of names others) offering (frames.Init mechanism response hostname) ≡ true)
-
--- what an answer does with the part that was asked: it stays, or the frame was passed on
-offered_after : {S T : Type 0} (names : S → List (List ℕ)) (others : T → List (List ℕ)) (machine : Machine S)
-    (other : Machine T) (offering moved : Offering (BothStates S T)) (mark : Bool) (nonce : List ℕ) (frame reply : SaslFrame)
-    → OfferingReplies (any_mechanism_machine names others machine other) offering mark nonce frame reply moved
-    → (moved.inner.selected ≡ offering.inner.selected)
-    ⊎ ((moved.inner.selected ≡ part_for names others offering.inner frame) × (mark ≡ true))
-offered_after {S} {T} names others machine other offering moved false nonce frame reply is =
-    inl (ap (λ (o : Offering (BothStates S T)). o.inner.selected) is.1)
-offered_after {S} {T} names others machine other offering moved true nonce frame reply (inner, is, to) =
-    elim (asked_after machine other offering.inner inner (part_for names others offering.inner frame) nonce frame reply
-    is) [
-      | inl same ↦ inl (ap (λ (o : Offering (BothStates S T)). o.inner.selected) to ∙ same)
-      | inr part ↦ inr (ap (λ (o : Offering (BothStates S T)). o.inner.selected) to ∙ part, refl)
-    ]
-
-one_offered : {S T : Type 0} (names : S → List (List ℕ)) (others : T → List (List ℕ)) (machine : Machine S)
-    (other : Machine T) (offering next : Offering (BothStates S T)) (event : Given) (spelled : Result SaslFrame Error)
-    (says : ServerSays) → SpellsBody event.body spelled
-    → AcceptorGives (offering_machine (names_of names others) (any_mechanism_machine names others machine other)) offering event
-    spelled says next
-    → Changes (λ (o : Offering (BothStates S T)). o.inner.selected) (SetsOffered names others) offering event next
-one_offered {S} {T} names others machine other offering next event (Err fault) says spells is =
-    inl (ap (λ (o : Offering (BothStates S T)). o.inner.selected) is.1)
-one_offered {S} {T} names others machine other offering next event (Ok (frames.Mechanisms list)) says spells is =
-    inl (ap (λ (o : Offering (BothStates S T)). o.inner.selected) is.1)
-one_offered {S} {T} names others machine other offering next event (Ok (frames.Challenge text)) says spells is =
-    inl (ap (λ (o : Offering (BothStates S T)). o.inner.selected) is.1)
-one_offered {S} {T} names others machine other offering next event (Ok (frames.Outcome code more)) says spells is =
-    inl (ap (λ (o : Offering (BothStates S T)). o.inner.selected) is.1)
-one_offered {S} {T} names others machine other offering next event (Ok (frames.Init mechanism response hostname)) says
-    spells (inl want) = inl (ap (λ (o : Offering (BothStates S T)). o.inner.selected) want.1)
-one_offered {S} {T} names others machine other offering next event (Ok (frames.Init mechanism response hostname)) says
-    spells (inr (reply, moved, is, sent)) =
-    let frame = frames.Init mechanism response hostname in
-    let mark = is_passed_on (names_of names others) offering frame in
-    elim (moved_or_stays (λ (o : Offering (BothStates S T)). o.inner.selected) offering moved next (canonical reply) sent.1) [
-      | inl same ↦ inl same
-      | inr there ↦
-          elim (offered_after names others machine other offering moved mark event.nonce frame reply is) [
-            | inl same ↦ inl (ap (λ (o : Offering (BothStates S T)). o.inner.selected) there ∙ same)
-            | inr to ↦ inr (
-              part_for names others offering.inner frame,
-              ap (λ (o : Offering (BothStates S T)). o.inner.selected) there ∙ to.0,
-              (mechanism, response, hostname, spells, refl, to.1),
-            )
-          ]
-    ]
-one_offered {S} {T} names others machine other offering next event (Ok (frames.Response text)) says spells (inl want) =
-    inl (ap (λ (o : Offering (BothStates S T)). o.inner.selected) want.1)
-one_offered {S} {T} names others machine other offering next event (Ok (frames.Response text)) says spells
-    (inr (reply, moved, is, sent)) =
-    let frame = frames.Response text in
-    elim (moved_or_stays (λ (o : Offering (BothStates S T)). o.inner.selected) offering moved next (canonical reply) sent.1) [
-      | inl same ↦ inl same
-      | inr there ↦
-          elim (offered_after names others machine other offering moved true event.nonce frame reply is) [
-            | inl same ↦ inl (ap (λ (o : Offering (BothStates S T)). o.inner.selected) there ∙ same)
-            | inr to ↦ inl (ap (λ (o : Offering (BothStates S T)). o.inner.selected) there ∙ to.0)
-          ]
-    ]
-
-pub offered_names_users : {S T : Type 0} (names : S → List (List ℕ)) (others : T → List (List ℕ)) (machine : Machine S)
-    (other : Machine T) → OfferedNamesUsers names others machine other
-offered_names_users {S} {T} names others machine other user other_user offering last events replies name runs fresh is =
-    let Step : Offering (BothStates S T) → Given → ServerSays → Offering (BothStates S T) → Type 0 =
-    AcceptorSteps (offering_machine (names_of names others) (any_mechanism_machine names others machine other)) in
-    named_part Step (λ (o : Offering (BothStates S T)). o.inner.selected) (SetsOffered names others) offering last events replies
-    (user last.inner.first) (other_user last.inner.second) name part_names none_names
-    (changes_over Step (λ (o : Offering (BothStates S T)). o.inner.selected) (SetsOffered names others)
-    (λ state next event says step. one_offered names others machine other state next event step.0 says step.1 step.2)
-    offering last events replies runs) fresh is

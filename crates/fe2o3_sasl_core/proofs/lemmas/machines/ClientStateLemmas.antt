@@ -138,8 +138,15 @@ refuses_open login (SignatureVerified keys) at text kind after stands h =
     (inl ((λ answer e. absurd (none-some answer (sym stands.1 ∙ e))), h.0), h.1)
 refuses_open login (Complete keys) at text kind after stands h =
     (inl ((λ answer e. absurd (none-some answer (sym stands.1 ∙ e))), h.0), h.1)
-refuses_open login (ClientFinalSent signature keys) at text kind after stands h =
-    (inr (stands.1.0, stands.1.1, subst (λ (s : List ℕ). ReadsServerFinal (is_strict_login login) s text (Err kind)) stands.1.2 h.0), h.1)
+refuses_open login (ClientFinalSent signature keys) at text kind after stands h = (
+  inr (
+    stands.1.0,
+    stands.1.1,
+    subst (λ (s : List ℕ). ReadsServerFinal (is_strict_login login) s text (Err kind))
+        stands.1.2 h.0,
+  ),
+  h.1,
+)
 
 pub left_true : (left right : Bool) → left && right ≡ true → left ≡ true
 left_true true right is = refl

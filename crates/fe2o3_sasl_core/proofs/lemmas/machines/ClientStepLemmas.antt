@@ -238,7 +238,8 @@ machine_step login state at event (frames.Mechanisms names) reply moved says nex
     start_step login state at event names says next m.0
     (replied (profile_in login state) moved (profile_in login (started_state login (base64_text event.nonce))) reply
     (Ok (frames.Init (login_mechanism login)
-    (Some (client_first_with (header_of (login_header login)) login.user (base64_text event.nonce))) login.hostname)) says next m.1 m.2 h)
+    (Some (client_first_with (header_of (login_header login)) login.user (base64_text event.nonce))) login.hostname)) says
+    next m.1 m.2 h)
 machine_step login state at event (frames.Mechanisms names) reply moved says next stands (inr m) h =
     let r = replied (profile_in login state) moved (profile_in login state) reply
     (Err NotImplemented) says next m.1 m.2 h in

@@ -103,7 +103,8 @@ pub plain_claims : (mechanism text name : List ℕ) (parts : PlainParts) → mec
     → SpellsPlain parts text → IsTaken true parts → name ≡ parts.user → ClaimsUser mechanism text name
 plain_claims mechanism text name parts is spells taken same = inr (is, (parts, spells, taken, same))
 
-pub plain_claims_none : (mechanism text : List ℕ) → ((version : ScramVersion) (plus : Bool) → mechanism_of version plus ≢ mechanism)
+pub plain_claims_none : (mechanism text : List ℕ)
+    → ((version : ScramVersion) (plus : Bool) → mechanism_of version plus ≢ mechanism)
     → ((parts : PlainParts) → SpellsPlain parts text → ¬ IsTaken true parts) → (name : List ℕ)
     → ¬ ClaimsUser mechanism text name
 plain_claims_none mechanism text other none name (inl (version, plus, same, names)) =
@@ -113,7 +114,8 @@ plain_claims_none mechanism text other none name (inr (plain, (parts, spells, ta
 
 -- ---- one of another mechanism
 
-pub other_claims_none : (mechanism text : List ℕ) → ((version : ScramVersion) (plus : Bool) → mechanism_of version plus ≢ mechanism)
+pub other_claims_none : (mechanism text : List ℕ)
+    → ((version : ScramVersion) (plus : Bool) → mechanism_of version plus ≢ mechanism)
     → mechanism ≢ codes "PLAIN" → (name : List ℕ) → ¬ ClaimsUser mechanism text name
 other_claims_none mechanism text other none name (inl (version, plus, same, names)) =
     other version plus (sym same)

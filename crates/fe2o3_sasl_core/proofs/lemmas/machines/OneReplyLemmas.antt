@@ -81,8 +81,8 @@ final_turn challenge stored server (Ok final) =
     (Ok (Some (server_final_of server final)), server_states.ServerFinalSent challenge.user challenge.header.acts_for)
 final_turn challenge stored server (Err fault) = (Err fault, server_states.ServerFirstSent challenge stored)
 
-conclusion_made : (challenge : ServerChallenge) (stored : Record) (version : ScramVersion) (rules : ServerRules) (rights : Rights) (text : List ℕ)
-    (answer : Result (Option (List ℕ)) ServerScramErrorKind) (next : ServerState)
+conclusion_made : (challenge : ServerChallenge) (stored : Record) (version : ScramVersion) (rules : ServerRules)
+    (rights : Rights) (text : List ℕ) (answer : Result (Option (List ℕ)) ServerScramErrorKind) (next : ServerState)
     → ConcludesFrom (server_states.ServerFirstSent challenge stored) version rules rights text answer next
     → let server = server_against version rules rights challenge stored in
     MadeOf (ReadsClientFinal server text) (final_turn challenge stored server) (answer, next)
@@ -107,8 +107,10 @@ one_conclusion server_states.Initial version rules rights text (Ok message) othe
 one_conclusion server_states.Initial version rules rights text (Err fault) (Ok message) next last is too = absurd too
 one_conclusion server_states.Initial version rules rights text (Err fault) (Err kind) next last is too =
     λ i. (Err ((is.0 ∙ sym too.0) i), (is.1 ∙ sym too.1) i)
-one_conclusion (server_states.ServerFinalSent user acts_for) version rules rights text (Ok message) other next last is too = absurd is
-one_conclusion (server_states.ServerFinalSent user acts_for) version rules rights text (Err fault) (Ok message) next last is too = absurd too
+one_conclusion (server_states.ServerFinalSent user acts_for) version rules rights text (Ok message) other next last is too =
+    absurd is
+one_conclusion (server_states.ServerFinalSent user acts_for) version rules rights text (Err fault) (Ok message) next
+    last is too = absurd too
 one_conclusion (server_states.ServerFinalSent user acts_for) version rules rights text (Err fault) (Err kind) next last is too =
     λ i. (Err ((is.0 ∙ sym too.0) i), (is.1 ∙ sym too.1) i)
 
@@ -150,7 +152,8 @@ one_acceptor_reply (ScramAcceptor provider state) nonce (frames.Response text) r
     let turn : ServerTurn = (is.0, is.1) in
     let again : ServerTurn = (too.0, too.1) in
     turn_taken provider (λ message. frames.Outcome outcomes.Ok (Some message)) turn again reply other next last
-    (one_conclusion state provider.version provider.rules provider.rights text is.0 too.0 is.1 too.1 is.2 too.2) is.3 is.4 too.3 too.4
+    (one_conclusion state provider.version provider.rules provider.rights text is.0 too.0 is.1 too.1 is.2 too.2) is.3 is.4
+    too.3 too.4
 one_acceptor_reply (PlainAcceptor user password accepted) nonce (frames.Init mechanism (Some text) hostname) reply other
     next last (inl is) (inl too) = (is.1 ∙ sym too.1, is.2 ∙ sym too.2)
 one_acceptor_reply (PlainAcceptor user password accepted) nonce (frames.Init mechanism (Some text) hostname) reply other
@@ -228,7 +231,8 @@ verification_turn side state (Err fault) = (Err fault, side)
 verification_made : (signature : List ℕ) (keys : Option ClientKeys) (side : ClientSide) (text : List ℕ)
     (answer : Result (Unit {0}) ScramErrorKind) (next : ClientSide)
     → VerifiesIn (client_states.ClientFinalSent signature keys) side text answer next
-    → MadeOf (ReadsServerFinal (is_strict_client side) signature text) (verification_turn side (client_states.Complete keys)) (answer, next)
+    → MadeOf (ReadsServerFinal (is_strict_client side) signature text) (verification_turn side (client_states.Complete keys))
+    (answer, next)
 verification_made signature keys side text (Ok verified) next is = (Ok verified, is.0, λ i. (Ok verified, is.1 i))
 verification_made signature keys side text (Err fault) next is = (Err fault, is.0, λ i. (Err fault, is.1 i))
 
@@ -236,8 +240,8 @@ one_verification : (state : ClientState) (side : ClientSide) (text : List ℕ) (
     (next last : ClientSide) → VerifiesIn state side text answer next → VerifiesIn state side text other last
     → ◌≡◌ {A = ClientTurn (Unit {0})} (answer, next) (other, last)
 one_verification (client_states.ClientFinalSent signature keys) side text answer other next last is too =
-    one_made (ReadsServerFinal (is_strict_client side) signature text) (verification_turn side (client_states.Complete keys)) (answer, next)
-    (other, last)
+    one_made (ReadsServerFinal (is_strict_client side) signature text) (verification_turn side (client_states.Complete keys))
+    (answer, next) (other, last)
     (one_server_final (is_strict_client side) signature text) (verification_made signature keys side text answer next is)
     (verification_made signature keys side text other last too)
 one_verification client_states.ClientInitial side text (Ok verified) other next last is too = absurd is
@@ -260,7 +264,8 @@ one_verification (client_states.Complete keys) side text (Err fault) (Err kind) 
 check_made : (signature : List ℕ) (keys : Option ClientKeys) (side : ClientSide) (text : List ℕ)
     (answer : Result (Unit {0}) ScramErrorKind) (next : ClientSide)
     → ChecksSignatureIn (client_states.ClientFinalSent signature keys) side text answer next
-    → MadeOf (ReadsServerFinal (is_strict_client side) signature text) (verification_turn side (client_states.SignatureVerified keys))
+    → MadeOf (ReadsServerFinal (is_strict_client side) signature text)
+    (verification_turn side (client_states.SignatureVerified keys))
     (answer, next)
 check_made signature keys side text (Ok verified) next is = (Ok verified, is.0, λ i. (Ok verified, is.1 i))
 check_made signature keys side text (Err fault) next is = (Err fault, is.0, λ i. (Err fault, is.1 i))
@@ -271,7 +276,8 @@ one_check : (state : ClientState) (side : ClientSide) (text : List ℕ) (answer 
     → ChecksSignatureIn state side text other last
     → ◌≡◌ {A = ClientTurn (Unit {0})} (answer, next) (other, last)
 one_check (client_states.ClientFinalSent signature keys) side text answer other next last is too =
-    one_made (ReadsServerFinal (is_strict_client side) signature text) (verification_turn side (client_states.SignatureVerified keys))
+    one_made (ReadsServerFinal (is_strict_client side) signature text)
+    (verification_turn side (client_states.SignatureVerified keys))
     (answer, next) (other, last)
     (one_server_final (is_strict_client side) signature text) (check_made signature keys side text answer next is)
     (check_made signature keys side text other last too)

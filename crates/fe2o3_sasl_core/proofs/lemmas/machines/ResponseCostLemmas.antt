@@ -45,36 +45,37 @@ against : {V : Type 0} (Allocates : Type 0) (view : V → Option (List ℕ)) (ch
     → FinalCosts (server_against version rules rights challenge stored) text answer 0 n → after ≤ before + n
 against Allocates view challenge stored version rules rights text (Ok value) answer next last before after n gives concludes costs
     takes =
-    let turn = one_conclusion (server_states.ServerFirstSent challenge stored) version rules rights text (Ok (view value)) answer next
-    last gives concludes in
-    let two : n ≡ 2 = takes_of (server_against version rules rights challenge stored) text (Ok (view value)) answer next last n turn
-    takes in
+    let turn = one_conclusion (server_states.ServerFirstSent challenge stored) version rules rights text
+    (Ok (view value)) answer next last gives concludes in
+    let two : n ≡ 2 = takes_of (server_against version rules rights challenge stored) text (Ok (view value)) answer next
+    last n turn takes in
     omega (arith, costs, two)
 against Allocates view challenge stored version rules rights text (Err AuthenticationFailed) answer next last before after n gives
     concludes costs takes =
-    let turn = one_conclusion (server_states.ServerFirstSent challenge stored) version rules rights text (Err AuthenticationFailed)
-    answer next last (gives.1 (λ e. absurd (cc))) concludes in
-    let one : n ≡ 1 = takes_of (server_against version rules rights challenge stored) text (Err AuthenticationFailed) answer next last
-    n turn takes in
+    let turn = one_conclusion (server_states.ServerFirstSent challenge stored) version rules rights text
+    (Err AuthenticationFailed) answer next last (gives.1 (λ e. absurd (cc))) concludes in
+    let one : n ≡ 1 = takes_of (server_against version rules rights challenge stored) text (Err AuthenticationFailed)
+    answer next last n turn takes in
     omega (arith, costs, one)
 against Allocates view challenge stored version rules rights text (Err OutOfMemory) (Ok message) next last before after n gives
     concludes costs takes = let most = costs.1 in omega (arith, most, takes)
 against Allocates view challenge stored version rules rights text (Err OutOfMemory) (Err fault) next last before after n gives
     concludes costs takes = let same = costs.2 fault concludes.0 in omega (arith, same)
-against Allocates view challenge stored version rules rights text (Err fault) answer next last before after n gives concludes costs
-    takes = let same : after ≡ before = costs in omega (arith, same)
+against Allocates view challenge stored version rules rights text (Err fault) answer next last before after n
+    gives concludes costs takes = let same : after ≡ before = costs in omega (arith, same)
 
 -- no more than the acceptor's answer takes
 pub response_costs : {V : Type 0} (Allocates : Type 0) (view : V → Option (List ℕ)) (provider : Provider)
     (state next : ServerState) (text : List ℕ) (result : Result V ServerScramErrorKind) (before after : ℕ)
-    → Gives OutOfMemory Allocates view result (λ answer. ConcludesFrom state provider.version provider.rules provider.rights text answer next)
+    → Gives OutOfMemory Allocates view result
+    (λ answer. ConcludesFrom state provider.version provider.rules provider.rights text answer next)
     → FinalCostsFrom state provider.version provider.rules provider.rights text result before after
     → CostsAtMost acceptor_hmacs (ScramAcceptor provider state) (frames.Response text) before after
 response_costs Allocates view provider (server_states.ServerFirstSent challenge stored) next text result before after gives
     costs = (
       rises (server_against provider.version provider.rules provider.rights challenge stored) text result before after costs,
-      λ n takes. against Allocates view challenge stored provider.version provider.rules provider.rights text result takes.0 next takes.1
-          before after n gives takes.2 costs takes.3,
+      λ n takes. against Allocates view challenge stored provider.version provider.rules provider.rights text
+          result takes.0 next takes.1 before after n gives takes.2 costs takes.3,
     )
 response_costs Allocates view provider server_states.Initial next text result before after gives costs =
     (omega (arith, costs), λ n takes. omega (arith, costs))
@@ -85,7 +86,8 @@ response_costs Allocates view provider (server_states.ServerFinalSent user acts_
 
 -- as many as an answer against the record of the open challenge takes
 exactly_against : {V : Type 0} (Allocates : Type 0) (view : V → Option (List ℕ)) (challenge : ServerChallenge)
-    (stored : Record) (version : ScramVersion) (rules : ServerRules) (rights : Rights) (text : List ℕ) (result : Result V ServerScramErrorKind)
+    (stored : Record) (version : ScramVersion) (rules : ServerRules) (rights : Rights) (text : List ℕ)
+    (result : Result V ServerScramErrorKind)
     (answer : Result (Option (List ℕ)) ServerScramErrorKind) (next last : ServerState) (before after n : ℕ)
     → result ≢ Err OutOfMemory
     → Gives OutOfMemory Allocates view result
@@ -95,26 +97,26 @@ exactly_against : {V : Type 0} (Allocates : Type 0) (view : V → Option (List �
     → FinalCosts (server_against version rules rights challenge stored) text answer 0 n → after ≡ before + n
 exactly_against Allocates view challenge stored version rules rights text (Ok value) answer next last before after n told gives
     concludes costs takes =
-    let turn = one_conclusion (server_states.ServerFirstSent challenge stored) version rules rights text (Ok (view value)) answer next
-    last gives concludes in
-    let two : n ≡ 2 = takes_of (server_against version rules rights challenge stored) text (Ok (view value)) answer next last n turn
-    takes in
+    let turn = one_conclusion (server_states.ServerFirstSent challenge stored) version rules rights text
+    (Ok (view value)) answer next last gives concludes in
+    let two : n ≡ 2 = takes_of (server_against version rules rights challenge stored) text (Ok (view value)) answer next
+    last n turn takes in
     omega (arith, costs, two)
-exactly_against Allocates view challenge stored version rules rights text (Err AuthenticationFailed) answer next last before after n
-    told gives concludes costs takes =
-    let turn = one_conclusion (server_states.ServerFirstSent challenge stored) version rules rights text (Err AuthenticationFailed)
-    answer next last (gives.1 (λ e. absurd (cc))) concludes in
-    let one : n ≡ 1 = takes_of (server_against version rules rights challenge stored) text (Err AuthenticationFailed) answer next last
-    n turn takes in
+exactly_against Allocates view challenge stored version rules rights text (Err AuthenticationFailed) answer next last
+    before after n told gives concludes costs takes =
+    let turn = one_conclusion (server_states.ServerFirstSent challenge stored) version rules rights text
+    (Err AuthenticationFailed) answer next last (gives.1 (λ e. absurd (cc))) concludes in
+    let one : n ≡ 1 = takes_of (server_against version rules rights challenge stored) text (Err AuthenticationFailed)
+    answer next last n turn takes in
     omega (arith, costs, one)
-exactly_against Allocates view challenge stored version rules rights text (Err OutOfMemory) answer next last before after n told gives
-    concludes costs takes = absurd (told refl)
+exactly_against Allocates view challenge stored version rules rights text (Err OutOfMemory) answer next last
+    before after n told gives concludes costs takes = absurd (told refl)
 exactly_against Allocates view challenge stored version rules rights text (Err fault) answer next last before after n told gives
     concludes costs takes =
-    let turn = one_conclusion (server_states.ServerFirstSent challenge stored) version rules rights text (Err fault) answer next last
-    (gives.1 (λ e. absurd (cc))) concludes in
-    let none : n ≡ 0 = takes_of (server_against version rules rights challenge stored) text (Err fault) answer next last n turn takes
-    in
+    let turn = one_conclusion (server_states.ServerFirstSent challenge stored) version rules rights text
+    (Err fault) answer next last (gives.1 (λ e. absurd (cc))) concludes in
+    let none : n ≡ 0 = takes_of (server_against version rules rights challenge stored) text (Err fault)
+    answer next last n turn takes in
     let same : after ≡ before = costs in
     omega (arith, same, none)
 
@@ -122,13 +124,14 @@ exactly_against Allocates view challenge stored version rules rights text (Err f
 exactly_from : {V : Type 0} (Allocates : Type 0) (view : V → Option (List ℕ)) (provider : Provider)
     (state next : ServerState) (text : List ℕ) (result : Result V ServerScramErrorKind) (before after n : ℕ)
     → result ≢ Err OutOfMemory
-    → Gives OutOfMemory Allocates view result (λ answer. ConcludesFrom state provider.version provider.rules provider.rights text answer next)
+    → Gives OutOfMemory Allocates view result
+    (λ answer. ConcludesFrom state provider.version provider.rules provider.rights text answer next)
     → FinalCostsFrom state provider.version provider.rules provider.rights text result before after
     → acceptor_hmacs (ScramAcceptor provider state) (frames.Response text) n → after ≡ before + n
 exactly_from Allocates view provider (server_states.ServerFirstSent challenge stored) next text result before after n told
     gives costs takes =
-    exactly_against Allocates view challenge stored provider.version provider.rules provider.rights text result takes.0 next takes.1
-    before after n told gives takes.2 costs takes.3
+    exactly_against Allocates view challenge stored provider.version provider.rules provider.rights text
+    result takes.0 next takes.1 before after n told gives takes.2 costs takes.3
 exactly_from Allocates view provider server_states.Initial next text result before after n told gives costs takes =
     let none = takes.3 in omega (arith, costs, none)
 exactly_from Allocates view provider (server_states.ServerFinalSent user acts_for) next text result before after n told gives
@@ -148,7 +151,8 @@ answer_costs Allocates view provider state next text value (Err fault) before af
 pub refusal_costs : {V X E : Type 0} (Allocates : Type 0) (sends : X → Type 0) (view : V → Option (List ℕ))
     (provider : Provider) (state next : ServerState) (text : List ℕ) (kind : ServerScramErrorKind)
     (sent : Result X E) (before after : ℕ)
-    → Gives OutOfMemory Allocates view (Err kind) (λ answer. ConcludesFrom state provider.version provider.rules provider.rights text answer next)
+    → Gives OutOfMemory Allocates view (Err kind)
+    (λ answer. ConcludesFrom state provider.version provider.rules provider.rights text answer next)
     → FinalCostsFrom {A = V} state provider.version provider.rules provider.rights text (Err kind) before after
     → IfOk sent (λ frame. (kind ≢ OutOfMemory) × sends frame)
     → OnOk sent ((n : ℕ) → acceptor_hmacs (ScramAcceptor provider state) (frames.Response text) n → after ≡ before + n)

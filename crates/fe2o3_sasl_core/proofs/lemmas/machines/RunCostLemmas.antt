@@ -278,7 +278,8 @@ client_runs_cost hostname client (event ∷ events) replies before after sum las
     let kept = step_keeps hostname client event step.0 says next.0 step.2 in
     let first = client_costs client costs.0 (reply_of says) before next.1 costs.2 in
     let begin : ◌≡◌ {A = Profile × ℕ} next (ScramProfile kept.0, next.1) = λ i. (kept.1 i, next.1) in
-    let limit : kept.0.limits.max_iterations ≡ client.limits.max_iterations = ap (λ (l : IterationLimits). l.max_iterations) kept.2 in
+    let limit : kept.0.limits.max_iterations ≡ client.limits.max_iterations =
+    ap (λ (l : IterationLimits). l.max_iterations) kept.2 in
     let others = client_runs_cost hostname kept.0 events runs.2 next.1 after sums.1 last
     (subst (λ (p : Profile × ℕ). Runs (MeteredProfileSteps hostname) p events runs.2 (last, after)) begin runs.5)
     (subst (λ (l : ℕ). SumsUp (client_most l) events sums.1) (sym limit) sums.3) in

@@ -68,7 +68,8 @@ pub response_refused : {X V E Allocates : Type 0} (sent : X → SaslFrame) (view
     (provider other : Provider) (state next : ServerState) (text : List ℕ) (kind : ServerScramErrorKind)
     (result : Result X E)
     → other ≡ provider
-    → Gives OutOfMemory Allocates view (Err kind) (λ answer. ConcludesFrom state provider.version provider.rules provider.rights text answer next)
+    → Gives OutOfMemory Allocates view (Err kind)
+    (λ answer. ConcludesFrom state provider.version provider.rules provider.rights text answer next)
     → IfOk result (λ frame. (kind ≢ OutOfMemory) × (sent frame ≡ ends_with outcomes.Auth))
     → IfOk result (λ frame. (nonce : List ℕ) → acceptor_machine (ScramAcceptor provider state) nonce
     (frames.Response text) (sent frame) (ScramAcceptor other next))
@@ -80,7 +81,8 @@ response_refused sent view provider other state next text kind (Err fault) same 
 pub response_wants : {X V E : Type 0} (view : V → Option (List ℕ)) (provider : Provider) (state next : ServerState)
     (text : List ℕ) (kind : ServerScramErrorKind) (result : Result X E)
     → Gives OutOfMemory (ReachesBase64In state provider.rules text) view (Err kind)
-    (λ answer. ConcludesFrom state provider.version provider.rules provider.rights text answer next) → IfErr result (λ _. kind ≡ OutOfMemory)
+    (λ answer. ConcludesFrom state provider.version provider.rules provider.rights text answer next)
+    → IfErr result (λ _. kind ≡ OutOfMemory)
     → IfErr result (λ _. acceptor_allocates (ScramAcceptor provider state) (frames.Response text))
 response_wants view provider state next text kind (Ok frame) from is = tt
 response_wants view provider state next text kind (Err fault) from is = from.0 is

@@ -206,7 +206,8 @@ verified_is_signed : (client after : ClientSide) (event : Given) (text : List �
     (answer : Result (Unit {0}) ScramErrorKind) (reply : Result SaslFrame ProfileError) (moved next : Profile)
     (more : Option (List ℕ)) → VerifiesIn client.state client text answer after
     → reply ≡ client_frame (λ verified. frames.Outcome outcomes.Ok (Some text)) answer
-    → Reports (ScramProfile client) moved reply more next → (more ≡ Some text) × IsSigned (is_strict_client client) client.state text
+    → Reports (ScramProfile client) moved reply more next → (more ≡ Some text)
+    × IsSigned (is_strict_client client) client.state text
 verified_is_signed client after event text (Ok tt) reply moved next more from is said =
     let same = (subst (λ (r : Result SaslFrame ProfileError). Reports (ScramProfile client) moved r more next) is
     said).0 in (cc, verified_texts_are_signed client after text from)
@@ -253,7 +254,8 @@ reported_oks_are_signed hostname client event more next (Ok frame, spells, inr g
     go : (frame : SaslFrame) (reply : Result SaslFrame ProfileError) (moved : Profile)
         → SpellsBody event.body (Ok frame) → profile_machine (ScramProfile client) hostname event.nonce frame reply moved
         → Reports (ScramProfile client) moved reply more next
-        → SpellsBody event.body (Ok (frames.Outcome outcomes.Ok more)) × ShowsSignature (is_strict_client client) client.state more
+        → SpellsBody event.body (Ok (frames.Outcome outcomes.Ok more))
+        × ShowsSignature (is_strict_client client) client.state more
     go (frames.Mechanisms names) reply moved spells (inl m) said =
         absurd (init_is_no_report (ScramProfile client) moved next reply _ _ _ more m.1 said)
     go (frames.Mechanisms names) reply moved spells (inr m) said =

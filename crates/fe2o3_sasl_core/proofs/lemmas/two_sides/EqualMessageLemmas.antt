@@ -85,7 +85,8 @@ is_accepted provider events replies n accepted is =
 
 -- equal AuthMessages of an answer and of what was accepted mean one login
 abbrev pub SameMessages : Login → Provider → Answering → Accepted → Type 0
-SameMessages login provider answer accepted = SameLogin (login_header login) provider.rules login.user answer.nonce answer.text answer.first
+SameMessages login provider answer accepted =
+    SameLogin (login_header login) provider.rules login.user answer.nonce answer.text answer.first
     accepted.challenge.client accepted.challenge.nonce accepted.challenge.stored accepted.final.without
 
 pub same_messages : (sides : Sides) (k n : ℕ) (answer : Answering) (accepted : Accepted)
@@ -96,7 +97,8 @@ pub same_messages : (sides : Sides) (k n : ℕ) (answer : Answering) (accepted :
     → SameMessages sides.login sides.provider answer accepted
 same_messages sides k n answer accepted kept answers accepts same =
     let challenge = accepted.challenge in
-    same_login (login_header sides.login) sides.provider.rules sides.login.user answer.nonce answer.text answer.first sides.provider.version challenge.client
+    same_login (login_header sides.login) sides.provider.rules sides.login.user answer.nonce answer.text answer.first
+    sides.provider.version challenge.client
     challenge.nonce challenge.stored accepted.final (kept.count, kept.salt, kept.stored_key, kept.server_key)
     (is_answering sides.login sides.client_events sides.client_replies k answer answers)
     (is_accepted sides.provider sides.server_events sides.server_replies n accepted accepts) same

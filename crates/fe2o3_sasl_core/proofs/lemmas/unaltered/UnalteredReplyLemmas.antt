@@ -114,7 +114,8 @@ start_row login events replies k event says body (inl wants) memory small arrive
 start_row login events replies k event says body (inr (inl starts)) memory small arrives =
     sent_as client_body (Refused (Frame faults.TooLarge)) (λ (b : List ℕ). Started b) (λ bytes. refl)
     (canonical (frames.Init (login_mechanism login)
-    (Some (client_first_with (header_of (login_header login)) login.user (base64_text event.nonce))) login.hostname)) says body starts.1 small arrives
+    (Some (client_first_with (header_of (login_header login)) login.user (base64_text event.nonce))) login.hostname)) says
+    body starts.1 small arrives
 start_row login events replies k event says body (inr (inr other)) memory small arrives =
     absurd (other.0 (0, omega arith, refl))
 
@@ -247,7 +248,8 @@ pub client_answers : (login : Login) (events : List Given) (replies : List Clien
     (text : List ℕ) (answer : Answering) (body : List ℕ) → ClientHistory login events replies
     → slice_get events k ≡ Some event
     → SpellsBody event.body (Ok (frames.Challenge text)) → NoneMaySign login events replies k
-    → ((nonce : List ℕ) → IsDue events replies k nonce → nonce ≡ answer.nonce) → ReadsChallenge login (IsDue events replies k) text (Ok answer)
+    → ((nonce : List ℕ) → IsDue events replies k nonce → nonce ≡ answer.nonce)
+    → ReadsChallenge login (IsDue events replies k) text (Ok answer)
     → ClientComplete replies → ClientSmall replies → Arrives (client_body (slice_get replies k)) body
     → (slice_get replies k ≡ Some (Answered body))
     × (canonical (frames.Response (answer_at login answer).message) ≡ Some body)
@@ -329,7 +331,8 @@ not_refused strict signature text kind reads refuses = differ
 report_row : (login : Login) (events : List Given) (replies : List ClientSays) (k : ℕ) (event : Given) (text : List ℕ)
     (answer : Answering) (says : ClientSays) → ((other : Answering) → OpenAnswer login events replies k other
     → other ≡ answer)
-    → OpenAnswer login events replies k answer → ReadsServerFinal (is_strict_login login) (answer_at login answer).signature text (Ok tt)
+    → OpenAnswer login events replies k answer
+    → ReadsServerFinal (is_strict_login login) (answer_at login answer).signature text (Ok tt)
     → ClientRow login events replies k event (Ok (frames.Outcome outcomes.Ok (Some text))) says
     → ¬ (says ≡ Refused OutOfMemory)
     → says ≡ Reported outcomes.Ok (Some text)

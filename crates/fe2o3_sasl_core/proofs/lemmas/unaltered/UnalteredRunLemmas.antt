@@ -131,7 +131,8 @@ module _ (sides : Sides) (password salt : List ℕ) (count : ℕ) (run : Unalter
   has_challenged : step.HasChallenged sides password salt count run.offer run.init histories login holds fits run.printable
   has_challenged = ((server_event 0, starts.1), (run.challenge.body, challenges.0))
 
-  has_response : step.HasResponse sides password salt count run.offer run.init histories login holds fits run.printable run.response
+  has_response : step.HasResponse sides password salt count run.offer run.init histories login holds fits
+      run.printable run.response
   has_response = (server_event 1, answers.1)
 
   accepts : (slice_get sides.server_replies 1 ≡ Some (Concluded outcomes.Ok run.outcome.body))
@@ -139,7 +140,8 @@ module _ (sides : Sides) (password salt : List ℕ) (count : ℕ) (run : Unalter
   accepts = step.accepts sides password salt count run.offer run.init histories login holds fits run.printable run.response
       run.outcome.body has_challenged has_response run.concluded
 
-  has_answered : step.HasAnswered sides password salt count run.offer run.init histories login holds fits run.printable run.challenge
+  has_answered : step.HasAnswered sides password salt count run.offer run.init histories login holds fits
+      run.printable run.challenge
   has_answered = (has_challenge, (run.response.body, answers.0))
 
   reports : slice_get sides.client_replies 2 ≡ Some (Reported outcomes.Ok (Some final_sent))

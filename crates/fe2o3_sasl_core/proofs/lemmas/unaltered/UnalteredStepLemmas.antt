@@ -200,8 +200,8 @@ module _ (sides : Sides) (password salt : List ℕ) (count : ℕ) (offer init : 
   pub starts : (body : List ℕ) → Offered → Arrives (client_body (slice_get sides.client_replies 0)) body
       → (slice_get sides.client_replies 0 ≡ Some (Started body)) × (canonical init_sent ≡ Some body)
   starts body offered arrives = client_starts sides.login sides.client_events sides.client_replies 0 offer body
-      histories.client offered.0 (spells_mechanisms sides.login.version (is_bound sides.login.channel) offer.body offered.1) fits.client
-      fits.client_small arrives
+      histories.client offered.0 (spells_mechanisms sides.login.version (is_bound sides.login.channel) offer.body offered.1)
+      fits.client fits.client_small arrives
 
   -- the server challenges
   init_spelled : HasInit → SpellsBody init.body (Ok init_sent)
@@ -215,8 +215,8 @@ module _ (sides : Sides) (password salt : List ℕ) (count : ℕ) (offer init : 
       → (slice_get sides.server_replies 0 ≡ Some (Challenged body))
       × (canonical (frames.Challenge (first_in exchange)) ≡ Some body)
   challenges body has arrives = server_challenges sides.provider sides.server_events sides.server_replies 0 init
-      (login_mechanism sides.login) text_sent sides.login.hostname (challenge_in exchange) body histories.server has.0 (init_spelled has) init_fits fits.server fits.server_small
-      arrives
+      (login_mechanism sides.login) text_sent sides.login.hostname (challenge_in exchange) body histories.server has.0
+      (init_spelled has) init_fits fits.server fits.server_small arrives
 
   -- the client answers
   challenge_spelled : (challenge : Given) → HasChallenge challenge
@@ -293,7 +293,8 @@ module _ (sides : Sides) (password salt : List ℕ) (count : ℕ) (offer init : 
     is_open has,
     subst (λ (version : ScramVersion). ReadsClientFinal
         (server_of version expected (is_strict exchange.rules) (bare_in exchange) (first_in exchange)
-        (nonce_in exchange) (record_in exchange) is_allowed) (answer_in exchange).message (Ok (final_in exchange))) (sym holds.version) meets.client_final,
+        (nonce_in exchange) (record_in exchange) is_allowed) (answer_in exchange).message (Ok (final_in exchange)))
+        (sym holds.version) meets.client_final,
   )
 
   pub accepts : (response : Given) (body : List ℕ) → HasChallenged → HasResponse response

@@ -1,4 +1,4 @@
-use Rattle.fe2o3_sasl_negotiation.proofs.lemmas.ResponseNonceLemmas.{acceptors_ignore_nonces, any_mechanisms_ignore_nonces, externals_ignore_nonces, plains_ignore_nonces, restricted_ignore_nonces, servers_ignore_response_nonces}
+use Rattle.fe2o3_sasl_negotiation.proofs.lemmas.ResponseNonceLemmas.{acceptors_ignore_nonces, any_mechanisms_ignore_nonces, externals_ignore_nonces, plains_ignore_nonces, servers_ignore_response_nonces}
 use Rattle.fe2o3_sasl_negotiation.proofs.nonces.response_nonces.Goals as goal
 
 pub returns-clause-acceptors : goal.returns-clause-acceptors
@@ -13,9 +13,6 @@ returns-clause-plain g c = plains_ignore_nonces
 pub returns-clause-any_mechanism : goal.returns-clause-any_mechanism
 returns-clause-any_mechanism g c =
     any_mechanisms_ignore_nonces g.A.SaslAcceptor.names g.B.SaslAcceptor.names g.A.SaslAcceptor.machine g.B.SaslAcceptor.machine
-
-pub returns-clause-restrict_mechanisms : goal.returns-clause-restrict_mechanisms
-returns-clause-restrict_mechanisms g c = restricted_ignore_nonces g.A.SaslAcceptor.names g.A.SaslAcceptor.machine
 
 pub returns-clause-server : goal.returns-clause-server
 returns-clause-server g c = servers_ignore_response_nonces

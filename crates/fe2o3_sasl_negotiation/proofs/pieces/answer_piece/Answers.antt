@@ -49,7 +49,8 @@ loop-taken-preserved c =
             (client_call host limit profile) (client_side c.args.side.now) (client_side c.loop-taken.side)
             (client_side c.receive.new.self) bytes nonce more first c.loop-taken.taken c.in_ok-received.received.taken
             (so_far limit profile) within few
-            (subst (λ (h : Option (List ℕ)). ClientReceives h (client_side c.loop-taken.side) (drop c.loop-taken.taken bytes) nonce
+            (subst (λ (h : Option (List ℕ)). ClientReceives h (client_side c.loop-taken.side)
+            (drop c.loop-taken.taken bytes) nonce
             c.in_ok-received.received.taken first (client_side c.receive.new.self)) c.loop-taken.invariant.hostname
             (subst (λ (l : List ℕ). ClientReceives (hostname_in c.loop-taken.side) (client_side c.loop-taken.side) l nonce
             c.in_ok-received.received.taken first (client_side c.receive.new.self)) left receives)),

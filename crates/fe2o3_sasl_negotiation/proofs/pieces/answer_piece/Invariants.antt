@@ -13,8 +13,8 @@ invariant-loop-taken l = record {
   hostname : hostname_in l.side ≡ hostname_in l.fn.side;
   kept : (more : List ℕ) × (l.sent.items ≡ l.fn.sent.items ++ more)
       × ((limit : ℕ) (profile : Profile)
-      → Continues (ClientConnection (ProfileSteps (hostname_in l.fn.side)) limit profile) (client_side l.fn.side) l.piece.bytes.now
-      l.piece.nonce l.taken more (client_side l.side));
+      → Continues (ClientConnection (ProfileSteps (hostname_in l.fn.side)) limit profile) (client_side l.fn.side)
+      l.piece.bytes.now l.piece.nonce l.taken more (client_side l.side));
 }
 
 abbrev pub decreases-loop-taken : goal.decreases-loop-taken

@@ -21,7 +21,8 @@ loop-piece-preserved c =
           c.in_ok-taken.taken sent c.if-taken-piece.false are_bytes (c.loop-piece.invariant.so_far are_bytes)
           (as_same piece_of (ClientConnection (ProfileSteps host) 512 (profile_of c.args.profile)) c.args.pieces.now
           c.loop-piece.piece-index _ c.loop-piece-test.true
-          (λ (h : Option (List ℕ)). ClientConnection (ProfileSteps h) 512 (profile_of c.args.profile)) (hostname_in c.loop-piece.side)
+          (λ (h : Option (List ℕ)). ClientConnection (ProfileSteps h) 512 (profile_of c.args.profile))
+          (hostname_in c.loop-piece.side)
           host (client_side c.loop-piece.side) (client_side c.answer_piece.new.side) more c.in_ok-taken.taken
           c.loop-piece.invariant.hostname c.in_ok-taken.ensures.within (continues 512 (profile_of c.args.profile)));
     }
@@ -35,7 +36,8 @@ returns-then-taken-piece-clause-connection c =
     (client_side c.answer_piece.new.side) c.loop-piece.sent.items more c.answer_piece.new.sent.items c.in_ok-taken.taken
     c.loop-piece.whole sent c.in_ok-taken.ensures.within c.loop-piece.invariant.count are_bytes
     (c.loop-piece.invariant.so_far are_bytes)
-    (as_same piece_of (ClientConnection (ProfileSteps host) 512 (profile_of c.args.profile)) c.args.pieces.now c.loop-piece.piece-index _
+    (as_same piece_of (ClientConnection (ProfileSteps host) 512 (profile_of c.args.profile)) c.args.pieces.now
+    c.loop-piece.piece-index _
     c.loop-piece-test.true (λ (h : Option (List ℕ)). ClientConnection (ProfileSteps h) 512 (profile_of c.args.profile))
     (hostname_in c.loop-piece.side) host (client_side c.loop-piece.side) (client_side c.answer_piece.new.side) more
     c.in_ok-taken.taken c.loop-piece.invariant.hostname c.in_ok-taken.ensures.within

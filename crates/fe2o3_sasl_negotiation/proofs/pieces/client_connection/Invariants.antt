@@ -13,6 +13,7 @@ invariant-loop-piece l = record {
   extended : extended_in l.side ≡ false;
   hostname : hostname_in l.side ≡ option_map string_bytes l.fn.hostname;
   so_far : IsBytes (bytes_of (map piece_of l.pieces))
-      → ClientConnection (ProfileSteps (option_map string_bytes l.fn.hostname)) 512 (profile_of l.fn.profile) (map piece_of l.pieces)
+      → ClientConnection (ProfileSteps (option_map string_bytes l.fn.hostname)) 512 (profile_of l.fn.profile)
+      (map piece_of l.pieces)
       (bytes_of (map piece_of (take l.piece-index l.pieces))) l.sent.items (client_side l.side);
 }

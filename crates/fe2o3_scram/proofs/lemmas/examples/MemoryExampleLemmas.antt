@@ -10,7 +10,7 @@ use Rattle.fe2o3_scram.specs.declared.scram_messages.channel_binding_flag.Channe
 use Rattle.fe2o3_scram.specs.ClientFirst.{HasEscapes}
 use Rattle.fe2o3_scram.specs.Escape.{escaped, NoEquals}
 use Rattle.fe2o3_scram.specs.Hmac.{mechanism_name}
-use Rattle.fe2o3_scram.specs.examples.MemoryExamples.{AnsweredClientsTakeNone, CommasTakeNone, ErrorsTakeNone, OtherNoncesTakeNone, UnboundTextsTakeNone, UnknownMechanismsTakeNone, UnknownUsersTakeNone}
+use Rattle.fe2o3_scram.specs.examples.MemoryExamples.{AnsweredClientsAllocateNothing, CommasAllocateNothing, ErrorsAllocateNothing, OtherNoncesAllocateNothing, MissingBindingsAllocateNothing, UnknownMechanismsAllocateNothing, UnknownUsersAllocateNothing}
 use Rattle.fe2o3_scram.specs.RecordLines.{ReachesName}
 use Rattle.fe2o3_scram.specs.RecordText.{Fields, HasFields, Plain}
 use Rattle.fe2o3_scram.specs.Texts.{NoComma, Part, Parts, base64_text, HasBase64}
@@ -26,16 +26,16 @@ use Rattle.fe2o3_scram.proofs.lemmas.texts.PartsLemmas.{one_part}
 
 -- ---- messages
 
-pub errors_take_none : ErrorsTakeNone
-errors_take_none signature keys has =
+pub errors_allocate_nothing : ErrorsAllocateNothing
+errors_allocate_nothing signature keys has =
     let text = codes "e=invalid-proof" in
     let is : Part text 0 text = (_, only_part text (no_comma-test text refl), refl) in
     let same = one_part text 0 text (codes "v=" ++ has.1.0) is has.1.1 in
     let letter : ◌≡◌ {A = ℕ} 101 118 = ap (λ (bytes : List ℕ). get_or bytes 0 0) same in
     omega (arith, letter)
 
-pub answered_clients_take_none : AnsweredClientsTakeNone
-answered_clients_take_none signature text keys has = has
+pub answered_clients_allocate_nothing : AnsweredClientsAllocateNothing
+answered_clients_allocate_nothing signature text keys has = has
 
 -- the parts of the client-first message
 user_parts : Parts (codes "n=user,r=abc") (codes "n=user" ∷ codes "r=abc" ∷ [])
@@ -59,9 +59,9 @@ no_escapes rules (utf8, inr (user, bare, some)) =
     let name = append_cancel_left (codes "n=") (codes "user") spelling same in
     some (subst NoEquals name (without-test 61 (codes "user") refl))
 
-pub unknown_users_take_none : UnknownUsersTakeNone
-unknown_users_take_none version rules (inl escapes) = no_escapes rules escapes
-unknown_users_take_none version rules (inr (client, stored, reads, known)) = absurd (cc)
+pub unknown_users_allocate_nothing : UnknownUsersAllocateNothing
+unknown_users_allocate_nothing version rules (inl escapes) = no_escapes rules escapes
+unknown_users_allocate_nothing version rules (inr (client, stored, reads, known)) = absurd (cc)
 
 -- the first part is no channel binding
 cbind_flag_y : (rest : List ℕ) → ¬ Part (codes "r=abc,p=AA==") 0 (codes "c=" ++ rest)
@@ -73,8 +73,8 @@ cbind_flag_y rest has =
     let letter : ◌≡◌ {A = ℕ} 114 99 = ap (λ (bytes : List ℕ). get_or bytes 0 0) same in
     omega (arith, letter)
 
-pub unbound_texts_take_none : UnboundTextsTakeNone
-unbound_texts_take_none rules stored user bare first has = go has.1
+pub missing_bindings_allocate_nothing : MissingBindingsAllocateNothing
+missing_bindings_allocate_nothing rules stored user bare first has = go has.1
   where
     go : ReachesBinding plain_header (codes "r=abc,p=AA==")
         ⊎ ReachesProof plain_header (codes "abc") (codes "r=abc,p=AA==") → ⊥
@@ -102,8 +102,8 @@ other_nonce has =
     let letter : ◌≡◌ {A = ℕ} 100 99 = ap (λ (bytes : List ℕ). get_or bytes 4 0) same in
     omega (arith, letter)
 
-pub other_nonces_take_none : OtherNoncesTakeNone
-other_nonces_take_none rules stored user bare first has = go has.1
+pub other_nonces_allocate_nothing : OtherNoncesAllocateNothing
+other_nonces_allocate_nothing rules stored user bare first has = go has.1
   where
     bound : HasBase64 other_text 0 (codes "c=") (codes "n,,")
     bound = (IsBytes-literal (codes "n,,") refl, (_, other_parts, refl))
@@ -138,13 +138,13 @@ has_md5_fields =
       refl,
     )
 
-pub unknown_mechanisms_take_none : UnknownMechanismsTakeNone
-unknown_mechanisms_take_none has =
+pub unknown_mechanisms_allocate_nothing : UnknownMechanismsAllocateNothing
+unknown_mechanisms_allocate_nothing has =
     let same = one_fields (codes "SCRAM-MD5$1:AA==$AA==:AA==") has.0 md5_fields has.1 has_md5_fields in
     has.2.0 (λ version named. other_name version (named ∙ ap (λ (fields : Fields). fields.mechanism) same))
 
-pub commas_take_none : CommasTakeNone
-commas_take_none has =
+pub commas_allocate_nothing : CommasAllocateNothing
+commas_allocate_nothing has =
     let kept = codes "SCRAM-SHA-1$1:AA==$AA==:AA==" in
     let line = codes "a,b SCRAM-SHA-1$1:AA==$AA==:AA==" in
     let first = one_cut 10 (line ++ (10 ∷ [])) has.0 has.1 line [] has.2 (without-test 10 line refl, refl) in

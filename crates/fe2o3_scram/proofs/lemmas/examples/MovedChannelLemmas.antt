@@ -108,7 +108,8 @@ moved_channels_pass password own both bare ours theirs proof stored normal begin
               ),
             ),
           )
-          (λ wrong. wrong.0, (λ wrong. wrong.0, (λ wrong. wrong.0, tt))) (secret_holds (Password password) text named names normal) names;
+          (λ wrong. wrong.0, (λ wrong. wrong.0, (λ wrong. wrong.0, tt)))
+          (secret_holds (Password password) text named names normal) names;
       server = read theirs both response final response_utf8 (record {
         binding = (IsBytes-cbind_input theirs bytes, (_, all, refl));
         nonce = (_, all, refl);

@@ -137,7 +137,8 @@ pub record ServerParts (rules : ServerRules) (client : ClientFirst) (its : List 
 
 pub server_parts : {rights : Rights} (version : ScramVersion) (rules : ServerRules) (client : ClientFirst) (its : List ℕ)
     (stored : Record) (final : ClientFinal)
-    → stored.count < 2 ^ 32 → ServerHas version rules rights client its stored final → ServerParts rules client its stored final.without
+    → stored.count < 2 ^ 32 → ServerHas version rules rights client its stored final
+    → ServerParts rules client its stored final.without
 server_parts version rules client its stored final small has =
     let wide : stored.count < 2 ^ 64 = omega (arith, small) in
     let challenge = challenge_of client its stored in
@@ -225,8 +226,8 @@ two_extra text p q extra are has none = go extra (ap length (one_list_of_parts t
 -- equal AuthMessages mean one user and client nonce. Where the client-first message was plain, or one side received no
 -- misplaced attribute, they mean one nonce of both sides, salt and count, and in the second case one header. The
 -- client-first message had not three parts and not four
-pub record SameLogin (its_header : ClientHeader) (rules : ServerRules) (name own text : List ℕ) (first : ServerFirst) (client : ClientFirst) (its : List ℕ)
-    (stored : Record) (without : List ℕ) : Type 0 where
+pub record SameLogin (its_header : ClientHeader) (rules : ServerRules) (name own text : List ℕ) (first : ServerFirst)
+    (client : ClientFirst) (its : List ℕ) (stored : Record) (without : List ℕ) : Type 0 where
   pub header : HoldsHeaderBytes its_header → NoneMisplaced text client.bare without → header_of its_header ≡ client.header
   pub channel : HoldsHeaderBytes its_header → NoneMisplaced text client.bare without
       → cbind_data its_header.channel ≡ cbind_data (expected_header rules.channels client.header).channel
@@ -323,8 +324,8 @@ same_login header rules name own text first version client its stored final hold
 
 -- where the client-first message was plain: one nonce of both sides, salt and count, and one header where the
 -- server-first message had three parts
-pub record SameValues (its_header : ClientHeader) (name own text : List ℕ) (first : ServerFirst) (client : ClientFirst) (its : List ℕ)
-    (stored : Record) : Type 0 where
+pub record SameValues (its_header : ClientHeader) (name own text : List ℕ) (first : ServerFirst) (client : ClientFirst)
+    (its : List ℕ) (stored : Record) : Type 0 where
   pub header : HoldsHeaderBytes its_header → IsPlain client.bare → InParts 3 text → header_of its_header ≡ client.header
   pub user : name ≡ client.user
   pub nonce : own ≡ client.nonce
@@ -407,8 +408,8 @@ server_has provider its init response server =
       response = response;
       plain = no_comma-base64_text its;
       first = names_client_first provider.rules init server.client server.reads_init;
-      names = names_client_final (server_against provider.version provider.rules provider.rights challenge server.stored) response server.final
-          server.reads;
+      names = names_client_final (server_against provider.version provider.rules provider.rights challenge server.stored)
+          response server.final server.reads;
     }
 
 -- where the AuthMessages are equal, both sides agree
@@ -452,8 +453,8 @@ concluded : (provider : Provider) (waiting done : ServerState) (challenge : Serv
 concluded provider waiting done challenge client nonce response last stored own is has same known from =
     let user : challenge.user ≡ client.user = ap (λ (x : ServerChallenge). x.user) same in
     let one : own ≡ stored = same_Some own stored (sym has ∙ (ap provider.records user ∙ known)) in
-    (subst (λ (state : ServerState). ConcludesFrom state provider.version provider.rules provider.rights response (Ok (Some last)) done)
-    (is ∙ (λ i. ServerFirstSent (same i) (one i))) from).0
+    (subst (λ (state : ServerState). ConcludesFrom state provider.version provider.rules provider.rights
+    response (Ok (Some last)) done) (is ∙ (λ i. ServerFirstSent (same i) (one i))) from).0
 
 -- what a server knows that accepted, and that its message is that of its answer
 pub server_knows : (provider : Provider) (its init response verifier : List ℕ)

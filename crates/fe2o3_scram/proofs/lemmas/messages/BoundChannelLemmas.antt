@@ -1,4 +1,5 @@
--- That a client which has a channel cannot be talked out of binding it, and what a proof means that a server accepted.
+-- That an attacker cannot make a client that has a channel skip channel binding, and what a proof means that a server
+-- accepted.
 use Rattle.std.proofs.Common.{◌≡◌, ◌≢◌, ◌<◌, ◌^◌, Bool, ℕ, List, [], ◌∷◌, ◌++◌, Option, Some, None, length, refl, sym, ap, ◌∙◌, subst, Ok, inl, append_assoc, codes}
 use Rattle.std.specs.Fmt.{decimal}
 use Rattle.std.specs.Prelude.{slice_get}
@@ -58,8 +59,8 @@ shown_texts_agree side provider own text its init response verifier client accep
     let server = (server_knows provider its init response verifier accepted).0 in
     let keys = keys_known client in
     let stored = server.stored.stored_key in
-    let met = accepted_proof (server_against provider.version provider.rules provider.rights (challenge_known server) server.stored)
-    response server.final server.reads in (
+    let met = accepted_proof (server_against provider.version provider.rules provider.rights (challenge_known server)
+    server.stored) response server.final server.reads in (
       server,
       λ holds sized is shows.
           let mac = hmac_of keys.version (digest keys.version keys.client_key) (client_auth_message client) in

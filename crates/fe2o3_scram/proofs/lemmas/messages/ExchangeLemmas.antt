@@ -121,9 +121,10 @@ reads_client_first x sound =
     let parts = two_parts (codes "n=" ++ escaped x.user) (codes "r=" ++ x.client_nonce)
     (part_of (codes "n=") (escaped x.user) refl (no_comma-escaped x.user))
     (part_of (codes "r=") x.client_nonce refl sound.client_plain) in
-    let utf8 = header_utf8 (header_of x.header) (bare_in x) sound.identity (bare_text x.user x.client_nonce sound.user sound.client_text) in
-    named x.rules (header_of x.header) (client_first_with (header_of x.header) x.user x.client_nonce) (bare_in x) utf8 sound.header refl
-    (escaped x.user) x.user x.client_nonce
+    let utf8 = header_utf8 (header_of x.header) (bare_in x) sound.identity
+    (bare_text x.user x.client_nonce sound.user sound.client_text) in
+    named x.rules (header_of x.header) (client_first_with (header_of x.header) x.user x.client_nonce)
+    (bare_in x) utf8 sound.header refl (escaped x.user) x.user x.client_nonce
     (_, parts, refl) refl (_, parts, refl) (
       λ wrong. not_both (sound.name wrong.0) wrong.1,
       (
@@ -224,7 +225,8 @@ reads_server_first x sound =
         ),
       ),
     ) (
-      λ wrong. adds_one (first_in x) x.client_nonce (nonce_in x) x.server_nonce nonce refl (sound.server_printable wrong.0) wrong.1,
+      λ wrong. adds_one (first_in x) x.client_nonce (nonce_in x) x.server_nonce nonce refl (sound.server_printable wrong.0)
+          wrong.1,
       (
         λ wrong. wrong.1 x.count (decimal x.count, digits, (refl, sound.some, small)),
         (λ wrong. none_after_all 3 (first_in x) _ parts refl wrong.1, tt),
@@ -313,8 +315,8 @@ reads_client_final x sound =
     let mac = client_signature v (stored_key v key) auth in
     let key_long : length key ≡ digest_len v = length-hmac_of v salted (codes "Client Key") in
     let mac_long : length mac ≡ digest_len v = length-hmac_of v (stored_key v key) auth in
-    reads_final (server_in x) x.header (client_proof v key auth) sound.channel sound.bytes (nonce_plain x sound) (nonce_text x sound)
-    (IsBytes-exclusive_or key mac (IsBytes-hmac_of v salted (codes "Client Key"))
+    reads_final (server_in x) x.header (client_proof v key auth) sound.channel sound.bytes (nonce_plain x sound)
+    (nonce_text x sound) (IsBytes-exclusive_or key mac (IsBytes-hmac_of v salted (codes "Client Key"))
     (IsBytes-hmac_of v (stored_key v key) auth))
     (length-exclusive_or key mac (key_long ∙ sym mac_long) ∙ key_long)
     (ap (digest v) (exclusive_or-back key mac (key_long ∙ sym mac_long)), sound.right)

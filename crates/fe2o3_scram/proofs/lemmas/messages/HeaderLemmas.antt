@@ -41,7 +41,8 @@ flag_read (Required TlsExporter) behind rest = refl
 
 no_comma-identity : (acts_for : Option (List ℕ)) → NoComma (authzid_text acts_for)
 no_comma-identity None = tt
-no_comma-identity (Some name) = no_comma-append (codes "a=") (escaped name) (no_comma-test (codes "a=") refl) (no_comma-escaped name)
+no_comma-identity (Some name) = no_comma-append (codes "a=") (escaped name) (no_comma-test (codes "a=") refl)
+    (no_comma-escaped name)
 
 one_identity : (acts_for own : Option (List ℕ)) → authzid_text acts_for ≡ authzid_text own → acts_for ≡ own
 one_identity None None same = refl
@@ -116,7 +117,8 @@ after_flag : (header : Gs2Header) (bare : List ℕ) → header_text header ++ ba
     ≡ (flag_text header.flag ++ codes ",") ++ ((authzid_text header.acts_for ++ codes ",") ++ bare)
 after_flag header bare = in_pieces header bare
     ∙ (sym (append_assoc (flag_text header.flag) (codes ",") (authzid_text header.acts_for ++ (44 ∷ bare)))
-    ∙ ap (λ (z : List ℕ). (flag_text header.flag ++ codes ",") ++ z) (sym (append_assoc (authzid_text header.acts_for) (codes ",") bare)))
+    ∙ ap (λ (z : List ℕ). (flag_text header.flag ++ codes ",") ++ z)
+    (sym (append_assoc (authzid_text header.acts_for) (codes ",") bare)))
 
 -- a text that begins with a header begins with its flag and a comma
 pub flag_begins : (header : Gs2Header) (text : List ℕ) → StartsWith text (header_text header)

@@ -49,7 +49,8 @@ before nonce limits header strict text = nonce_tests nonce text ++ (salt_tests t
 
 -- a reading goes over to a client whose last test is another: one that does not hold where a value is read, while what
 -- is rejected is not rejected by the first client's last test
-pub goes_over : (nonce text : List ℕ) (limits : IterationLimits) (header : ClientHeader) (strict : Bool) (fault other : ScramErrorKind) (A B : Type 0)
+pub goes_over : (nonce text : List ℕ) (limits : IterationLimits) (header : ClientHeader) (strict : Bool)
+    (fault other : ScramErrorKind) (A B : Type 0)
     (answer : Result ServerFirst ScramErrorKind) → (is_ok answer ≡ true → ¬ B) → (A → answer ≢ Err fault)
     → Reads (before nonce limits header strict text ++ last fault A) (NamesServerFirst text) answer
     → Reads (before nonce limits header strict text ++ last other B) (NamesServerFirst text) answer
@@ -59,7 +60,8 @@ goes_over nonce text limits header strict fault other A B (Err kind) passes fail
     first_but_last (before nonce limits header strict text) fault other A B kind (λ holds is. fails holds (ap Err is)) reads
 
 -- keys that read a message fit it
-fitting : (keys : ClientKeys) (nonce text : List ℕ) (limits : IterationLimits) (header : ClientHeader) (strict : Bool) (first : ServerFirst)
+fitting : (keys : ClientKeys) (nonce text : List ℕ) (limits : IterationLimits) (header : ClientHeader)
+    (strict : Bool) (first : ServerFirst)
     → ReadsServerFirst (client_of nonce (Keys keys) limits header strict) text (Ok first) → T (fit keys first)
 unfolding ReadsServerFirst
 fitting keys nonce text limits header strict first reads = elim (names_values_or keys text) [
@@ -69,7 +71,8 @@ fitting keys nonce text limits header strict first reads = elim (names_values_or
 ]
 
 -- a message that keys do not reject is read by a password in normal form as by them
-by_password : (keys : ClientKeys) (password : PasswordText) (nonce text : List ℕ) (limits : IterationLimits) (header : ClientHeader) (strict : Bool)
+by_password : (keys : ClientKeys) (password : PasswordText) (nonce text : List ℕ) (limits : IterationLimits)
+    (header : ClientHeader) (strict : Bool)
     (answer : Result ServerFirst ScramErrorKind) → IsNormal password → answer ≢ Err StaleKeys
     → ReadsServerFirst (client_of nonce (Keys keys) limits header strict) text answer
     → ReadsServerFirst (client_of nonce (Password password) limits header strict) text answer
@@ -89,7 +92,8 @@ same_keys keys password first are fits =
 same_answer : (keys : ClientKeys) (password : PasswordText) (header : ClientHeader) (bare text : List ℕ) (first : ServerFirst)
     → AreKeysOf keys (password_bytes password)
     → T (fit keys first)
-    → answer_of keys.version (Keys keys) header bare text first ≡ answer_of keys.version (Password password) header bare text first
+    → answer_of keys.version (Keys keys) header bare text first
+    ≡ answer_of keys.version (Password password) header bare text first
 same_answer keys password header bare text first are fits =
     ap (λ (made : ClientKeys). answer_by made bare text (without_proof_with header first.nonce))
     (same_keys keys (password_bytes password) first are fits)
@@ -110,8 +114,8 @@ keys_stand keys password nonce bare text limits header strict (Err fault) printa
     (λ is. let same : fault ≡ StaleKeys = cc in other (ap (λ (kind : ScramErrorKind). Err kind) same)) reads
 
 -- the keys read what the password reads, or they are of another salt or another count
-by_keys : (keys : ClientKeys) (password : PasswordText) (nonce text : List ℕ) (limits : IterationLimits) (header : ClientHeader) (strict : Bool)
-    (answer : Result ServerFirst ScramErrorKind) → IsNormal password
+by_keys : (keys : ClientKeys) (password : PasswordText) (nonce text : List ℕ) (limits : IterationLimits)
+    (header : ClientHeader) (strict : Bool) (answer : Result ServerFirst ScramErrorKind) → IsNormal password
     → ReadsServerFirst (client_of nonce (Password password) limits header strict) text answer
     → ReadsServerFirst (client_of nonce (Keys keys) limits header strict) text answer
     ⊎ ReadsServerFirst (client_of nonce (Keys keys) limits header strict) text (Err StaleKeys)
@@ -144,8 +148,8 @@ keys_answer keys password nonce bare text limits header strict (Err fault) print
     by_keys keys password nonce text limits header strict (Err fault) printable reads
 
 -- a client with both reads what a password in normal form reads
-read_by_both : (keys : ClientKeys) (password : PasswordText) (nonce text : List ℕ) (limits : IterationLimits) (header : ClientHeader) (strict : Bool)
-    (answer : Result ServerFirst ScramErrorKind) → IsNormal password
+read_by_both : (keys : ClientKeys) (password : PasswordText) (nonce text : List ℕ) (limits : IterationLimits)
+    (header : ClientHeader) (strict : Bool) (answer : Result ServerFirst ScramErrorKind) → IsNormal password
     → ReadsServerFirst (client_of nonce (Both password keys) limits header strict) text answer
     ↔ ReadsServerFirst (client_of nonce (Password password) limits header strict) text answer
 unfolding ReadsServerFirst

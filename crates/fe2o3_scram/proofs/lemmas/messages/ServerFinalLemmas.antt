@@ -67,7 +67,8 @@ module _ (strict : Bool) (text : List ℕ) (utf8 : IsUtf8 text) where
 pub same_signature : (strict : Bool) (signature text bytes : List ℕ) → ReadsSignature strict text (Ok bytes) → bytes ≡ signature
     → ReadsServerFinal strict signature text (Ok tt)
 unfolding ReadsServerFinal
-same_signature strict signature text bytes reads same = subst (λ (given : List ℕ). ReadsSignature strict text (Ok given)) same reads
+same_signature strict signature text bytes reads same =
+    subst (λ (given : List ℕ). ReadsSignature strict text (Ok given)) same reads
 
 pub other_signature : (strict : Bool) (signature text bytes : List ℕ) → ReadsSignature strict text (Ok bytes) → bytes ≢ signature
     → ReadsServerFinal strict signature text (Err ServerSignatureMismatch)
@@ -88,7 +89,8 @@ one_named text signature other has too =
     one_spelled (base64_text signature) signature other (has.0, refl)
     (spelled text (base64_text signature) signature other has.1 too)
 
-pub one_signature : (strict : Bool) (text : List ℕ) (answer other : Result (List ℕ) ScramErrorKind) → ReadsSignature strict text answer
+pub one_signature : (strict : Bool) (text : List ℕ) (answer other : Result (List ℕ) ScramErrorKind)
+    → ReadsSignature strict text answer
     → ReadsSignature strict text other → answer ≡ other
 unfolding ReadsSignature
 one_signature strict text answer other reads too =

@@ -169,7 +169,10 @@ named_or accept text named comma is (inl on) = elim (cuts.cut_or 44 named) [
     | inr bad ↦ inr (λ cut has. none_spelled accept text named comma is spelling rest ends
         (λ name spells. bad name (sym spells)) cut.0 has.0 (cut.1, has.1))
     | inl (name, spells) ↦ elim (value_or name) [
-      | inl value ↦ inl ((Some name, rest), ((on, value), identity_spelled accept text named comma is spelling rest ends name (sym spells)))
+      | inl value ↦ inl (
+        (Some name, rest),
+        ((on, value), identity_spelled accept text named comma is spelling rest ends name (sym spells)),
+      )
       | inr empty ↦ inr (λ cut has. none_valued accept text named comma is spelling rest ends name (sym spells)
           (not_true (is_value name) empty) cut.0 has.0 (cut.1, has.1))
     ]
@@ -242,7 +245,8 @@ false_or true = inr (λ wrong. absurd (cc))
 false_or false = inl refl
 
 -- whether the user that the message names has a name that is no value
-no_value_or : (rules : ServerRules) (text : List ℕ) → Found (λ (user : List ℕ). BarePart rules text 0 (codes "n=" ++ escaped user))
+no_value_or : (rules : ServerRules) (text : List ℕ)
+    → Found (λ (user : List ℕ). BarePart rules text 0 (codes "n=" ++ escaped user))
     → Decided (NamesNoValue rules text)
 no_value_or rules text (inl (user, (header, bare, takes, is, part))) = elim (false_or (is_value user)) [
   | inl none ↦ inl (user, (header, bare, takes, is, part), none)

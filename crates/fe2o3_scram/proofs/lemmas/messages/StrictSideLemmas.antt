@@ -65,8 +65,10 @@ pub one_strict_server : (provider : Provider) (its init response : List ℕ) (se
 one_strict_server provider its init response server strict =
     let challenge = challenge_of server.client (base64_text its) server.stored in (
       none_after_nonce provider.rules init server.client strict server.reads_init,
-      none_before_proof (server_against provider.version provider.rules provider.rights challenge server.stored) response server.final
-          (strict_or (needs_strict (expected_header provider.rules.channels server.client.header)) (is_strict provider.rules) strict) server.reads,
+      none_before_proof (server_against provider.version provider.rules provider.rights challenge server.stored) response
+          server.final
+          (strict_or (needs_strict (expected_header provider.rules.channels server.client.header))
+          (is_strict provider.rules) strict) server.reads,
     )
 
 pub one_strict_side_of_texts_is_enough : OneStrictSideOfTextsIsEnough

@@ -1,7 +1,8 @@
 use Rattle.sasl_c.proofs.ClientLemmas.{no_verification, not_waiting, server_verified, tested_header, unverified}
 use Rattle.sasl_c.proofs.client_calls.verify.Goals as goal
 
-pub returns-in-Err-validate_server_final_with_header-clause-verifies : goal.returns-in-Err-validate_server_final_with_header-clause-verifies
+pub returns-in-Err-validate_server_final_with_header-clause-verifies :
+    goal.returns-in-Err-validate_server_final_with_header-clause-verifies
 returns-in-Err-validate_server_final_with_header-clause-verifies c =
     unverified c.args.login.now c.args.client.now c.args.server_final.now c.in-Some.signature.now c.in-Ok.version
     c.in-Ok-header.header c.in-Err-validate_server_final_with_header.why c.verify_status.result c.in-Ok.ensures.ok.0

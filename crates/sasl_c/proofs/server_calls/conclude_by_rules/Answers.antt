@@ -11,8 +11,8 @@ pub returns-in-Ok : goal.returns-in-Ok
 returns-in-Ok c = let made = c.conclude.ensures in inr (
   c.in-Ok.ensures.shows.1,
   carried (λ (shown : ServerRules). FillsWithin 90
-      (Concludes shown c.args.rules.now.identities.now c.args.kept.now c.args.client_final.now c.args.server.now c.conclude.new.server)
-      (record { bytes = c.args.out.now; len = c.args.out_len.now })
+      (Concludes shown c.args.rules.now.identities.now c.args.kept.now c.args.client_final.now
+      c.args.server.now c.conclude.new.server) (record { bytes = c.args.out.now; len = c.args.out_len.now })
       (record { bytes = c.conclude.new.out; len = c.conclude.new.out_len }) c.conclude.result
       × OnErr c.conclude.result (c.conclude.new.server ≡ c.args.server.now)
       × AsksText (FinalAsks shown c.args.kept.now c.args.client_final.now c.args.server.now) c.conclude.result)

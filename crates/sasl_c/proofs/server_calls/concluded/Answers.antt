@@ -47,8 +47,8 @@ pub returns-in-Err-compute_server_final_message_with_header-clause-err :
 returns-in-Err-compute_server_final_message_with_header-clause-err c =
     let answered = rw (c.new-header.ensures, c.expected_channel.ensures, c.is_strict-strict.ensures, c.may_act.ensures)
     at c.in-Err-compute_server_final_message_with_header.ensures.answer.1 in
-    refuses c.args.rules c.args.identities.now c.args.kept.now c.args.server.now c.args.client_final.now (challenge_kept c.in-Some.challenge)
-    (versioned c.in-Ok.shown.0 (kept c.in-Ok.shown.1))
+    refuses c.args.rules c.args.identities.now c.args.kept.now c.args.server.now c.args.client_final.now
+    (challenge_kept c.in-Some.challenge) (versioned c.in-Ok.shown.0 (kept c.in-Ok.shown.1))
     c.in-Err-compute_server_final_message_with_header.why c.from.result c.in-Some.ensures c.in-Ok.ensures.ok
     answered c.from.ensures
 
@@ -65,7 +65,9 @@ returns-in-Err-compute_server_final_message_with_header-clause-memory c =
 pub returns-in-Err-compute_server_final_message_with_header-clause-cost :
     goal.returns-in-Err-compute_server_final_message_with_header-clause-cost
 returns-in-Err-compute_server_final_message_with_header-clause-cost c =
-    memory_costs (Unit {0}) c.args.rules c.args.identities.now c.args.kept.now c.args.server.now c.args.client_final.now (challenge_kept c.in-Some.challenge)
+    memory_costs (Unit {0}) c.args.rules c.args.identities.now c.args.kept.now c.args.server.now c.args.client_final.now
+    (challenge_kept c.in-Some.challenge)
     c.new-header.result c.is_strict-strict.result c.may_act.result (versioned c.in-Ok.shown.0 (kept c.in-Ok.shown.1))
     c.in-Err-compute_server_final_message_with_header.why c.from.result _ _ c.in-Some.ensures c.in-Ok.ensures.ok
-    (c.new-header.ensures ∙ ap (with_channel (challenge_kept c.in-Some.challenge).header.acts_for) c.expected_channel.ensures) c.is_strict-strict.ensures c.may_act.ensures c.in-Err-compute_server_final_message_with_header.ensures.cost c.from.ensures
+    (c.new-header.ensures ∙ ap (with_channel (challenge_kept c.in-Some.challenge).header.acts_for) c.expected_channel.ensures)
+    c.is_strict-strict.ensures c.may_act.ensures c.in-Err-compute_server_final_message_with_header.ensures.cost c.from.ensures

@@ -6,7 +6,8 @@ pub returns-in-Ok-true-clause-found : goal.returns-in-Ok-true-clause-found
 returns-in-Ok-true-clause-found g c = λ clean rows t.
     let found = c.in-Ok-true.ensures.found clean rows t in
     let hit = c.in-Ok-true.field-0-test in
-    rw (rw hit at found) (given g.P.Pages c.args.pages.now c.seek.new.pages (decode c.seek.new.row.items) c.user_of.result c.some.result (rw c.as_slice.ensures.value at c.user_of.ensures) c.some.ensures)
+    rw (rw hit at found) (given g.P.Pages c.args.pages.now c.seek.new.pages (decode c.seek.new.row.items) c.user_of.result
+    c.some.result (rw c.as_slice.ensures.value at c.user_of.ensures) c.some.ensures)
 
 pub returns-in-Ok-false-clause-found : goal.returns-in-Ok-false-clause-found
 returns-in-Ok-false-clause-found g c = λ clean rows t.

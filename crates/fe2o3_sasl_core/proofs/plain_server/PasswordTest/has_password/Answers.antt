@@ -33,11 +33,13 @@ returns-in-Prepared-clause-cost g c = costs_form c.args.self.now.passwords forms
 pub returns-in-Some-clause-verdict : goal.returns-in-Some-clause-verdict
 returns-in-Some-clause-verdict g c = has_form c.args.self.now.passwords forms.Saslprep
     (g.C.ScramCredentialProvider.meaning c.args.self.now.credentials.now) (parts_of c.args.message.now)
-    (Prepared c.as_str.result.now) c.meets-in-Saslprep.result c.in-Saslprep.is (rw c.as_str.ensures.value (rw c.in-Some.is at c.in_ok-text-in-Saslprep.ensures.text))
+    (Prepared c.as_str.result.now) c.meets-in-Saslprep.result c.in-Saslprep.is
+    (rw c.as_str.ensures.value (rw c.in-Some.is at c.in_ok-text-in-Saslprep.ensures.text))
     c.meets-in-Saslprep.ensures.verdict
 
 pub returns-in-Some-clause-cost : goal.returns-in-Some-clause-cost
 returns-in-Some-clause-cost g c = costs_form c.args.self.now.passwords forms.Saslprep c.args.message.now.password.now
     (Prepared c.as_str.result.now) (count_or c.args.self.now.iterations
     (record_at (g.C.ScramCredentialProvider.meaning c.args.self.now.credentials.now).records c.args.message.now.username.now))
-    c.args.meter.now c.meets-in-Saslprep.new.meter c.in-Saslprep.is (rw c.as_str.ensures.value (rw c.in-Some.is at c.in_ok-text-in-Saslprep.ensures.text)) c.meets-in-Saslprep.ensures.cost
+    c.args.meter.now c.meets-in-Saslprep.new.meter c.in-Saslprep.is
+    (rw c.as_str.ensures.value (rw c.in-Some.is at c.in_ok-text-in-Saslprep.ensures.text)) c.meets-in-Saslprep.ensures.cost

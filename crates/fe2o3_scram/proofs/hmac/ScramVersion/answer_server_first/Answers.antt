@@ -8,7 +8,8 @@ use Rattle.fe2o3_scram.proofs.hmac.ScramVersion.answer_server_first.Goals as goa
 
 pub returns-in_err-message-clause-answer : goal.returns-in_err-message-clause-answer
 returns-in_err-message-clause-answer c =
-    let client : Client = client_of c.args.client_nonce.now (secret_of c.args.secret) c.args.limits c.args.header.now c.args.strict in
+    let client : Client = client_of c.args.client_nonce.now (secret_of c.args.secret) c.args.limits
+    c.args.header.now c.args.strict in
     let from = err_from_is_err_and c.from_residual-in_err-message.result c.from_residual-in_err-message.ensures.1 in
     rw (from.1, from.2) (
       λ _. salt_reached client c.args.server_first.now (server_first_values c.in_ok-first.first)
@@ -18,7 +19,8 @@ returns-in_err-message-clause-answer c =
 
 pub returns-in_err-answer-clause-answer : goal.returns-in_err-answer-clause-answer
 returns-in_err-answer-clause-answer c =
-    let client : Client = client_of c.args.client_nonce.now (secret_of c.args.secret) c.args.limits c.args.header.now c.args.strict in
+    let client : Client = client_of c.args.client_nonce.now (secret_of c.args.secret) c.args.limits
+    c.args.header.now c.args.strict in
     let from = err_from_is_err_and c.from_residual-in_err-answer.result c.from_residual-in_err-answer.ensures.1 in
     rw (from.1, from.2) (
       λ _. salt_reached client c.args.server_first.now (server_first_values c.in_ok-first.first)
@@ -28,7 +30,8 @@ returns-in_err-answer-clause-answer c =
 
 pub returns-in_err-answer-clause-cost : goal.returns-in_err-answer-clause-cost
 returns-in_err-answer-clause-cost c =
-    let client : Client = client_of c.args.client_nonce.now (secret_of c.args.secret) c.args.limits c.args.header.now c.args.strict in
+    let client : Client = client_of c.args.client_nonce.now (secret_of c.args.secret) c.args.limits
+    c.args.header.now c.args.strict in
     let from = err_from_is_err_and c.from_residual-in_err-answer.result c.from_residual-in_err-answer.ensures.1 in
     let made = c.keys_for-keys.ensures.counted in
     let two = cost_within client.secret (server_first_values c.in_ok-first.first) in
@@ -40,7 +43,8 @@ returns-in_err-answer-clause-cost c =
 
 pub returns-clause-cost : goal.returns-clause-cost
 returns-clause-cost c =
-    let client : Client = client_of c.args.client_nonce.now (secret_of c.args.secret) c.args.limits c.args.header.now c.args.strict in
+    let client : Client = client_of c.args.client_nonce.now (secret_of c.args.secret) c.args.limits
+    c.args.header.now c.args.strict in
     let is = c.keys_for-keys.ensures.counted in
     let counted = c.in_ok-answer.ensures.counted in
     costs_of_answer client c.args.server_first.now (Ok c.in_ok-answer.answer)

@@ -30,7 +30,8 @@ returns-clause-answer c =
     let server : Server = server_of c.args.self.now c.args.header.now c.args.strict c.args.client_first_message_bare.now
     c.args.server_first_message.now c.args.client_server_nonce.now (kept c.args.stored_password.now) c.args.may_act in
     proof_answered server c.args.client_final.now (λ (message : Vec ℕ Global). message.items)
-    (client_final_values c.in_ok-client_final.client_final) c.answer_proof.result (rw c.is_strict-strict.ensures at c.in_ok-client_final.ensures)
+    (client_final_values c.in_ok-client_final.client_final) c.answer_proof.result
+    (rw c.is_strict-strict.ensures at c.in_ok-client_final.ensures)
     (c.answer_proof.ensures.answer c.args.header.now c.args.strict c.args.client_server_nonce.now)
 
 pub returns-clause-cost : goal.returns-clause-cost
@@ -38,5 +39,6 @@ returns-clause-cost c =
     let server : Server = server_of c.args.self.now c.args.header.now c.args.strict c.args.client_first_message_bare.now
     c.args.server_first_message.now c.args.client_server_nonce.now (kept c.args.stored_password.now) c.args.may_act in
     proof_costs server c.args.client_final.now (λ (message : Vec ℕ Global). message.items)
-    (client_final_values c.in_ok-client_final.client_final) c.answer_proof.result _ _ (rw c.is_strict-strict.ensures at c.in_ok-client_final.ensures)
+    (client_final_values c.in_ok-client_final.client_final) c.answer_proof.result _ _
+    (rw c.is_strict-strict.ensures at c.in_ok-client_final.ensures)
     (c.answer_proof.ensures.answer c.args.header.now c.args.strict c.args.client_server_nonce.now) c.answer_proof.ensures.cost

@@ -5,8 +5,13 @@ use Rattle.fe2o3_scram.proofs.scram_client.ScramClient.compute_client_final_mess
 
 pub returns-in_ok-answer-in-ClientFirstSent-clause-answer : goal.returns-in_ok-answer-in-ClientFirstSent-clause-answer
 returns-in_ok-answer-in-ClientFirstSent-clause-answer c =
-    let answers = rw (c.base64_of_nonce-client_nonce.ensures, c.lent.ensures, c.deref.ensures.value, c.header.ensures, ← c.self.view_is) at
-    c.in_ok-answer-in-ClientFirstSent.ensures.answer in
+    let answers = rw (
+      c.base64_of_nonce-client_nonce.ensures,
+      c.lent.ensures,
+      c.deref.ensures.value,
+      c.header.ensures,
+      ← c.self.view_is,
+    ) at c.in_ok-answer-in-ClientFirstSent.ensures.answer in
     rw (← c.self.view_is, c.in-ClientFirstSent.is) (
       answer_values c.in_ok-answer-in-ClientFirstSent.answer,
       answers,

@@ -10,7 +10,8 @@ pub returns-clause-state : goal.returns-clause-state
 returns-clause-state c = λ login comes limit few.
     let shown = profile_of c.profile.result.now in
     let state = (client_side c.args.side.now).state in
-    let is = c.in-Some-scram_of.ensures.state login (carried (ProfileIsReached login) state shown (sym c.profile.ensures) comes) in
+    let is = c.in-Some-scram_of.ensures.state login
+    (carried (ProfileIsReached login) state shown (sym c.profile.ensures) comes) in
     shows_side login c.in-Some.connection c.in-Some-scram_of.scram (client_side c.args.side.now) c.snapshot-kept.result
     c.snapshot-kept.ensures.side limit c.in-Some.ensures.keeps
     (carried (IsProfile login c.in-Some-scram_of.scram) shown state c.profile.ensures is)

@@ -39,7 +39,8 @@ returns-in-Err-Invalid-unescape_username-clause-answer c = (
       c.in-Ok.ensures.cases.1 c.in-Ok-cut_header.ensures.ok.0
       (sym c.in-Ok.ensures.cases.0 ∙ c.in-Ok-cut_header.ensures.ok.1)
       c.in-Some.escaped.now c.in-Some.ensures
-      (invalid_name c.in-Err-Invalid-unescape_username.field-0 _ _ c.in-Err-Invalid-unescape_username.field-0-is c.in-Err-Invalid-unescape_username.ensures.err),
+      (invalid_name c.in-Err-Invalid-unescape_username.field-0 _ _ c.in-Err-Invalid-unescape_username.field-0-is
+      c.in-Err-Invalid-unescape_username.ensures.err),
 )
 
 pub returns-in_default-attribute-2-clause-answer : goal.returns-in_default-attribute-2-clause-answer

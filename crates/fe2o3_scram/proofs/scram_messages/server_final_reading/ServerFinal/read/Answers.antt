@@ -32,7 +32,8 @@ pub returns-then-is_misplaced : goal.returns-then-is_misplaced
 returns-then-is_misplaced c = (
   search rules,
   λ _. misplaced c.args.strict c.args.text.now c.in-Ok.ensures.cases.1 c.in-Some.base64_signature.now
-      c.in-Some-2.signature.items (rw c.in-Ok.ensures.cases.0 at c.in-Some.ensures) (rw c.in-Some-2.is at c.in_ok-signature.ensures)
+      c.in-Some-2.signature.items (rw c.in-Ok.ensures.cases.0 at c.in-Some.ensures)
+      (rw c.in-Some-2.is at c.in_ok-signature.ensures)
       (rw c.in-Ok.ensures.cases.0 at (c.is_misplaced.ensures.0 c.if-is_misplaced.true)),
 )
 

@@ -7,7 +7,8 @@ use Rattle.fe2o3_scram.proofs.scram_messages.server_first_reading.ServerFirst.re
 
 pub returns-in_err-nonce-clause-reads : goal.returns-in_err-nonce-clause-reads
 returns-in_err-nonce-clause-reads c =
-    let client : Client = client_of c.args.client_nonce.now (secret_of c.args.secret) c.args.limits c.args.header.now c.args.strict in
+    let client : Client = client_of c.args.client_nonce.now (secret_of c.args.secret) c.args.limits
+    c.args.header.now c.args.strict in
     let from = err_from_is_err_and c.from_residual.result c.from_residual.ensures.1 in
     rw (from.1, from.2) (
       λ memory. absurd (not_the_nonces c.args.client_nonce.now c.args.text.now
@@ -17,7 +18,8 @@ returns-in_err-nonce-clause-reads c =
 
 pub returns-in_err-salt-clause-reads : goal.returns-in_err-salt-clause-reads
 returns-in_err-salt-clause-reads c =
-    let client : Client = client_of c.args.client_nonce.now (secret_of c.args.secret) c.args.limits c.args.header.now c.args.strict in
+    let client : Client = client_of c.args.client_nonce.now (secret_of c.args.secret) c.args.limits
+    c.args.header.now c.args.strict in
     let from = err_from_is_err_and c.from_residual-in_err-salt.result c.from_residual-in_err-salt.ensures.1 in
     rw (from.1, from.2) (
       λ memory. (c.in_ok-nonce.ensures.tested, c.in_err-salt.ensures.memory memory),
@@ -27,7 +29,8 @@ returns-in_err-salt-clause-reads c =
 
 pub returns-in_err-iterations-clause-reads : goal.returns-in_err-iterations-clause-reads
 returns-in_err-iterations-clause-reads c =
-    let client : Client = client_of c.args.client_nonce.now (secret_of c.args.secret) c.args.limits c.args.header.now c.args.strict in
+    let client : Client = client_of c.args.client_nonce.now (secret_of c.args.secret) c.args.limits
+    c.args.header.now c.args.strict in
     let from = err_from_is_err_and c.from_residual-in_err-iterations.result
     c.from_residual-in_err-iterations.ensures.1 in
     rw (from.1, from.2) (
@@ -38,18 +41,21 @@ returns-in_err-iterations-clause-reads c =
 
 pub returns-in_err-test_grammar-clause-reads : goal.returns-in_err-test_grammar-clause-reads
 returns-in_err-test_grammar-clause-reads c =
-    let client : Client = client_of c.args.client_nonce.now (secret_of c.args.secret) c.args.limits c.args.header.now c.args.strict in
+    let client : Client = client_of c.args.client_nonce.now (secret_of c.args.secret) c.args.limits
+    c.args.header.now c.args.strict in
     let from = err_from_is_err_and c.from_residual-in_err-test_grammar.result
     c.from_residual-in_err-test_grammar.ensures.1 in
     rw (from.1, from.2) (
-      λ memory. absurd (not_the_grammar client c.args.text.now (rw (memory, c.is_strict.ensures) at c.in_err-test_grammar.ensures)),
+      λ memory. absurd (not_the_grammar client c.args.text.now
+          (rw (memory, c.is_strict.ensures) at c.in_err-test_grammar.ensures)),
       λ _. grammar_refused client c.args.text.now c.in_err-test_grammar.field-0.0 c.in_ok-nonce.ensures.tested
           c.in_ok-salt.ensures.tested c.in_ok-iterations.ensures.tested (rw c.is_strict.ensures at c.in_err-test_grammar.ensures),
     )
 
 pub returns-in_err-test_secret-clause-reads : goal.returns-in_err-test_secret-clause-reads
 returns-in_err-test_secret-clause-reads c =
-    let client : Client = client_of c.args.client_nonce.now (secret_of c.args.secret) c.args.limits c.args.header.now c.args.strict in
+    let client : Client = client_of c.args.client_nonce.now (secret_of c.args.secret) c.args.limits
+    c.args.header.now c.args.strict in
     let first = made c.in_ok-nonce.nonce.now c.in_ok-salt.salt.items c.in_ok-iterations.iterations in
     let names = names_made c.args.text.now c.in_ok-nonce.nonce.now c.in_ok-salt.salt.items
     c.in_ok-iterations.iterations c.in_ok-nonce.ensures.named c.in_ok-salt.ensures.named
@@ -66,7 +72,8 @@ returns-in_err-test_secret-clause-reads c =
 
 pub returns-clause-reads : goal.returns-clause-reads
 returns-clause-reads c =
-    let client : Client = client_of c.args.client_nonce.now (secret_of c.args.secret) c.args.limits c.args.header.now c.args.strict in
+    let client : Client = client_of c.args.client_nonce.now (secret_of c.args.secret) c.args.limits
+    c.args.header.now c.args.strict in
     let first = made c.in_ok-nonce.nonce.now c.in_ok-salt.salt.items c.in_ok-iterations.iterations in
     let names = names_made c.args.text.now c.in_ok-nonce.nonce.now c.in_ok-salt.salt.items
     c.in_ok-iterations.iterations c.in_ok-nonce.ensures.named c.in_ok-salt.ensures.named

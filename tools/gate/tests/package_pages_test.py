@@ -1,0 +1,36 @@
+#!/usr/bin/env python3
+"""What `bindings/packages/pages.py` has to put into a package: pages, examples and signatures, with links that lead there."""
+import subprocess
+import sys
+import tempfile
+import unittest
+from pathlib import Path
+
+TOP = Path(__file__).resolve().parents[3]
+TOOL = TOP / "bindings/packages/pages.py"
+PAGES = ["CHANGELOG.md", "COMPATIBILITY.md", "README.md", "SECURITY.md"]
+
+
+class PackagePages(unittest.TestCase):
+    def made(self, how, *words):
+        """The files that the tool writes, once it has tested their links."""
+        with tempfile.TemporaryDirectory() as folder:
+            subprocess.run([sys.executable, TOOL, how, folder, *words], check=True)
+            subprocess.run([sys.executable, TOOL, "check", folder], check=True, stdout=subprocess.DEVNULL)
+            return sorted(str(path.relative_to(folder)) for path in Path(folder).rglob("*") if path.is_file())
+
+    def test_a_package(self):
+        made = self.made("write")
+        self.assertEqual([file for file in made if "/" not in file], PAGES)
+        self.assertIn("signatures/fe2o3_scram.md", made)
+        self.assertIn("examples/client.c", made)
+
+    def test_the_crate_for_rust(self):
+        made = self.made("pages", "bindings/rust/README.md=rust/README.md")
+        self.assertEqual([file for file in made if "/" not in file], PAGES)
+        self.assertIn("signatures/fe2o3_scram.md", made)
+        self.assertIn("rust/README.md", made)
+
+
+if __name__ == "__main__":
+    unittest.main()

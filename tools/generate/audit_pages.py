@@ -1,0 +1,172 @@
+#!/usr/bin/env python3
+"""Writes docs/WRONG_BODIES.md and the counts in README.md, and checks the names of the pages for auditors.
+
+    tools/generate/audit_pages.py write     writes the page, and the counts in README.md
+    tools/generate/audit_pages.py check     writes nothing; ends with status 1 if the page or a count of README.md is stale,
+                                            or if a page for auditors has a name in backticks that no source has
+
+The page has a row for each wrong body: its name, the first sentence of its edit, the function that it changes, and the
+clause of that function at which the check fails. README.md quotes how many lines of definitions the theorem rests on, as
+tools/trusted_definitions.py counts them.
+"""
+import re
+import sys
+from dataclasses import dataclass
+from pathlib import Path
+
+HERE = Path(__file__).resolve().parent
+sys.path[:0] = [str(HERE), str(HERE.parent)]
+
+import trusted_definitions as trusted
+from signatures import CRATES, LIBRARIES, first_sentence
+
+PAGE = CRATES.parent / "docs" / "WRONG_BODIES.md"
+README = CRATES.parent / "README.md"
+WIDTH = 400
+# The pages written by hand whose names are looked for in the sources.
+BY_HAND = ("docs/THEOREMS.md", "docs/SPECIFICATION.md")
+# A name of code or of a definition: with an underscore or a capital, or a file.
+NAME = re.compile(r"(?=\w*[A-Z_.])[A-Za-z]\w*(?:(?:::|\.)\w+)*")
+INTRODUCTION = """# Wrong bodies
+
+A wrong body is an edit that plants a fault in one function. The gate plants each of the {count} and fails unless the proof
+of that function fails at a clause of its contract. The last column has the function and the name of the clause, or of a
+definition that the clause uses; without one, it is the clause without a name. [CONTRIBUTING.md](../CONTRIBUTING.md) has
+the form of an edit. `tools/generate/audit_pages.py write` writes this page.
+"""
+# What an edit says of the clause: that it has no name, or its names and, after them, the function.
+NO_NAME = re.compile(r"(?:the|its)(?: one)? (?:clause|contract)(?: of .*)?|")
+NAMES = re.compile(r"(?:the |its )?(?:one )?(?:clauses? )?\(?((?:`\w+`(?:, | and (?:by )?)?)+)\)?(?: \(.*\)| (of .*))?")
+
+
+@dataclass
+class WrongBody:
+    """An edit: its name, its first sentence, what it says of the clause, and the function that it changes."""
+
+    name: str
+    sentence: str
+    refused: str
+    function: str
+
+    def clause(self):
+        """The names of the clause, if it has one, and its function, if that is not the changed one."""
+        if NO_NAME.fullmatch(self.refused):
+            return ""
+        found = NAMES.fullmatch(self.refused)
+        if not found:
+            return self.refused
+        names = ", ".join(re.findall(r"`\w+`", found[1]))
+        other = re.search(r"(\w+)`", found[2] or "")
+        same = not other or other[1] in self.function.split("::")
+        return names if same else f"{names} {found[2]}"
+
+    def row(self, crate):
+        link = f"[{self.name}](../crates/{crate}/wrong-bodies/{self.name}.edit)"
+        place = f"`{self.function}`" + f": {self.clause()}" * bool(self.clause())
+        return f"| {link} | {self.sentence} | {place} |"
+
+
+def function_at(text, at):
+    """The function whose body has this place: a method by its type."""
+    heads = [
+        it
+        for it in re.finditer(r"^( *)(?:pub(?:\(\w+\))? )?(?:const )?(?:extern \"C\" )?fn (\w+)", text, re.M)
+        if it.start() <= at
+    ]
+    if not heads:
+        return ""
+    owners = [
+        it
+        for it in re.finditer(r"^(?:impl(?:<.*?>)? (?:[^{\n]* for )?|pub trait )(\w+)", text, re.M)
+        if it.start() < heads[-1].start()
+    ]
+    return f"{owners[-1][1]}::{heads[-1][2]}" if heads[-1][1] and owners else heads[-1][2]
+
+
+def wrong_bodies(crate):
+    for edit in sorted((CRATES / crate / "wrong-bodies").glob("*.edit")):
+        lines = edit.read_text(encoding="utf-8").splitlines()
+        start = next(at for at, line in enumerate(lines) if line.startswith("file:"))
+        text = " ".join(line.strip() for line in lines[:start])
+        refused = re.search(r"(?:Refused|Rejected) by (.*?)(?:[:,](?= )|\.(?= |$)|$)", text)
+        old = next(line for line in lines if line.startswith("old: ")).removeprefix("old: ")
+        source = (CRATES / crate / lines[start].removeprefix("file:").strip()).read_text(encoding="utf-8")
+        place = function_at(source, source.find(old))
+        yield WrongBody(edit.stem, first_sentence([text]), refused[1] if refused else "", place)
+
+
+def page():
+    found = {path.parent.parent.name for path in CRATES.glob("*/wrong-bodies/*.edit")}
+    crates = [crate for crate in LIBRARIES if crate in found] + sorted(found.difference(LIBRARIES))
+    rows = {crate: [body.row(crate) for body in wrong_bodies(crate)] for crate in crates}
+    out = [INTRODUCTION.format(count=sum(map(len, rows.values())))]
+    for crate, mine in rows.items():
+        out += [f"## `{crate}`", "", "| Edit | Fault | Rejected in |", "|---|---|---|", *mine, ""]
+    return "\n".join(out)
+
+
+# The laws over bytes, and what README.md says of the lines of their definitions.
+LAWS = ("fe2o3_sasl_negotiation::server_connections", "fe2o3_sasl_negotiation::client_connections")
+QUOTED = re.compile(
+    r"[\d,]+ lines for the theorem over frames, [\d,]+ over bytes, and [\d,]+ with the arguments of the laws"
+)
+
+
+def quoted_counts():
+    """The words of README.md on the lines of the definitions: over frames, over bytes, and these with the arguments."""
+    starts, arguments = trusted.statements(LAWS)
+    counts = (trusted.reached_from(trusted.HEADLINE), trusted.rest_on(starts), trusted.rest_on(starts + arguments))
+    frames, stream, more = (f"{trusted.lines_of(reached):,}" for reached in counts)
+    return f"{frames} lines for the theorem over frames, {stream} over bytes, and {more} with the arguments of the laws"
+
+
+def counts_fault(text, counts):
+    """What is wrong with the counts in the text of README.md, or None: it has to have these words once."""
+    found = QUOTED.findall(text)
+    if len(found) != 1:
+        return f"README.md has {len(found)} places that say the lines of the definitions, and needs one: {counts}"
+    return None if found[0] == counts else f"README.md is stale: is '{found[0]}', and has to be '{counts}'"
+
+
+def unknown_names():
+    """The names in backticks of the pages written by hand that no source has, each with its place."""
+    top = CRATES.parent
+    files = [path for path in CRATES.glob("*/*/**/*") if path.suffix in (".rt", ".antt") and "out" not in path.parts]
+    known = (
+        {path.name for path in files} | {path.name for path in top.iterdir()} | {path.name for path in CRATES.iterdir()}
+    )
+    for path in files:
+        known |= set(re.findall(r"\w+", path.read_text(encoding="utf-8")))
+    for by_hand in BY_HAND:
+        for at, line in enumerate((top / by_hand).read_text(encoding="utf-8").splitlines(), 1):
+            for name in re.findall(r"`([^` ]+)`", line):
+                parts = [name] if name.endswith((".antt", ".rt")) else re.split(r"::|\.", name)
+                if NAME.fullmatch(name) and not known.issuperset(parts):
+                    yield f"{by_hand}:{at}: no source has `{name}`"
+
+
+def main():
+    if sys.argv[1:] not in (["write"], ["check"]):
+        sys.exit(__doc__)
+    text, wrong, counts = page(), [], quoted_counts()
+    readme = README.read_text(encoding="utf-8")
+    if sys.argv[1] == "write":
+        PAGE.write_text(text, encoding="utf-8")
+        readme = QUOTED.sub(counts, readme)
+        README.write_text(readme, encoding="utf-8")
+    else:
+        wrong += unknown_names()
+        if not PAGE.exists() or PAGE.read_text(encoding="utf-8") != text:
+            wrong.append("docs/WRONG_BODIES.md is stale: tools/generate/audit_pages.py write")
+    if fault := counts_fault(readme, counts):
+        wrong.append(fault)
+    wrong += [f"{len(line)} characters: {line[:80]} .." for line in text.splitlines() if len(line) > WIDTH]
+    for line in wrong:
+        print(f"audit_pages: {line}", file=sys.stderr)
+    if not wrong and sys.argv[1] == "check":
+        print("audit_pages: docs/WRONG_BODIES.md, the counts of README.md and the names of the pages are right")
+    sys.exit(1 if wrong else 0)
+
+
+if __name__ == "__main__":
+    main()
