@@ -43,7 +43,7 @@ use Rattle.sasl_c.proofs.ServerReplyLemmas.{kept_by, restored_so}
 -- ---- the side that a struct is of
 
 -- a struct that waits is of a side that waits
-waits : (connection : Connection) (stands : Progress) (expected : Expected) (held : List ℕ)
+pub waits : (connection : Connection) (stands : Progress) (expected : Expected) (held : List ℕ)
     → Keeps connection stands expected held → connection.progress ≡ 0 → stands ≡ InProgress
 waits connection InProgress expected held keeps zero = refl
 waits connection Authenticated expected held keeps zero =
@@ -51,20 +51,20 @@ waits connection Authenticated expected held keeps zero =
 waits connection (Failed why) expected held keeps zero =
     let two : connection.progress ≡ 2 = keeps.progress.0 in absurd (omega (arith, zero, two))
 
-waiting : (connection : Connection) (stands : Progress) (expected : Expected) (held : List ℕ)
+pub waiting : (connection : Connection) (stands : Progress) (expected : Expected) (held : List ℕ)
     → Keeps connection stands expected held → stands ≡ InProgress → Keeps connection InProgress expected held
 waiting connection stands expected held keeps same =
     subst (λ (s : Progress). Keeps connection s expected held) same keeps
 
-side_of : {S : Type 0} → Progress → Expected → ℕ → List ℕ → S → Side S
+pub side_of : {S : Type 0} → Progress → Expected → ℕ → List ℕ → S → Side S
 side_of stands expected limit held state =
     record { progress = stands; expected = expected; limit = limit; held = held; state = state }
 
-side_so : {S : Type 0} (side : Side S) → side ≡ side_of side.progress side.expected side.limit side.held side.state
+pub side_so : {S : Type 0} (side : Side S) → side ≡ side_of side.progress side.expected side.limit side.held side.state
 unfolding side_of
 side_so side = refl
 
-one_side : (side : Side ServerAt) (stands : Progress) (expected : Expected) (limit : ℕ) (held : List ℕ)
+pub one_side : {S : Type 0} (side : Side S) (stands : Progress) (expected : Expected) (limit : ℕ) (held : List ℕ)
     → side.progress ≡ stands → side.expected ≡ expected → side.limit ≡ limit → side.held ≡ held
     → side ≡ side_of stands expected limit held side.state
 one_side side stands expected limit held p e l h = side_so side ∙ by p e l h
@@ -94,7 +94,7 @@ pub shows_going : (scram : ScramStruct) (stands : Progress) (stage : KeptStage) 
     → ShowsProgress scram stands stage → ShowsStage scram stage
 shows_going scram stands stage same shows = subst (λ (s : Progress). ShowsProgress scram s stage) same shows
 
-flag_again : (accepts : Bool) → is_set (flag_number accepts) ≡ accepts
+pub flag_again : (accepts : Bool) → is_set (flag_number accepts) ≡ accepts
 flag_again true = refl
 flag_again false = refl
 
@@ -261,7 +261,7 @@ module _ (accepts : Bool) (settings : ServerSettings) where
 
 -- ---- the first struct
 
-zero_connection : ℕ → Connection
+pub zero_connection : ℕ → Connection
 zero_connection extended = record {
   progress = 0;
   why = 0;
@@ -271,7 +271,7 @@ zero_connection extended = record {
   extended_headers = extended;
 }
 
-keeps_zero : (extended : ℕ) → Keeps (zero_connection extended) InProgress Header []
+pub keeps_zero : (extended : ℕ) → Keeps (zero_connection extended) InProgress Header []
 unfolding zero_connection
 keeps_zero extended = record { progress = refl; expected = refl; len = omega arith; held = refl }
 

@@ -1,7 +1,7 @@
 -- Two clients of SCRAM that say the same of their channel and differ in the keys that they keep answer alike (RFC 5802,
 -- section 5).
-use Rattle.std.proofs.Common.{refl, sym, ap, subst, ◌∙◌, ◌≡◌, ◌++◌, ◌∷◌, ℕ, List, []}
-use Rattle.std.specs.Prelude.{Bool, true, false, ◌||◌, is_some, codes, Option, Some, None, Result, Ok, Err}
+use Rattle.std.proofs.Common.{refl, ap, subst, ◌∙◌, ◌≡◌, ◌++◌, ◌∷◌, ℕ, List, []}
+use Rattle.std.specs.Prelude.{Bool, ◌||◌, is_some, codes, Option, Some, Result, Ok, Err}
 use Rattle.fe2o3_scram.specs.ChannelBinding.{ClientHeader, cbind_data, cbind_input, flag_of, has_channel, header_text, is_bound}
 use Rattle.fe2o3_scram.specs.ClientFinal.{answer_by, answer_of, keys_for}
 use Rattle.fe2o3_scram.specs.ClientKeys.{ClientKeys}

@@ -39,3 +39,8 @@ pub mod CallSettingLemmas
 pub mod CallLemmas
 pub mod CallStoreLemmas
 pub mod CallNumberLemmas
+pub mod ClientAlikeLemmas
+pub mod ClientProfileLemmas
+pub mod ClientDoneLemmas
+pub mod OneLoginLemmas
+pub mod ClientCallLemmas
