@@ -261,7 +261,7 @@ module _ (accepts : Bool) (settings : ServerSettings) where
 
 -- ---- the first struct
 
-pub zero_connection : ℕ → Connection
+zero_connection : ℕ → Connection
 zero_connection extended = record {
   progress = 0;
   why = 0;
@@ -271,17 +271,25 @@ zero_connection extended = record {
   extended_headers = extended;
 }
 
-pub keeps_zero : (extended : ℕ) → Keeps (zero_connection extended) InProgress Header []
+keeps_zero : (extended : ℕ) → Keeps (zero_connection extended) InProgress Header []
 unfolding zero_connection
 keeps_zero extended = record { progress = refl; expected = refl; len = omega arith; held = refl }
 
-zero_so : (server : Struct) → IsZero server → server.connection ≡ zero_connection server.connection.extended_headers
+-- a connection of zeros is one that has received nothing
+pub keeps_zeros : (connection : Connection) → connection ≡ record {
+  progress = 0;
+  why = 0;
+  expected = 0;
+  held_len = 0;
+  held = replicate 512 0;
+  extended_headers = connection.extended_headers;
+} → Keeps connection InProgress Header []
 unfolding zero_connection
-zero_so server is = is.0
+keeps_zeros connection is = subst (λ (c : Connection). Keeps c InProgress Header []) (sym is)
+    (keeps_zero connection.extended_headers)
 
 keeps_first : (server : Struct) → IsZero server → Keeps server.connection InProgress Header []
-keeps_first server is = subst (λ (c : Connection). Keeps c InProgress Header []) (sym (zero_so server is))
-    (keeps_zero server.connection.extended_headers)
+keeps_first server is = keeps_zeros server.connection is.0
 
 shows_first : (server : Struct) → IsZero server → ShowsStage server.scram KeptNothing
 shows_first server is =

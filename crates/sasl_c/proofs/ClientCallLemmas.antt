@@ -22,7 +22,7 @@ use Rattle.sasl_c.specs.ClientCalls.{CallsConnect, CallsOverStruct, HasSentNothi
 use Rattle.sasl_c.specs.Connection.{Keeps, accepts_extended}
 use Rattle.sasl_c.specs.Keys.{WritesKeys}
 use Rattle.sasl_c.specs.SaslClient.{ClientTakes, IsClient, IsDueIn, IsHostname, IsProfile, ReceivesAsClient, WritesProfile}
-use Rattle.sasl_c.proofs.CallLemmas.{flag_again, keeps_zero, one_side, side_of, waiting, waits, zero_connection}
+use Rattle.sasl_c.proofs.CallLemmas.{flag_again, keeps_zeros, one_side, side_so, waiting, waits}
 use Rattle.sasl_c.proofs.CallNumberLemmas.{status_not_zero}
 use Rattle.sasl_c.proofs.ClientAlikeLemmas.{Follows, rekeyed}
 use Rattle.sasl_c.proofs.ClientDoneLemmas.{is_done, received_open}
@@ -112,13 +112,13 @@ profile_shown login scram mine other
 
 same_side : (base : Login) (before : Struct) (side other : Side Profile) → IsClient base before side
     → IsClient base before other → other.progress ≡ InProgress → side ≡ at other side.state
-unfolding side_of
 same_side base before side other of is wants =
     let keeps = waiting before.connection other.progress other.expected other.held is.0.0 wants in
     let mine = waits before.connection side.progress side.expected side.held of.0.0 keeps.progress in
     let own = waiting before.connection side.progress side.expected side.held of.0.0 mine in
     one_side side other.progress other.expected other.limit other.held (mine ∙ sym wants)
     (one_due side.expected other.expected (own.expected ∙ sym keeps.expected)) (of.0.1 ∙ sym is.0.1) (own.held ∙ sym keeps.held)
+    ∙ sym (side_so (at other side.state))
 
 module _ (base : Login) (hostname : Option (List ℕ)) (named : IsHostname base hostname) (accepts : Bool) where
   call_step : (login : Login) (before after : Struct) (bytes nonce : List ℕ) (taken : ℕ) (sent : List ℕ)
@@ -187,14 +187,6 @@ module _ (base : Login) (hostname : Option (List ℕ)) (named : IsHostname base 
 
 -- ---- the first struct
 
-zero_so : (client : Struct) → IsZero client → client.connection ≡ zero_connection client.connection.extended_headers
-unfolding zero_connection
-zero_so client is = is.0
-
-keeps_first : (client : Struct) → IsZero client → Keeps client.connection InProgress Header []
-keeps_first client is = subst (λ (c : Connection). Keeps c InProgress Header []) (sym (zero_so client is))
-    (keeps_zero client.connection.extended_headers)
-
 nothing_sent : (user : List ℕ) → IsState user fresh_client_struct ClientInitial
 nothing_sent user = (
   (λ one. absurd (omega (arith, one))),
@@ -217,7 +209,7 @@ new_shown login (MessageProfile mechanism message is_due) (is, none) = (
 
 pub zeros_are_fresh : ZerosAreFresh
 zeros_are_fresh login profile client new is = (
-  (keeps_first client is, refl),
+  (keeps_zeros client.connection is.0, refl),
   subst (λ (s : ScramStruct). IsProfile login s profile) (sym is.1) (new_shown login profile new),
 )
 

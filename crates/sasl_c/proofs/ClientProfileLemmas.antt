@@ -184,18 +184,21 @@ module _ (login : Login) (hostname : Option (List ℕ)) where
         ScramProfile (made side channel step.1),
         subst (λ (p : Profile). profile_machine p hostname nonce frame reply (ScramProfile (made side channel step.1)))
             (sym meant) step.4,
-        inr (scram, (
-          side,
-          channel,
-          others,
-          step.0,
-          step.1,
-          refl,
-          step.2,
-          alike,
-          step.3,
-          moved_login login.login (made side channel state) step.1 words,
-        )),
+        inr (
+          scram,
+          (
+            side,
+            channel,
+            others,
+            step.0,
+            step.1,
+            refl,
+            step.2,
+            alike,
+            step.3,
+            moved_login login.login (made side channel state) step.1 words,
+          ),
+        ),
       )
 
   stays : (mine other last : Profile) → Alike login mine other → last ≡ other → Alike login mine last

@@ -241,19 +241,22 @@ scram_alike login scram side other going is too =
     let user : other.user ≡ side.user = too.1.0.user ∙ sym is.1.0.user in
     let state = one_state side.user scram side.state other.state going is.1.1
     (subst (λ (u : List ℕ). IsState u scram other.state) user too.1.1) in
-    inr (is.0, (
-      side,
-      side.channel,
-      other.channel,
-      state.0,
-      side.state,
-      refl,
-      ap (λ (s : ClientSide). ScramProfile s) (same ∙ ap (made side other.channel) state.1),
-      one_channel login.login.channel_use login.login.channel_kind login.login.channel_data_len login.login.channel_data
-          side.channel other.channel is.1.0.header.0 too.1.0.header.0,
-      state.2,
-      is.1.0,
-    ))
+    inr (
+      is.0,
+      (
+        side,
+        side.channel,
+        other.channel,
+        state.0,
+        side.state,
+        refl,
+        ap (λ (s : ClientSide). ScramProfile s) (same ∙ ap (made side other.channel) state.1),
+        one_channel login.login.channel_use login.login.channel_kind login.login.channel_data_len login.login.channel_data
+            side.channel other.channel is.1.0.header.0 too.1.0.header.0,
+        state.2,
+        is.1.0,
+      ),
+    )
 
 plain_alike : (words : Words) (identity user password name who secret : List ℕ) → IsPlainOf words identity user password
     → IsPlainOf words name who secret → PlainProfile name who secret ≡ PlainProfile identity user password
