@@ -18,7 +18,7 @@ use Rattle.sasl_c.specs.declared.sasl_client.SaslClient.{SaslClient as Struct}
 use Rattle.sasl_c.specs.declared.sasl_client.SaslLogin.{SaslLogin as Login}
 use Rattle.sasl_c.specs.declared.status.WriteError.TheVariants.{RoomTooSmall, Other}
 use Rattle.sasl_c.specs.Client.{IsState, WritesClient, fresh_client_struct}
-use Rattle.sasl_c.specs.ClientCalls.{CallsConnect, CallsOverStruct, HasSentNothing, IsNewProfile, IsZero, LoginsSpellClients, OneLogin, ReturnsAreCalls, StructCall, ZerosAreFresh, answered_calls}
+use Rattle.sasl_c.specs.ClientCalls.{CallsWithOneLoginConnect, CallsOverClient, HasSentNothing, IsNewProfile, IsZeroClient, LoginsSpellClients, SameLogin, ReturnsAreClientCalls, ClientCall, ZerosAreNewClients, answered_by_client}
 use Rattle.sasl_c.specs.Connection.{Keeps, accepts_extended}
 use Rattle.sasl_c.specs.Keys.{WritesKeys}
 use Rattle.sasl_c.specs.SaslClient.{ClientTakes, IsClient, IsDueIn, IsHostname, IsProfile, ReceivesAsClient, WritesProfile}
@@ -28,7 +28,7 @@ use Rattle.sasl_c.proofs.ClientAlikeLemmas.{Follows, rekeyed}
 use Rattle.sasl_c.proofs.ClientDoneLemmas.{is_done, received_open}
 use Rattle.sasl_c.proofs.ClientLemmas.{moved_login}
 use Rattle.sasl_c.proofs.ClientProfileLemmas.{Alike, SameKeys, at, received_alike}
-use Rattle.sasl_c.proofs.OneLoginLemmas.{alike_of, of_base, one_hostname}
+use Rattle.sasl_c.proofs.SameLoginLemmas.{alike_of, of_base, one_hostname}
 use Rattle.sasl_c.proofs.SaslClientLemmas.{one_due}
 
 -- ---- a struct and the side of its connection
@@ -122,7 +122,7 @@ same_side base before side other of is wants =
 
 module _ (base : Login) (hostname : Option (List ℕ)) (named : IsHostname base hostname) (accepts : Bool) where
   call_step : (login : Login) (before after : Struct) (bytes nonce : List ℕ) (taken : ℕ) (sent : List ℕ)
-      (side : Side Profile) → OneLogin base login → IsOfSide base accepts before side
+      (side : Side Profile) → SameLogin base login → IsOfSide base accepts before side
       → ReceivesAsClient login bytes nonce before after taken (Ok sent)
       → (next : Side Profile) × ClientTakes accepts hostname side bytes nonce taken sent next
       × IsOfSide base accepts after next
@@ -157,9 +157,9 @@ module _ (base : Login) (hostname : Option (List ℕ)) (named : IsHostname base 
 
   -- ---- all calls
 
-  calls_of_side : (before last : Struct) (side : Side Profile) (calls : List StructCall) (stream sent rest : List ℕ)
-      → IsOfSide base accepts before side → CallsOverStruct base before calls stream sent last rest
-      → (end : Side Profile) × Calls (ClientTakes accepts hostname) side (answered_calls calls) stream sent end rest
+  calls_of_side : (before last : Struct) (side : Side Profile) (calls : List ClientCall) (stream sent rest : List ℕ)
+      → IsOfSide base accepts before side → CallsOverClient base before calls stream sent last rest
+      → (end : Side Profile) × Calls (ClientTakes accepts hostname) side (answered_by_client calls) stream sent end rest
       × IsOfSide base accepts last end
   calls_of_side before last side [] stream sent rest of (none, same, all) =
       (side, (none, refl, all), subst (λ (s : Struct). IsOfSide base accepts s side) (sym same) of)
@@ -171,7 +171,7 @@ module _ (base : Login) (hostname : Option (List ℕ)) (named : IsHostname base 
         subst (λ (b : Bool). Calls (ClientTakes accepts hostname) side (if b then record {
           handed = call.handed;
           nonce = call.nonce;
-        } ∷ answered_calls calls else answered_calls calls) stream sent rests.0 rest) (sym is)
+        } ∷ answered_by_client calls else answered_by_client calls) stream sent rests.0 rest) (sym is)
             (taken, first, step.0, later, step.1, rests.1, all),
         rests.2,
       )
@@ -181,7 +181,7 @@ module _ (base : Login) (hostname : Option (List ℕ)) (named : IsHostname base 
         subst (λ (b : Bool). Calls (ClientTakes accepts hostname) side (if b then record {
           handed = call.handed;
           nonce = call.nonce;
-        } ∷ answered_calls calls else answered_calls calls) stream sent rests.0 rest) (sym is) rests.1,
+        } ∷ answered_by_client calls else answered_by_client calls) stream sent rests.0 rest) (sym is) rests.1,
         rests.2,
       )
 
@@ -207,13 +207,13 @@ new_shown login (MessageProfile mechanism message is_due) (is, none) = (
   is.2,
 )
 
-pub zeros_are_fresh : ZerosAreFresh
+pub zeros_are_fresh : ZerosAreNewClients
 zeros_are_fresh login profile client new is = (
   (keeps_zeros client.connection is.0, refl),
   subst (λ (s : ScramStruct). IsProfile login s profile) (sym is.1) (new_shown login profile new),
 )
 
-pub calls_connect : CallsConnect
+pub calls_connect : CallsWithOneLoginConnect
 calls_connect base hostname profile before last calls stream sent rest named new is over =
     let all = calls_of_side base hostname named (accepts_extended before.connection) before last (fresh 512 profile) calls stream
     sent rest (record {
@@ -245,7 +245,7 @@ unfolding ReceivesAsClient
 logins_spell_clients login bytes nonce sent before after taken (host, side, next, hosts, is, all) =
     (host, renewed side.state, hosts, new_of login before.scram side.state is.1)
 
-pub returns_are_calls : ReturnsAreCalls
+pub returns_are_calls : ReturnsAreClientCalls
 returns_are_calls login bytes nonce before after taken_before taken number room left (Ok done, is, (fills, stays, asks)) =
     ((λ zero. (fills.0, fills.1, fills.3, fills.4)), λ not. absurd (not is))
 returns_are_calls login bytes nonce before after taken_before taken number room left

@@ -42,5 +42,5 @@ pub mod CallNumberLemmas
 pub mod ClientAlikeLemmas
 pub mod ClientProfileLemmas
 pub mod ClientDoneLemmas
-pub mod OneLoginLemmas
+pub mod SameLoginLemmas
 pub mod ClientCallLemmas

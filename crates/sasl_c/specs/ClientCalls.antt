@@ -14,11 +14,9 @@ use Rattle.sasl_c.specs.Connection.{accepts_extended}
 use Rattle.sasl_c.specs.SaslClient.{ClientTakes, IsClient, IsHostname, ProfileIsReached, ReadsClient, ReceivesAsClient}
 use Rattle.sasl_c.specs.Status.{AnswersText, AsksText, FillsWithin, Room, with_written}
 
--- ---- the calls
-
 -- a struct of zeros, whatever it says of extended headers
-abbrev pub IsZero : Struct → Type 0
-IsZero client = (client.connection ≡ record {
+abbrev pub IsZeroClient : Struct → Type 0
+IsZeroClient client = (client.connection ≡ record {
   progress = 0;
   why = 0;
   expected = 0;
@@ -46,48 +44,46 @@ pub record SameWords (base words : Words) : Type 0 where
   pub bytes : words.channel_data ≡ base.channel_data
 
 -- two logins have the same values
-pub record OneLogin (base login : Login) : Type 0 where
+pub record SameLogin (base login : Login) : Type 0 where
   pub mechanism : login.mechanism ≡ base.mechanism
   pub hostname : login.hostname.now ≡ base.hostname.now
   pub words : SameWords base.login login.login
 
 -- a call over a struct and a stream: the login that it is passed, of the bytes that are left as many as `handed`, a nonce, and
 -- whether it returned FE2O3_OK
-pub record StructCall : Type 0 where
+pub record ClientCall : Type 0 where
   pub login : Login
   pub handed : ℕ
   pub nonce : List ℕ
   pub is_answered : Bool
 
 -- the calls that returned FE2O3_OK, as calls of a side
-abbrev pub answered_calls : List StructCall → List Call
-answered_calls [] = []
-answered_calls (call ∷ calls) = if call.is_answered then record { handed = call.handed; nonce = call.nonce } ∷ answered_calls calls
-    else answered_calls calls
+abbrev pub answered_by_client : List ClientCall → List Call
+answered_by_client [] = []
+answered_by_client (call ∷ calls) = let others = answered_by_client calls in
+    if call.is_answered then record { handed = call.handed; nonce = call.nonce } ∷ others else others
 
 -- calls over one struct and one stream, where each that returned FE2O3_OK was passed the values of this login: what they
 -- send, the struct after them, and the bytes that are left. A call that returned an error has changed, taken and sent
 -- nothing, whatever it was passed
-abbrev pub CallsOverStruct : Login → Struct → List StructCall → List ℕ → List ℕ → Struct → List ℕ → Type 0
-CallsOverStruct base before [] stream sent last rest = (sent ≡ []) × (last ≡ before) × (rest ≡ stream)
-CallsOverStruct base before (call ∷ calls) stream sent last rest =
-    ((call.is_answered ≡ true) × ((after : Struct) × (taken : ℕ) × (first later : List ℕ) × OneLogin base call.login
+abbrev pub CallsOverClient : Login → Struct → List ClientCall → List ℕ → List ℕ → Struct → List ℕ → Type 0
+CallsOverClient base before [] stream sent last rest = (sent ≡ []) × (last ≡ before) × (rest ≡ stream)
+CallsOverClient base before (call ∷ calls) stream sent last rest =
+    ((call.is_answered ≡ true) × ((after : Struct) × (taken : ℕ) × (first later : List ℕ) × SameLogin base call.login
     × ReceivesAsClient call.login (take call.handed stream) call.nonce before after taken (Ok first)
-    × CallsOverStruct base after calls (drop taken stream) later last rest × (sent ≡ first ++ later)))
-    ⊎ ((call.is_answered ≡ false) × CallsOverStruct base before calls stream sent last rest)
+    × CallsOverClient base after calls (drop taken stream) later last rest × (sent ≡ first ++ later)))
+    ⊎ ((call.is_answered ≡ false) × CallsOverClient base before calls stream sent last rest)
 
 -- the contract of `fe2o3_sasl_client_receive` says so by the number that it returns: with 0, FE2O3_OK, a call has written what
 -- it sends, and with another number it has changed and taken nothing
-abbrev pub ReturnsAreCalls : Type 0
-ReturnsAreCalls = (login : Login) (bytes nonce : List ℕ) (before after : Struct) (taken_before taken number : ℕ)
+abbrev pub ReturnsAreClientCalls : Type 0
+ReturnsAreClientCalls = (login : Login) (bytes nonce : List ℕ) (before after : Struct) (taken_before taken number : ℕ)
     (room left : Room) → AnswersText number (λ answer.
     FillsWithin 512 (ReceivesAsClient login bytes nonce before after taken) room left answer
     × OnErr answer ((after ≡ before) × (taken ≡ taken_before)) × AsksText (ReadsClient login before) answer)
     → (number ≡ 0 → (sent : List ℕ) × ReceivesAsClient login bytes nonce before after taken (Ok sent)
     × (left.bytes ≡ with_written sent room.bytes) × (left.len ≡ length sent))
     × (number ≢ 0 → (after ≡ before) × (taken ≡ taken_before))
-
--- ---- one connection
 
 -- a profile has sent nothing
 abbrev pub HasSentNothing : Profile → Type 0
@@ -99,21 +95,9 @@ HasSentNothing profile = Unit {0}
 abbrev pub IsNewProfile : Login → Profile → Type 0
 IsNewProfile login profile = ProfileIsReached login profile × HasSentNothing profile
 
--- the calls that returned FE2O3_OK are a connection of the library's client of this profile, from its beginning: each takes
--- the same bytes and sends the same. The struct after them is that of its side: it has its progress, with the reason if it
--- failed, what is expected, the bytes that are held, and the state and the keys of its profile
-abbrev pub AreOneConnection : Login → Option (List ℕ) → Profile → Struct → List StructCall → List ℕ → List ℕ → Struct
-    → List ℕ → Type 0
-AreOneConnection base hostname profile before calls stream sent last rest = let accepts = accepts_extended before.connection in
-    (side : Side Profile)
-    × Calls (ClientTakes accepts hostname) (fresh 512 profile) (answered_calls calls) stream sent side rest
-    × IsClient base last side × (accepts_extended last.connection ≡ accepts)
-
--- ---- the laws
-
 -- a struct of zeros is that of a side of each new client that the login spells, which has received nothing
-abbrev pub ZerosAreFresh : Type 0
-ZerosAreFresh = (login : Login) (profile : Profile) (client : Struct) → IsNewProfile login profile → IsZero client
+abbrev pub ZerosAreNewClients : Type 0
+ZerosAreNewClients = (login : Login) (profile : Profile) (client : Struct) → IsNewProfile login profile → IsZeroClient client
     → IsClient login client (fresh 512 profile)
 
 -- a login by which a call returned FE2O3_OK spells a new client
@@ -122,9 +106,14 @@ LoginsSpellClients = (login : Login) (bytes nonce sent : List ℕ) (before after
     → ReceivesAsClient login bytes nonce before after taken (Ok sent)
     → (hostname : Option (List ℕ)) × (profile : Profile) × IsHostname login hostname × IsNewProfile login profile
 
--- calls over one struct of zeros that are all passed one login are one connection of each new client that it spells
-abbrev pub CallsConnect : Type 0
-CallsConnect = (base : Login) (hostname : Option (List ℕ)) (profile : Profile) (before last : Struct) (calls : List StructCall)
-    (stream sent rest : List ℕ) → IsHostname base hostname → IsNewProfile base profile → IsZero before
-    → CallsOverStruct base before calls stream sent last rest
-    → AreOneConnection base hostname profile before calls stream sent last rest
+-- calls over one struct of zeros that are all passed one login are one connection of each new client that it spells, from its
+-- beginning: those that returned FE2O3_OK take the same bytes and send the same. The struct after them is that of its side: it
+-- has its progress, with the reason if it failed, what is expected, the bytes that are held, and the state and the keys of its
+-- profile
+abbrev pub CallsWithOneLoginConnect : Type 0
+CallsWithOneLoginConnect = (base : Login) (hostname : Option (List ℕ)) (profile : Profile) (before last : Struct)
+    (calls : List ClientCall) (stream sent rest : List ℕ) → IsHostname base hostname → IsNewProfile base profile
+    → IsZeroClient before → CallsOverClient base before calls stream sent last rest
+    → (side : Side Profile) × Calls (ClientTakes (accepts_extended before.connection) hostname) (fresh 512 profile)
+    (answered_by_client calls) stream sent side rest
+    × IsClient base last side × (accepts_extended last.connection ≡ accepts_extended before.connection)

@@ -1,9 +1,9 @@
 //! What several calls over one struct of a client are together. The function has an empty body and states only its contract.
 
-ghost use Rattle.sasl_c.specs.ClientCalls.{CallsConnect, LoginsSpellClients, ReturnsAreCalls, ZerosAreFresh};
+ghost use Rattle.sasl_c.specs.ClientCalls.{CallsWithOneLoginConnect, LoginsSpellClients, ReturnsAreClientCalls, ZerosAreNewClients};
 
 /// Any number of calls of `fe2o3_sasl_client_receive` over one struct that begins with zeros, over any stream in any pieces,
-/// are one connection of the library's `ClientNegotiation`, if each call is passed the same login (`OneLogin`). Each call
+/// are one connection of the library's `ClientNegotiation`, if each call is passed the same login (`SameLogin`). Each call
 /// that returned FE2O3_OK takes the same bytes and sends the same, with the same nonce. The struct after the calls has the
 /// progress of that connection, what is expected, the bytes that are held, and the state and the keys of its SCRAM client.
 /// Calls that returned an error change nothing, and may be repeated or left out.
@@ -11,8 +11,8 @@ ghost use Rattle.sasl_c.specs.ClientCalls.{CallsConnect, LoginsSpellClients, Ret
 /// `returns` says by the number that a call returns what it has done. By `fresh` a struct of zeros is that of a new client,
 /// and by `spelled` each login by which a call returned FE2O3_OK has such a client.
 pub fn client_calls()
-    ensures returns { ReturnsAreCalls }
-    ensures fresh { ZerosAreFresh }
+    ensures returns { ReturnsAreClientCalls }
+    ensures fresh { ZerosAreNewClients }
     ensures spelled { LoginsSpellClients }
-    ensures one_login { CallsConnect }
+    ensures one_login { CallsWithOneLoginConnect }
 {}

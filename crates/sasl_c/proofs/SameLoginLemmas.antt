@@ -23,7 +23,7 @@ use Rattle.sasl_c.specs.declared.login.Login.{Login as Words}
 use Rattle.sasl_c.specs.declared.sasl_client.SaslLogin.{SaslLogin as Login}
 use Rattle.sasl_c.specs.Channels.{IsChannel, kind_number}
 use Rattle.sasl_c.specs.Client.{CanBeNamed, Holds, HoldsNone, IsChannelOf, IsClientOf, IsHeaderOf, IsSecretOf, IsState, is_set}
-use Rattle.sasl_c.specs.ClientCalls.{OneLogin, SameWords}
+use Rattle.sasl_c.specs.ClientCalls.{SameLogin, SameWords}
 use Rattle.sasl_c.specs.Keys.{KeysHaveRoom, ShowsKeys, WritesKeys, no_keys_struct, shown_keys}
 use Rattle.sasl_c.specs.Passwords.{IsPassword}
 use Rattle.sasl_c.specs.Records.{IsVersion}
@@ -371,7 +371,7 @@ module _ (base words : Words) (one : SameWords base words) where
   )
 
 -- a profile of a login is one of each login of the same values
-pub of_base : (base login : Login) (scram : ScramStruct) (profile : Profile) → OneLogin base login
+pub of_base : (base login : Login) (scram : ScramStruct) (profile : Profile) → SameLogin base login
     → IsProfile login scram profile → IsProfile base scram profile
 of_base base login scram (ScramProfile side) one is =
     (sym one.mechanism ∙ is.0, (client_of_base base.login login.login one.words side is.1.0, is.1.1))
@@ -383,7 +383,7 @@ of_base base login scram (MessageProfile mechanism message is_due) one is =
     (sym one.mechanism ∙ is.0, is.1 ∙ one.words.username, is.2, sym one.words.acts_for ∙ is.3)
 
 -- and its hostname
-pub one_hostname : (base login : Login) (hostname other : Option (List ℕ)) → OneLogin base login → IsHostname base hostname
+pub one_hostname : (base login : Login) (hostname other : Option (List ℕ)) → SameLogin base login → IsHostname base hostname
     → IsHostname login other → other ≡ hostname
 one_hostname base login None None one is too = refl
 one_hostname base login None (Some name) one is too = absurd (too.0 (one.hostname ∙ is))
