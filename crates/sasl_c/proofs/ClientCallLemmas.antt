@@ -85,7 +85,7 @@ keys_written : (scram other : ScramStruct) (keys : Option ClientKeys) → scram 
     → WritesKeys scram.keys keys
 keys_written scram other keys same is = subst (λ (s : ScramStruct). WritesKeys s.keys keys) (sym same) is
 
-state_shown : (user : List ℕ) (scram : ScramStruct) (keys : Option ClientKeys) (state : ClientState)
+pub state_shown : (user : List ℕ) (scram : ScramStruct) (keys : Option ClientKeys) (state : ClientState)
     → Follows SameKeys keys state → WritesClient scram (rekeyed keys state) → IsState user scram (rekeyed keys state)
     → IsState user scram state
 state_shown user scram keys ClientInitial follows written is = is
@@ -187,7 +187,7 @@ module _ (base : Login) (hostname : Option (List ℕ)) (named : IsHostname base 
 
 -- ---- the first struct
 
-nothing_sent : (user : List ℕ) → IsState user fresh_client_struct ClientInitial
+pub nothing_sent : (user : List ℕ) → IsState user fresh_client_struct ClientInitial
 nothing_sent user = (
   (λ one. absurd (omega (arith, one))),
   (λ four. absurd (omega (arith, four))),

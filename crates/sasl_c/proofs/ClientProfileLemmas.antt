@@ -7,13 +7,12 @@ use Rattle.fe2o3_sasl_wire.specs.declared.amqp_types.SaslCode.TheVariants as out
 use Rattle.fe2o3_sasl_wire.specs.declared.sasl_frames.error.Error.{Error}
 use Rattle.fe2o3_sasl_wire.specs.SaslFrames as frames
 use Rattle.fe2o3_sasl_wire.specs.SaslFrames.{SaslFrame, canonical}
-use Rattle.fe2o3_scram.specs.ChannelBinding.{is_bound, mechanism_of}
+use Rattle.fe2o3_scram.specs.ChannelBinding.{flag_of, is_bound, mechanism_of}
 use Rattle.fe2o3_scram.specs.ClientFirst.{client_first_bare, client_first_with}
 use Rattle.fe2o3_scram.specs.ClientKeys.{ClientKeys}
 use Rattle.fe2o3_scram.specs.ScramClient.{ClientFirstSent, ClientSide, ClientState, expects_signature}
 use Rattle.fe2o3_scram.specs.Texts.{base64_text}
 use Rattle.fe2o3_scram.specs.declared.scram_messages.channel_binding_flag.ChannelBindingFlag.{ChannelBindingFlag}
-use Rattle.fe2o3_scram.specs.ChannelBinding.{flag_of}
 use Rattle.fe2o3_scram.specs.declared.scram_messages.client_channel.ClientChannel.{ClientChannel}
 use Rattle.fe2o3_sasl_core.specs.Bodies.{carried as sent_or_not}
 use Rattle.fe2o3_sasl_core.specs.Events.{ClientSays, Given, Refused}
@@ -40,7 +39,7 @@ use Rattle.sasl_c.proofs.ClientLemmas.{moved_login}
 abbrev pub SameKeys : Option ClientKeys → Option ClientKeys → Type 0
 SameKeys own keys = (kept : KeysStruct) → WritesKeys kept keys → Holds kept keys → Holds kept own
 
-same_keys : (keys : Option ClientKeys) → SameKeys keys keys
+pub same_keys : (keys : Option ClientKeys) → SameKeys keys keys
 same_keys keys = λ kept written holds. holds
 
 -- two profiles of SCRAM of these words, which differ in the keys that they keep and in the spelling of one channel

@@ -44,3 +44,4 @@ pub mod ClientProfileLemmas
 pub mod ClientDoneLemmas
 pub mod SameLoginLemmas
 pub mod ClientCallLemmas
+pub mod ClientMessageLemmas

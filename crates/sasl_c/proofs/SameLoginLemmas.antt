@@ -71,7 +71,7 @@ one_kind TlsServerEndPoint TlsExporter same = absurd (omega (arith, same))
 one_kind TlsExporter TlsUnique same = absurd (omega (arith, same))
 one_kind TlsExporter TlsServerEndPoint same = absurd (omega (arith, same))
 
-one_channel : (number kind len : ℕ) (array : List ℕ) (channel other : ClientChannel)
+pub one_channel : (number kind len : ℕ) (array : List ℕ) (channel other : ClientChannel)
     → IsChannel number kind len array channel → IsChannel number kind len array other → SameChannel channel other
 one_channel number kind len array Absent Absent is too = record { flag = refl; bytes = refl; binds = refl; has = refl }
 one_channel number kind len array NotOffered NotOffered is too =
@@ -127,7 +127,7 @@ self_made : (side : ClientSide) → side ≡ made side side.channel side.state
 self_made side = refl
 
 -- two clients of one login differ in their state, and in the spelling of one channel
-one_client : (words : Words) (side other : ClientSide) → IsClientOf words side → IsClientOf words other
+pub one_client : (words : Words) (side other : ClientSide) → IsClientOf words side → IsClientOf words other
     → other ≡ made side other.channel other.state
 one_client words side other is too = self_made other ∙ (built_so other other.channel other.state
     ∙ (by (too.user ∙ sym is.user) (one_secret words side.secret other.secret is.secret too.secret)
@@ -176,10 +176,10 @@ same_where before (Some own) (Some keys) (inr (wide, none)) (inr (long, same)) =
     λ kept written holds. inr (wide, without_room kept keys long written)
 
 -- two states of one struct, which is not that of a completed login, differ in their keys
-abbrev OneState : ClientState → ClientState → Type 0
+abbrev pub OneState : ClientState → ClientState → Type 0
 OneState state other = (keys : Option ClientKeys) × (other ≡ rekeyed keys state) × Follows SameKeys keys state
 
-one_state : (user : List ℕ) (scram : ScramStruct) (state other : ClientState) → scram.state ≢ 3 → IsState user scram state
+pub one_state : (user : List ℕ) (scram : ScramStruct) (state other : ClientState) → scram.state ≢ 3 → IsState user scram state
     → IsState user scram other → OneState state other
 one_state user scram ClientInitial ClientInitial going is too = (None, refl, tt)
 one_state user scram (ClientFirstSent nonce bare) (ClientFirstSent sent spelled) going is too =
@@ -339,7 +339,7 @@ module _ (base words : Words) (one : SameWords base words) where
   named_of_base : CanBeNamed words.acts_for.now → CanBeNamed base.acts_for.now
   named_of_base is = subst CanBeNamed one.acts_for is
 
-  client_of_base : (side : ClientSide) → IsClientOf words side → IsClientOf base side
+  pub client_of_base : (side : ClientSide) → IsClientOf words side → IsClientOf base side
   client_of_base side is = record {
     version = is.version ∙ one.version;
     user = is.user ∙ one.username;

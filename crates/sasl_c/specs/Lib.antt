@@ -20,6 +20,7 @@ pub mod Lines
 pub mod SaslServer
 pub mod ServerCalls
 pub mod ClientCalls
+pub mod ClientMessages
 pub mod Peeks
 pub mod Steps
 pub mod Saslprep
