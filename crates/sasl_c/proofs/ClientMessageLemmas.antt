@@ -84,8 +84,10 @@ module _ (base : Login) where
       let too = client_of_base base login one other others in
       let channel = same_channel side other is.0 too in
       let text = base64_text nonce in
-      let named = ap (λ (f : ChannelBindingFlag). client_first_with (record { flag = f; acts_for = other.acts_for }) other.user text)
-      channel.flag ∙ (ap (λ (a : Option (List ℕ)). client_first_with (record {
+      let named = ap (λ (f : ChannelBindingFlag). client_first_with (record {
+        flag = f;
+        acts_for = other.acts_for;
+      }) other.user text) channel.flag ∙ (ap (λ (a : Option (List ℕ)). client_first_with (record {
         flag = flag_of side.channel;
         acts_for = a;
       }) other.user text) (too.header.1 ∙ sym is.0.header.1) ∙ ap (λ (u : List ℕ). client_first_with (record {
