@@ -45,3 +45,4 @@ pub mod ClientDoneLemmas
 pub mod SameLoginLemmas
 pub mod ClientCallLemmas
 pub mod ClientMessageLemmas
+pub mod ServerMessageLemmas

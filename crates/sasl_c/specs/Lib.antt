@@ -21,6 +21,7 @@ pub mod SaslServer
 pub mod ServerCalls
 pub mod ClientCalls
 pub mod ClientMessages
+pub mod ServerMessages
 pub mod Peeks
 pub mod Steps
 pub mod Saslprep
