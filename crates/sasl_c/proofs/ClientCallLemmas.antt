@@ -1,25 +1,22 @@
 -- Calls over one struct of a client are calls of one side: `calls_connect`.
 use Rattle.std.proofs.Common.{arith, refl, sym, ap, subst, inl, inr, ◌∙◌, ◌≡◌, ◌≢◌, ◌∷◌, ℕ, List, []}
-use Rattle.std.specs.Prelude.{Bool, true, false, if◌then◌else◌, Option, Ok, Err, take, drop, replicate}
+use Rattle.std.specs.Prelude.{Bool, true, false, if◌then◌else◌, Option, Ok, Err, take, drop}
 use Rattle.fe2o3_scram.specs.ClientKeys.{ClientKeys}
 use Rattle.fe2o3_scram.specs.ScramClient.{ClientState, ClientInitial, ClientFirstSent, ClientFinalSent, SignatureVerified, Complete, is_complete, with_state}
 use Rattle.fe2o3_sasl_core.specs.Profiles.{AnonymousProfile, ExternalProfile, MessageProfile, PlainProfile, Profile, ScramProfile}
 use Rattle.fe2o3_sasl_negotiation.specs.ClientNegotiation.{ClientSideAnswers}
 use Rattle.fe2o3_sasl_negotiation.specs.Connections.{fresh}
-use Rattle.fe2o3_sasl_negotiation.specs.Laws.{Call, Calls}
+use Rattle.fe2o3_sasl_negotiation.specs.Laws.{Calls}
 use Rattle.fe2o3_sasl_negotiation.specs.Negotiations.{Reading, ReceivesAt, Side}
-use Rattle.fe2o3_sasl_negotiation.specs.declared.progress.Expected.TheVariants.{Header}
 use Rattle.fe2o3_sasl_negotiation.specs.declared.progress.Progress.{Progress}
 use Rattle.fe2o3_sasl_negotiation.specs.declared.progress.Progress.TheVariants.{InProgress}
 use Rattle.sasl_c.specs.declared.client.ScramClient.{ScramClient as ScramStruct}
-use Rattle.sasl_c.specs.declared.connection.Connection.{Connection}
-use Rattle.sasl_c.specs.declared.keys.ScramKeys.{ScramKeys as KeysStruct}
 use Rattle.sasl_c.specs.declared.sasl_client.SaslClient.{SaslClient as Struct}
 use Rattle.sasl_c.specs.declared.sasl_client.SaslLogin.{SaslLogin as Login}
 use Rattle.sasl_c.specs.declared.status.WriteError.TheVariants.{RoomTooSmall, Other}
 use Rattle.sasl_c.specs.Client.{IsState, WritesClient, fresh_client_struct}
-use Rattle.sasl_c.specs.ClientCalls.{CallsWithOneLoginConnect, CallsOverClient, HasSentNothing, IsNewProfile, IsZeroClient, LoginsSpellClients, SameLogin, ReturnsAreClientCalls, ClientCall, ZerosAreNewClients, answered_by_client}
-use Rattle.sasl_c.specs.Connection.{Keeps, accepts_extended}
+use Rattle.sasl_c.specs.ClientCalls.{CallsWithOneLoginConnect, CallsOverClient, IsNewProfile, LoginsSpellClients, SameLogin, ReturnsAreClientCalls, ClientCall, ZerosAreNewClients, answered_by_client}
+use Rattle.sasl_c.specs.Connection.{accepts_extended}
 use Rattle.sasl_c.specs.Keys.{WritesKeys}
 use Rattle.sasl_c.specs.SaslClient.{ClientTakes, IsClient, IsDueIn, IsHostname, IsProfile, ReceivesAsClient, WritesProfile}
 use Rattle.sasl_c.proofs.CallLemmas.{flag_again, keeps_zeros, one_side, side_so, waiting, waits}
@@ -242,7 +239,8 @@ new_of login scram (MessageProfile mechanism message is_due) is = ((is.0, is.1, 
 
 pub logins_spell_clients : LoginsSpellClients
 unfolding ReceivesAsClient
-logins_spell_clients login bytes nonce sent before after taken (host, side, next, hosts, is, all) =
+logins_spell_clients login bytes nonce sent before after taken
+    (host, side, next, hosts, is, wants, takes, shows, written) =
     (host, renewed side.state, hosts, new_of login before.scram side.state is.1)
 
 pub returns_are_calls : ReturnsAreClientCalls

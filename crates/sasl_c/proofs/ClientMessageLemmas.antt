@@ -1,16 +1,16 @@
 -- Calls over one struct of a client of SCRAM are calls of one client: `messages_are_of_client`.
 use Rattle.std.proofs.Common.{arith, refl, sym, ap, subst, ◌∙◌, ◌≡◌, ◌≢◌, ◌∷◌, ℕ, List, []}
-use Rattle.std.specs.Prelude.{Option, Some, Ok, Err}
+use Rattle.std.specs.Prelude.{Option, Ok, Err}
 use Rattle.fe2o3_scram.specs.ChannelBinding.{flag_of}
 use Rattle.fe2o3_scram.specs.ClientFirst.{client_first_bare, client_first_with}
 use Rattle.fe2o3_scram.specs.ClientKeys.{ClientKeys}
-use Rattle.fe2o3_scram.specs.ScramClient.{AnswersIn, ClientSide, ClientState, ClientInitial, ClientFirstSent, ClientFinalSent, SignatureVerified, Complete, VerifiesIn, identity_named, started}
+use Rattle.fe2o3_scram.specs.ScramClient.{AnswersIn, ClientSide, ClientState, ClientInitial, ClientFirstSent, ClientFinalSent, SignatureVerified, Complete, VerifiesIn, started}
 use Rattle.fe2o3_scram.specs.Texts.{base64_text}
 use Rattle.fe2o3_scram.specs.declared.scram_messages.channel_binding_flag.ChannelBindingFlag.{ChannelBindingFlag}
 use Rattle.sasl_c.specs.declared.client.ScramClient.{ScramClient as Struct}
 use Rattle.sasl_c.specs.declared.login.Login.{Login}
 use Rattle.sasl_c.specs.declared.status.WriteError.TheVariants.{RoomTooSmall, Other}
-use Rattle.sasl_c.specs.Client.{AnswersByMessage, IsClientOf, IsSide, IsState, Responds, Verifies, WritesClient, complete_struct, fresh_client_struct, started_struct}
+use Rattle.sasl_c.specs.Client.{AnswersByMessage, IsClientOf, IsSide, IsState, Responds, Verifies, WritesClient, complete_struct, fresh_client_struct}
 use Rattle.sasl_c.specs.ClientCalls.{SameWords}
 use Rattle.sasl_c.specs.ClientMessages.{CallsOfClient, CallsOverScram, FinalCall, FirstCall, MakesCall, MessageCall, FinalCallsReturn, FirstCallsReturn, MessagesAreOfClient, TakesCall, VerifyCall, VerifyCallsReturn}
 use Rattle.sasl_c.proofs.CallNumberLemmas.{status_not_zero}

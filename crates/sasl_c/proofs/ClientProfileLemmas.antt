@@ -1,6 +1,6 @@
 -- Two profiles of one login take the same steps on a connection, whatever keys they keep (AMQP 1.0, part 5, section 5.3.2):
 -- `received_alike`.
-use Rattle.std.proofs.Common.{refl, sym, ap, subst, inl, inr, ◌∙◌, ◌≡◌, ◌≢◌, ◌⊎◌, ◌++◌, ℕ, List, []}
+use Rattle.std.proofs.Common.{refl, sym, ap, subst, inl, inr, ◌∙◌, ◌≡◌, ◌≢◌, ◌⊎◌, ℕ, List}
 use Rattle.std.specs.Prelude.{Bool, true, false, ◌&&◌, Option, Some, None, Result, Ok, Err, drop}
 use Rattle.std.specs.List.{Contains}
 use Rattle.fe2o3_sasl_wire.specs.declared.amqp_types.SaslCode.TheVariants as outcomes

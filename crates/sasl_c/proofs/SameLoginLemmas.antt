@@ -1,13 +1,12 @@
 -- The profiles of one login and one struct are alike, and a login of the same values has the same profiles: `alike_of`,
 -- `of_base`.
-use Rattle.std.proofs.Common.{arith, refl, sym, ap, subst, inl, inr, ◌∙◌, ◌≡◌, ◌≢◌, ◌≤◌, ◌⊎◌, ℕ, List, []}
+use Rattle.std.proofs.Common.{arith, refl, sym, ap, subst, inl, inr, ◌∙◌, ◌≡◌, ◌≢◌, ◌≤◌, ℕ, List}
 use Rattle.std.specs.Prelude.{Bool, true, false, ◌||◌, is_some, Option, Some, None, take}
-use Rattle.fe2o3_scram.specs.ChannelBinding.{ClientHeader, data_bytes}
 use Rattle.fe2o3_scram.specs.ClientFirst.{client_first_bare}
 use Rattle.fe2o3_scram.specs.ClientKeys.{ClientKeys}
 use Rattle.fe2o3_scram.specs.ClientSecret.{Secret, Password, Keys, Both}
 use Rattle.fe2o3_scram.specs.Passwords.{PasswordText, Typed, Prepared}
-use Rattle.fe2o3_scram.specs.ScramClient.{ClientSide, ClientState, ClientInitial, ClientFirstSent, ClientFinalSent, SignatureVerified, Complete, header_in, identity_named}
+use Rattle.fe2o3_scram.specs.ScramClient.{ClientSide, ClientState, ClientInitial, ClientFirstSent, ClientFinalSent, SignatureVerified, Complete, identity_named}
 use Rattle.fe2o3_scram.specs.declared.channel_binding.ChannelKind.{ChannelKind}
 use Rattle.fe2o3_scram.specs.declared.channel_binding.ChannelKind.TheVariants.{TlsUnique, TlsServerEndPoint, TlsExporter}
 use Rattle.fe2o3_scram.specs.declared.client_secret.IterationLimits.{IterationLimits}
@@ -22,12 +21,12 @@ use Rattle.sasl_c.specs.declared.keys.ScramKeys.{ScramKeys as KeysStruct}
 use Rattle.sasl_c.specs.declared.login.Login.{Login as Words}
 use Rattle.sasl_c.specs.declared.sasl_client.SaslLogin.{SaslLogin as Login}
 use Rattle.sasl_c.specs.Channels.{IsChannel, kind_number}
-use Rattle.sasl_c.specs.Client.{CanBeNamed, Holds, HoldsNone, IsChannelOf, IsClientOf, IsHeaderOf, IsSecretOf, IsState, is_set}
+use Rattle.sasl_c.specs.Client.{CanBeNamed, Holds, HoldsNone, IsChannelOf, IsClientOf, IsSecretOf, IsState, is_set}
 use Rattle.sasl_c.specs.ClientCalls.{SameLogin, SameWords}
 use Rattle.sasl_c.specs.Keys.{KeysHaveRoom, ShowsKeys, WritesKeys, no_keys_struct, shown_keys}
 use Rattle.sasl_c.specs.Passwords.{IsPassword}
 use Rattle.sasl_c.specs.Records.{IsVersion}
-use Rattle.sasl_c.specs.SaslClient.{CanSendWords, IsDueIn, IsHostname, IsPlainOf, IsProfile, NamesNoIdentity, is_strict_plain, message_number}
+use Rattle.sasl_c.specs.SaslClient.{CanSendWords, IsDueIn, IsHostname, IsPlainOf, IsProfile, is_strict_plain, message_number}
 use Rattle.sasl_c.proofs.ClientAlikeLemmas.{Follows, SameChannel, made, rekeyed}
 use Rattle.sasl_c.proofs.ClientProfileLemmas.{Alike, SameKeys, same_keys}
 use Rattle.sasl_c.proofs.FieldLemmas.{one_number}
