@@ -43,7 +43,7 @@ use Rattle.sasl_c.proofs.ServerReplyLemmas.{kept_by, restored_so}
 -- ---- the side that a struct is of
 
 -- a struct that waits is of a side that waits
-waits : (connection : Connection) (stands : Progress) (expected : Expected) (held : List ℕ)
+pub waits : (connection : Connection) (stands : Progress) (expected : Expected) (held : List ℕ)
     → Keeps connection stands expected held → connection.progress ≡ 0 → stands ≡ InProgress
 waits connection InProgress expected held keeps zero = refl
 waits connection Authenticated expected held keeps zero =
@@ -51,20 +51,20 @@ waits connection Authenticated expected held keeps zero =
 waits connection (Failed why) expected held keeps zero =
     let two : connection.progress ≡ 2 = keeps.progress.0 in absurd (omega (arith, zero, two))
 
-waiting : (connection : Connection) (stands : Progress) (expected : Expected) (held : List ℕ)
+pub waiting : (connection : Connection) (stands : Progress) (expected : Expected) (held : List ℕ)
     → Keeps connection stands expected held → stands ≡ InProgress → Keeps connection InProgress expected held
 waiting connection stands expected held keeps same =
     subst (λ (s : Progress). Keeps connection s expected held) same keeps
 
-side_of : {S : Type 0} → Progress → Expected → ℕ → List ℕ → S → Side S
+pub side_of : {S : Type 0} → Progress → Expected → ℕ → List ℕ → S → Side S
 side_of stands expected limit held state =
     record { progress = stands; expected = expected; limit = limit; held = held; state = state }
 
-side_so : {S : Type 0} (side : Side S) → side ≡ side_of side.progress side.expected side.limit side.held side.state
+pub side_so : {S : Type 0} (side : Side S) → side ≡ side_of side.progress side.expected side.limit side.held side.state
 unfolding side_of
 side_so side = refl
 
-one_side : (side : Side ServerAt) (stands : Progress) (expected : Expected) (limit : ℕ) (held : List ℕ)
+pub one_side : {S : Type 0} (side : Side S) (stands : Progress) (expected : Expected) (limit : ℕ) (held : List ℕ)
     → side.progress ≡ stands → side.expected ≡ expected → side.limit ≡ limit → side.held ≡ held
     → side ≡ side_of stands expected limit held side.state
 one_side side stands expected limit held p e l h = side_so side ∙ by p e l h
@@ -94,7 +94,7 @@ pub shows_going : (scram : ScramStruct) (stands : Progress) (stage : KeptStage) 
     → ShowsProgress scram stands stage → ShowsStage scram stage
 shows_going scram stands stage same shows = subst (λ (s : Progress). ShowsProgress scram s stage) same shows
 
-flag_again : (accepts : Bool) → is_set (flag_number accepts) ≡ accepts
+pub flag_again : (accepts : Bool) → is_set (flag_number accepts) ≡ accepts
 flag_again true = refl
 flag_again false = refl
 
@@ -275,13 +275,21 @@ keeps_zero : (extended : ℕ) → Keeps (zero_connection extended) InProgress He
 unfolding zero_connection
 keeps_zero extended = record { progress = refl; expected = refl; len = omega arith; held = refl }
 
-zero_so : (server : Struct) → IsZero server → server.connection ≡ zero_connection server.connection.extended_headers
+-- a connection of zeros is one that has received nothing
+pub keeps_zeros : (connection : Connection) → connection ≡ record {
+  progress = 0;
+  why = 0;
+  expected = 0;
+  held_len = 0;
+  held = replicate 512 0;
+  extended_headers = connection.extended_headers;
+} → Keeps connection InProgress Header []
 unfolding zero_connection
-zero_so server is = is.0
+keeps_zeros connection is = subst (λ (c : Connection). Keeps c InProgress Header []) (sym is)
+    (keeps_zero connection.extended_headers)
 
 keeps_first : (server : Struct) → IsZero server → Keeps server.connection InProgress Header []
-keeps_first server is = subst (λ (c : Connection). Keeps c InProgress Header []) (sym (zero_so server is))
-    (keeps_zero server.connection.extended_headers)
+keeps_first server is = keeps_zeros server.connection is.0
 
 shows_first : (server : Struct) → IsZero server → ShowsStage server.scram KeptNothing
 shows_first server is =

@@ -60,7 +60,7 @@ server_not_zero server.IllegalAuthenticatorState same = absurd (omega (arith, sa
 server_not_zero server.MisplacedAttribute same = absurd (omega (arith, same))
 server_not_zero server.OutOfMemory same = absurd (omega (arith, same))
 
-status_not_zero : (status : Status) → status_number status ≢ 0
+pub status_not_zero : (status : Status) → status_number status ≢ 0
 status_not_zero statuses.OutOfMemory same = absurd (omega (arith, same))
 status_not_zero statuses.NotUtf8 same = absurd (omega (arith, same))
 status_not_zero statuses.NoSuchVersion same = absurd (omega (arith, same))

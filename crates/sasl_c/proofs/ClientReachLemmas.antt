@@ -153,7 +153,7 @@ scram_moves words client hostname nonce (frames.Init mechanism response host) re
 scram_moves words client hostname nonce (frames.Response text) reply moved is stands = (client, is.1, stands)
 
 -- a profile that is not of SCRAM stays as it is
-plain_stays : (identity user password : List ℕ) (hostname : Option (List ℕ)) (nonce : List ℕ) (frame : SaslFrame)
+pub plain_stays : (identity user password : List ℕ) (hostname : Option (List ℕ)) (nonce : List ℕ) (frame : SaslFrame)
     (reply : Result SaslFrame ProfileError) (moved : Profile)
     → profile_machine (PlainProfile identity user password) hostname nonce frame reply moved
     → moved ≡ PlainProfile identity user password
@@ -164,7 +164,7 @@ plain_stays identity user password hostname nonce (frames.Outcome code more) rep
 plain_stays identity user password hostname nonce (frames.Init mechanism response host) reply moved is = is.1
 plain_stays identity user password hostname nonce (frames.Response text) reply moved is = is.1
 
-anonymous_stays : (hostname : Option (List ℕ)) (nonce : List ℕ) (frame : SaslFrame)
+pub anonymous_stays : (hostname : Option (List ℕ)) (nonce : List ℕ) (frame : SaslFrame)
     (reply : Result SaslFrame ProfileError) (moved : Profile)
     → profile_machine AnonymousProfile hostname nonce frame reply moved → moved ≡ AnonymousProfile
 anonymous_stays hostname nonce (frames.Mechanisms names) reply moved (inl is) = is.2
@@ -174,7 +174,7 @@ anonymous_stays hostname nonce (frames.Outcome code more) reply moved is = is.1
 anonymous_stays hostname nonce (frames.Init mechanism response host) reply moved is = is.1
 anonymous_stays hostname nonce (frames.Response text) reply moved is = is.1
 
-external_stays : (hostname : Option (List ℕ)) (nonce : List ℕ) (frame : SaslFrame)
+pub external_stays : (hostname : Option (List ℕ)) (nonce : List ℕ) (frame : SaslFrame)
     (reply : Result SaslFrame ProfileError) (moved : Profile)
     → profile_machine ExternalProfile hostname nonce frame reply moved → moved ≡ ExternalProfile
 external_stays hostname nonce (frames.Mechanisms names) reply moved (inl is) = is.2
@@ -185,7 +185,7 @@ external_stays hostname nonce (frames.Init mechanism response host) reply moved 
 external_stays hostname nonce (frames.Response text) reply moved is = is.1
 
 -- a profile of a single message keeps it
-message_stays : (mechanism : MessageMechanism) (message : List ℕ) (is_due : Bool) (hostname : Option (List ℕ))
+pub message_stays : (mechanism : MessageMechanism) (message : List ℕ) (is_due : Bool) (hostname : Option (List ℕ))
     (nonce : List ℕ) (frame : SaslFrame) (reply : Result SaslFrame ProfileError) (moved : Profile)
     → profile_machine (MessageProfile mechanism message is_due) hostname nonce frame reply moved
     → (due : Bool) × (moved ≡ MessageProfile mechanism message due)

@@ -39,3 +39,10 @@ pub mod CallSettingLemmas
 pub mod CallLemmas
 pub mod CallStoreLemmas
 pub mod CallNumberLemmas
+pub mod ClientAlikeLemmas
+pub mod ClientProfileLemmas
+pub mod ClientDoneLemmas
+pub mod SameLoginLemmas
+pub mod ClientCallLemmas
+pub mod ClientMessageLemmas
+pub mod ServerMessageLemmas

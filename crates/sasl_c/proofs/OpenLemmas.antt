@@ -37,7 +37,7 @@ read_again (Required TlsServerEndPoint) = refl
 read_again (Required TlsExporter) = refl
 
 -- two open challenges of a struct have one flag
-one_header : (server : Struct) (challenge other : ServerChallenge) → IsOpen server challenge → IsOpen server other
+pub one_header : (server : Struct) (challenge other : ServerChallenge) → IsOpen server challenge → IsOpen server other
     → other.header.flag ≡ challenge.header.flag
 one_header server challenge other shown too =
     let same : Some other.header.flag ≡ Some challenge.header.flag = sym (read_again other.header.flag)

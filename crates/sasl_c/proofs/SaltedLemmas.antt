@@ -211,7 +211,7 @@ record_is_of_password version form password salted salt count (Err status) of no
 )
 
 -- a struct shows one record
-one_shown : (kept : ScramRecord) (shown other : VersionedRecord) → ShowsRecord kept shown → ShowsRecord kept other
+pub one_shown : (kept : ScramRecord) (shown other : VersionedRecord) → ShowsRecord kept shown → ShowsRecord kept other
     → other ≡ shown
 one_shown kept shown other is too =
     let hash : other.version ≡ shown.version = of_one kept.version shown.version other.version is.0 too.0 in

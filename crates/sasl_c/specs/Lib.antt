@@ -19,6 +19,9 @@ pub mod Frames
 pub mod Lines
 pub mod SaslServer
 pub mod ServerCalls
+pub mod ClientCalls
+pub mod ClientMessages
+pub mod ServerMessages
 pub mod Peeks
 pub mod Steps
 pub mod Saslprep

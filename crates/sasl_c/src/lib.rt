@@ -19,6 +19,7 @@ mod channels;
 mod client;
 mod client_calls;
 mod client_final;
+mod client_laws;
 mod client_steps;
 mod connection;
 mod exchange;

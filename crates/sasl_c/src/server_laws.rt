@@ -1,6 +1,7 @@
 //! What several calls over one struct of a server are together. Each function has an empty body and states only its contract.
 
 ghost use Rattle.sasl_c.specs.ServerCalls.{CallsWithOneStoreConnect, CallsWithOneUserConnect, ReturnsAreCalls, StoredUsersAreHad, ZerosAreFresh};
+ghost use Rattle.sasl_c.specs.ServerMessages.{ChallengesReturn, MessagesAreOfServer, OutcomesReturn};
 
 /// Any number of calls of `fe2o3_sasl_server_receive` over one struct that begins with zeros, over any stream in any pieces,
 /// are one connection of the library's `Server`. Each call that returned FE2O3_OK takes the same bytes and sends the same,
@@ -20,4 +21,18 @@ pub fn server_calls()
     ensures one_user { CallsWithOneUserConnect }
     ensures one_store { CallsWithOneStoreConnect }
     ensures stored { StoredUsersAreHad }
+{}
+
+/// Any number of calls of `fe2o3_scram_server_first_with_rules` and `fe2o3_scram_server_final_with_rules` over one struct that
+/// begins with zeros, in any order, are calls of one `ScramAuthenticator`, if each call is passed the same rules and what one
+/// store has of the user that is named (`PassesRecord`). Each call that returned FE2O3_OK writes the same message. The
+/// struct after the calls shows the state of that server: the challenge that is open, or the user who has logged in and the
+/// identity that it acts for. The calls without rules are those with rules of zeros.
+///
+/// `first` and `last` say by the number that a call returns what it has done. A call that returned an error does not
+/// change the struct.
+pub fn server_messages()
+    ensures first { ChallengesReturn }
+    ensures last { OutcomesReturn }
+    ensures one_store { MessagesAreOfServer }
 {}
