@@ -1,15 +1,17 @@
 //! The file of a database, at the edge of a program.
 
-ghost use Rattle.std.specs.Prelude.{IsTrue, IfOk, OnOk, [], ◌∷◌};
+ghost use Rattle.std.specs.Prelude.{◌≡◌, ◌+◌, ◌%◌, ◌^◌, IsTrue, IfOk, OnOk, [], ◌∷◌, take};
+ghost use Rattle.sqlite_format.specs.Bytes.{u32_at};
 ghost use Rattle.sqlite_disk.specs.Disk.{Holds, Only};
 ghost use Rattle.sqlite_pool.specs.Opening.{AreUsable};
 ghost use Rattle.sqlite_pool.specs.Pool.{state, usable};
 ghost use Rattle.sqlite_pool.specs.File.{SameButHeader, in_use};
 
 use crate::error::{DatabaseError, of_pages, of_system};
-use crate::read_only::Reading;
-use crate::{new_file, read_only, schema};
+use crate::read_only::{Mark, Reading};
+use crate::{new_file, schema};
 use sqlite_disk::{Disk, Files};
+use sqlite_format::bytes::{get_u32, put_u32};
 use sqlite_pager::{Options, Pager};
 use sqlite_pages::Error;
 use sqlite_pool::{Pool, probe_blank};
@@ -18,7 +20,7 @@ use sqlite_wal::{PageSize, probe_page_size};
 use std::alloc::Global;
 use std::hash::{BuildHasher, RandomState};
 use std::io::ErrorKind;
-use std::time::Duration;
+use std::time::{Duration, Instant};
 use std::{fs, thread};
 
 /// The time between two tries to open a file that another program has open, in milliseconds.
@@ -33,24 +35,55 @@ const CACHE: usize = 64;
 /// The page size of a new file, in bytes.
 const NEW_PAGE: usize = 4096;
 
-/// Opens a database to read it, under SQLite's shared lock: other programs can read it meanwhile, and none can change it.
-/// While a change is under way, tries again for this many seconds. Needs no right to write the file or its folder.
-pub fn read(rt: &HostRuntime, path: &str, wait: u32) -> Result<Pool<Reading>, DatabaseError> {
-    for _ in 0..u64::from(wait).saturating_mul(PAUSES) {
-        match read_once(rt, path) {
-            Err(DatabaseError::Locked | DatabaseError::Journal) => pause(rt),
-            opened => return opened,
+/// Reads a database without a lock, and returns what `look_up` returns of its pages. Other programs can read and change it
+/// meanwhile: if it was changed, or a change is under way, `look_up` is called again, for this many seconds. Needs no right
+/// to write the file or its folder.
+pub fn read<T: Drop, F: Fn(&mut Pool<Reading>) -> T>(
+    rt: &HostRuntime,
+    path: &str,
+    wait: u32,
+    look_up: F,
+) -> Result<T, DatabaseError>
+    requires { F.IsAlwaysCallable look_up }
+{
+    let (begun, wait) = (
+        Instant::now(rt).map_err(of_system)?,
+        Duration::from_secs(u64::from(wait)),
+    );
+    for _ in 0..u64::MAX {
+        match read_once(rt, path, &look_up) {
+            Err(DatabaseError::Locked | DatabaseError::Journal)
+                if begun.elapsed(rt).map_err(of_system)? < wait => {
+                pause(rt);
+            }
+            answer => return answer,
         }
     }
-    read_once(rt, path)
+    Err(DatabaseError::Locked)
 }
 
-/// Opens a database to read it.
-fn read_once(rt: &HostRuntime, path: &str) -> Result<Pool<Reading>, DatabaseError> {
+/// Reads a database once. If it was changed meanwhile the error is `Locked`.
+fn read_once<T: Drop, F: Fn(&mut Pool<Reading>) -> T>(
+    rt: &HostRuntime,
+    path: &str,
+    look_up: &F,
+) -> Result<T, DatabaseError>
+    requires { F.IsAlwaysCallable look_up.now }
+{
     if is_empty_file(rt, path)? {
         return Err(DatabaseError::Missing);
     }
-    whole(rt.alloc(), read_only::open(rt, path)?, options(rt)?, false)
+    let (mark, file) = Mark::of(rt, path)?;
+    let files = mark.files(rt.alloc(), file)?;
+    let answer = match whole(rt.alloc(), files, options(rt)?, false) {
+        Ok(mut pages) => Ok(look_up(&mut pages)),
+        Err(error) => Err(error),
+    };
+    if mark.is_current(rt, path)? {
+        answer
+    } else {
+        Err(DatabaseError::Locked)
+    }
 }
 
 /// Opens a database to change it. While another program has it open, tries again for this many seconds. The file is
@@ -75,14 +108,10 @@ pub fn open(
 /// Opens a database to change it. If `makes` is set, makes a missing file first.
 fn open_once(rt: &HostRuntime, path: &str, makes: bool) -> Result<Pool<File>, DatabaseError> {
     match is_empty_file(rt, path) {
-        Ok(false) => {}
-        Ok(true) if makes => new_file::remove_old_log(rt, path)?,
-        Err(DatabaseError::Missing) if makes => {
-            new_file::make(rt, path)?;
-            new_file::remove_old_log(rt, path)?;
-        }
-        Ok(true) => return Err(DatabaseError::Missing),
+        Err(DatabaseError::Missing) if makes => new_file::make(rt, path)?,
+        Ok(true) if !makes => return Err(DatabaseError::Missing),
         Err(error) => return Err(error),
+        Ok(_) => {}
     }
     match sqlite_std_file::open(rt, path, Unknown) {
         Ok(files) => whole(rt.alloc(), files, options(rt)?, makes),
@@ -108,12 +137,16 @@ fn pause(rt: &HostRuntime) {
 /// Recovers the database of files that are locked. If there is no table yet and `makes` is set, makes the table of users.
 fn whole<D: Disk + Drop>(
     alloc: Global,
-    files: Files<D>,
+    mut files: Files<D>,
     options: Options,
     makes: bool,
 ) -> Result<Pool<D>, DatabaseError> {
     if !files.may_be_used() {
         return Err(DatabaseError::Io);
+    }
+    if makes && files.db.len().map_err(of_system)? == 0 {
+        // As in SQLite: a log beside an empty file is that of another file.
+        files.log.set_len(0).map_err(of_system)?;
     }
     let mut pool = opened(alloc, files, options, makes)?;
     if schema::is_empty(alloc, &mut pool)? {
@@ -203,15 +236,32 @@ pub fn close(rt: &HostRuntime, path: &str, mut pool: Pool<File>) -> Result<(), D
     new_file::remove_beside(rt, path, "shm")
 }
 
-/// Writes to the header that the file has no log (fileformat2.html, section 1.3.3).
+/// Writes to the header that the file has no log, and counts the change, as SQLite does in rollback-journal mode.
 fn state_no_log<D: Disk>(db: &mut D) -> Result<(), DatabaseError>
     ensures { OnOk result (Holds (D.Disk.seen db.new) 18 (1 ∷ 1 ∷ []) × Only (D.Disk.seen db.new) (D.Disk.may_leave db.new)) }
 {
     if !db.may_be_used() {
         return Err(DatabaseError::Io);
     }
-    db.write_at(18, &[1, 1]).map_err(of_system)?;
+    let mut header = [0; 78];
+    db.read_at(18, &mut header).map_err(of_system)?;
+    count_change(&mut header);
+    // One write, since a header whose two counters differ is not valid.
+    db.write_at(18, &header).map_err(of_system)?;
     db.sync().map_err(of_system)
+}
+
+/// Changes bytes 18 to 96 of a header: there is no log, and both counters are one higher (fileformat2.html, section 1.3).
+fn count_change(header: &mut [u8; 78])
+    ensures log { take 2 header.new ≡ 1 ∷ 1 ∷ [] }
+    ensures counter { u32_at header.new 6 ≡ (u32_at header.old 6 + 1) % 2 ^ 32 }
+    ensures valid { u32_at header.new 74 ≡ u32_at header.new 6 }
+{
+    let counter = get_u32(header, 6).wrapping_add(1);
+    put_u32(header, 6, counter);
+    put_u32(header, 74, counter);
+    header[0] = 1;
+    header[1] = 1;
 }
 
 /// Returns the pages of the files, which are not read yet.

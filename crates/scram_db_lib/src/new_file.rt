@@ -4,8 +4,6 @@ ghost use Rattle.std.specs.Prelude.{◌≡◌};
 ghost use Rattle.std.specs.Fs.{permissions_mode};
 
 use crate::error::{DatabaseError, of_system};
-use crate::read_only;
-use os::RangeLock;
 use std::fs;
 use std::fs::{OpenOptions, Permissions};
 use std::io::ErrorKind;
@@ -27,17 +25,6 @@ fn private() -> Permissions
     ensures { permissions_mode result ≡ 0o600 }
 {
     Permissions::from_mode(0o600)
-}
-
-/// Removes the log beside an empty file, as SQLite does: it is the log of another file.
-pub fn remove_old_log(rt: &HostRuntime, path: &str) -> Result<(), DatabaseError> {
-    let file = OpenOptions::new().read(true).write(true).open(rt, path);
-    let file = file.map_err(of_system)?;
-    read_only::lock(&file, RangeLock::Exclusive, 1 << 30, 512)?;
-    if file.metadata().map_err(of_system)?.len() > 0 {
-        return Ok(());
-    }
-    remove_beside(rt, path, "wal")
 }
 
 /// Removes a file of SQLite's beside a database, if it is there.

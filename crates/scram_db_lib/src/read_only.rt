@@ -1,27 +1,42 @@
-//! A database that is only read: under SQLite's shared lock, and with a copy of its log. Nothing is written.
+//! A database that is only read. No lock is taken and nothing is written: a look-up counts if nothing was changed meanwhile.
+//!
+//! A page of the file is overwritten only while the journal is hot (rollback-journal mode), or by a page that is in the log
+//! already (a checkpoint). Each finished change leaves another log, or counts in the header (bytes 24 to 28), or at least
+//! sets the file's time. So a read between two equal marks, both without a hot journal, is that of one state.
 
 ghost use Rattle.std.specs.Prelude.{◌≡◌, ◌+◌, false, IsErr};
 ghost use Rattle.sqlite_disk.specs.Disk.{CountsFault};
 ghost use Rattle.sqlite_disk.specs.Refusal.{finds_no_room};
 
 use crate::error::{DatabaseError, of_system};
-use os::RangeLock;
 use sqlite_disk::{Disk, Files, Memory, Tally, digest_of};
 use std::alloc::Global;
 use std::fs::File;
 use std::io::{Error, ErrorKind, Read};
-use std::os::fd::AsRawFd;
-use std::os::unix::fs::FileExt;
+use std::os::unix::fs::{FileExt, MetadataExt};
 use std::{fs, io};
 
-/// The byte that SQLite locks while a change waits for readers (`os.h`). The next one is that of a change under way.
-const PENDING: u64 = 1 << 30;
+/// What identifies the state of a database.
+#[derive(Drop)]
+pub struct Mark {
+    file: FileMark,
 
-/// The bytes that readers lock, from `PENDING + 2` on.
-const SHARED: u64 = 510;
+    /// The log beside the file, which has no bytes if there is none.
+    log: Vec<u8>,
+}
 
-/// The byte of SQLite's shared memory that it locks while it copies a log into its file (`wal.c`).
-const CHECKPOINT: u64 = 121;
+/// What identifies the state of a file.
+#[derive(PartialEq, Eq, Clone, Copy)]
+struct FileMark {
+    /// The first bytes of the file: SQLite's header.
+    header: [u8; 100],
+
+    /// Which file it is, and its length.
+    node: [u64; 3],
+
+    /// The time of the last write, in seconds and nanoseconds.
+    written: [i64; 2],
+}
 
 /// A file that is only read, or a copy of a log. A recovery may change the copy.
 #[derive(Drop)]
@@ -32,9 +47,6 @@ pub struct ReadOnly<D: Disk> {
     /// The copy, which has no bytes if there is a file.
     copy: D,
 
-    /// SQLite's shared memory, which is locked as long as it is open.
-    memory: Option<File>,
-
     /// How many calls failed that the copy did not count.
     failed: u64,
 }
@@ -42,94 +54,86 @@ pub struct ReadOnly<D: Disk> {
 /// A file or a log that is open for a look-up.
 pub type Reading = ReadOnly<Memory>;
 
-/// Opens a file under SQLite's shared lock, and copies its log, if there is one. The error is `Locked` while a change is
-/// under way, and `Journal` if a change of SQLite's was cut off.
-pub fn open(rt: &HostRuntime, path: &str) -> Result<Files<Reading>, DatabaseError> {
-    let alloc = rt.alloc();
-    // As in SQLite, the log is beside the file that a link leads to.
-    let real = fs::canonicalize(rt, path).map_err(of_system)?;
-    let file = fs::open(rt, real.as_str()).map_err(of_system)?;
-    lock(&file, RangeLock::Shared, PENDING, 1)?;
-    lock(&file, RangeLock::Shared, PENDING + 2, SHARED)?;
-    lock(&file, RangeLock::Unlock, PENDING, 1)?;
-    let journal = opened(rt, format!(in alloc; "{}-journal", real.as_str())?)?;
-    if is_cut_off(&file, journal)? {
-        return Err(DatabaseError::Journal);
+impl Mark {
+    /// Returns the mark of a database, and its file. The error is `Locked` if a change is seen, and `Journal` if the journal
+    /// is hot: a change of SQLite's writes the file, or was cut off.
+    pub fn of(rt: &HostRuntime, path: &str) -> Result<(Mark, File), DatabaseError> {
+        // As in SQLite, the log is beside the file that a link leads to.
+        let real = fs::canonicalize(rt, path).map_err(of_system)?;
+        let file = fs::open(rt, real.as_str()).map_err(of_system)?;
+        let mark = FileMark::of(&file)?;
+        let log = log_beside(rt, real.as_str())?;
+        if has_hot_journal(rt, real.as_str())? {
+            return Err(DatabaseError::Journal);
+        }
+        // The file comes before the journal and the log in the first mark of a look-up, and after them in the second one.
+        if FileMark::of(&file)? != mark {
+            return Err(DatabaseError::Locked);
+        }
+        Ok((Mark { file: mark, log }, file))
     }
-    let log = log_beside(rt, real.as_str())?;
-    let db = ReadOnly {
-        file: Some(file),
-        copy: Memory::new(alloc),
-        memory: None,
-        failed: 0,
-    };
-    Ok(Files { log, db })
+
+    /// Returns whether the database has not been changed since the mark.
+    pub fn is_current(&self, rt: &HostRuntime, path: &str) -> Result<bool, DatabaseError> {
+        let (now, _) = Mark::of(rt, path)?;
+        Ok(self.file == now.file && self.log == now.log)
+    }
+
+    /// Returns the file to read it with a copy of the log of the mark.
+    pub fn files(&self, alloc: Global, file: File) -> Result<Files<Reading>, DatabaseError> {
+        let mut log = ReadOnly {
+            file: None,
+            copy: Memory::new(alloc),
+            failed: 0,
+        };
+        if !log.may_be_used() {
+            return Err(DatabaseError::Io);
+        }
+        log.write_at(0, self.log.as_slice()).map_err(of_system)?;
+        let db = ReadOnly {
+            file: Some(file),
+            copy: Memory::new(alloc),
+            failed: 0,
+        };
+        Ok(Files { log, db })
+    }
 }
 
-/// Copies the log of a file. While the copy is held, SQLite copies no page of the log into the file.
-fn log_beside(rt: &HostRuntime, real: &str) -> Result<Reading, DatabaseError> {
-    let alloc = rt.alloc();
-    let name = format!(in alloc; "{real}-wal")?;
-    let mut log = ReadOnly {
-        file: None,
-        copy: Memory::new(alloc),
-        memory: None,
-        failed: 0,
-    };
+impl FileMark {
+    /// Returns the mark of a file.
+    fn of(file: &File) -> Result<FileMark, DatabaseError> {
+        let mut header = [0; 100];
+        file.read_at(&mut header, 0).map_err(of_system)?;
+        let found = file.metadata().map_err(of_system)?;
+        Ok(FileMark {
+            header,
+            node: [found.dev(), found.ino(), found.len()],
+            written: [found.mtime(), found.mtime_nsec()],
+        })
+    }
+}
+
+/// Copies the log of a file.
+fn log_beside(rt: &HostRuntime, real: &str) -> Result<Vec<u8>, DatabaseError> {
+    let name = format!(in rt.alloc(); "{real}-wal")?;
+    let mut bytes = Vec::new(rt.alloc());
     // A log without bytes may not yet have the owner and the mode of the file.
     if fs::metadata(rt, name.as_str()).is_ok_and(|found| found.len() == 0) {
-        return Ok(log);
+        return Ok(bytes);
     }
-    if let Some(file) = opened(rt, name)? {
-        log.memory = opened(rt, format!(in alloc; "{real}-shm")?)?;
-        if let Some(memory) = &log.memory {
-            lock(memory, RangeLock::Shared, CHECKPOINT, 1)?;
-        }
-        fill(alloc, file, &mut log.copy)?;
+    if let Some(mut log) = opened(rt, name)? {
+        log.read_to_end(&mut bytes).map_err(of_system)?;
     }
-    Ok(log)
+    Ok(bytes)
 }
 
-/// Copies a log to an empty disk. A log that SQLite begins again meanwhile is `Locked`.
-fn fill<D: Disk>(alloc: Global, mut log: File, copy: &mut D) -> Result<(), DatabaseError> {
-    let (mut bytes, mut head) = (Vec::new(alloc), [0; 32]);
-    log.read_to_end(&mut bytes).map_err(of_system)?;
-    let len = log.read_at(&mut head, 0).map_err(of_system)?;
-    if !bytes.as_slice().starts_with(&head[..len]) {
-        return Err(DatabaseError::Locked);
-    }
-    if !copy.may_be_used() {
-        return Err(DatabaseError::Io);
-    }
-    copy.write_at(0, bytes.as_slice()).map_err(of_system)
-}
-
-/// Returns whether a change of SQLite's was cut off: its journal has a head, and no program has the lock of a change.
-fn is_cut_off(file: &File, journal: Option<File>) -> Result<bool, DatabaseError> {
-    let Some(mut journal) = journal else {
-        return Ok(false);
-    };
+/// Returns whether the journal beside a file has a head. SQLite writes it before it changes pages, and removes it after.
+fn has_hot_journal(rt: &HostRuntime, real: &str) -> Result<bool, DatabaseError> {
     let mut first = [0];
-    if journal.read(&mut first).map_err(of_system)? == 0 || first[0] == 0 {
-        return Ok(false);
+    if let Some(mut journal) = opened(rt, format!(in rt.alloc(); "{real}-journal")?)? {
+        journal.read(&mut first).map_err(of_system)?;
     }
-    match lock(file, RangeLock::Shared, PENDING + 1, 1) {
-        // The change is not yet in the file.
-        Err(DatabaseError::Locked) => Ok(false),
-        Err(error) => Err(error),
-        Ok(()) => {
-            lock(file, RangeLock::Unlock, PENDING + 1, 1)?;
-            Ok(true)
-        }
-    }
-}
-
-/// Locks or unlocks bytes of an open file. The locks end when it is closed.
-pub fn lock(file: &File, kind: RangeLock, start: u64, len: u64) -> Result<(), DatabaseError> {
-    if os::try_lock_range(file.as_raw_fd(), kind, start, len) == 0 {
-        return Ok(());
-    }
-    Err(of_system(Error::from_raw_os_error(os::errno())))
+    Ok(first[0] != 0)
 }
 
 /// Opens a file to read it, if it is there.
