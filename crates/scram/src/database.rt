@@ -29,6 +29,58 @@ static VERSIONS: [ScramVersion; 3] = [
     ScramVersion::Sha512,
 ];
 
+/// What a look-up found.
+#[derive(Drop)]
+struct Found {
+    /// The lines of the records.
+    lines: String,
+
+    /// For the errors: which rows are no records.
+    wrong_rows: Vec<u8>,
+}
+
+impl Found {
+    fn new(alloc: Global) -> Found {
+        Found {
+            lines: String::new(alloc),
+            wrong_rows: Vec::new(alloc),
+        }
+    }
+
+    /// Adds which row is no record.
+    fn tell(
+        &mut self,
+        alloc: Global,
+        path: &str,
+        name: &[u8],
+        mechanism: &[u8],
+    ) -> Result<(), Stop> {
+        let start = format!(in alloc; "scram: {path}: the row of ")?;
+        self.wrong_rows.extend_from_slice(start.as_bytes())?;
+        self.wrong_rows.extend_from_slice(&shown(alloc, name)?)?;
+        self.wrong_rows.extend_from_slice(b" for ")?;
+        self.wrong_rows
+            .extend_from_slice(&shown(alloc, mechanism)?)?;
+        self.wrong_rows.extend_from_slice(b" is not a record\n")?;
+        Ok(())
+    }
+
+    /// Prints which rows are no records, and returns whether there are any.
+    fn print(&self, rt: &HostRuntime) -> bool {
+        // The command goes on or stops, whether or not that can be written.
+        let _ = rt.stderr().write_all(&self.wrong_rows);
+        !self.wrong_rows.is_empty()
+    }
+
+    /// Returns the lines of a user, if all rows of the user are records.
+    fn user_lines(self, rt: &HostRuntime) -> Result<String, Stop> {
+        if self.print(rt) {
+            return Err(stop_of(DatabaseError::WrongRow));
+        }
+        Ok(self.lines)
+    }
+}
+
 impl Database<HostRuntime> for SqliteFile {
     fn lines_of(
         &self,
@@ -37,8 +89,11 @@ impl Database<HostRuntime> for SqliteFile {
         name: &str,
         version: Option<ScramVersion>,
     ) -> Result<String, Stop> {
-        let mut pages = file::read(rt, path, WAIT).map_err(stop_of)?;
-        user_lines(rt, path, &mut pages, name, version)
+        let alloc = rt.alloc();
+        let found = file::read(rt, path, WAIT, |pages| {
+            find_user(alloc, path, pages, name, version)
+        });
+        found.map_err(stop_of)??.user_lines(rt)
     }
 
     fn first_line(
@@ -47,26 +102,19 @@ impl Database<HostRuntime> for SqliteFile {
         path: &str,
         version: ScramVersion,
     ) -> Result<String, Stop> {
-        let mut pages = file::read(rt, path, WAIT).map_err(stop_of)?;
-        let mut text = String::new(rt.alloc());
-        push_first(rt.alloc(), &mut pages, version, &mut text)?;
-        Ok(text)
+        let alloc = rt.alloc();
+        let found = file::read(rt, path, WAIT, |pages| find_first(alloc, pages, version));
+        found.map_err(stop_of)?
     }
 
     fn lines(&self, rt: &HostRuntime, path: &str) -> Result<String, Stop> {
         let alloc = rt.alloc();
-        let mut pages = file::read(rt, path, WAIT).map_err(stop_of)?;
-        let (mut walk, mut text) = (walk(alloc, &mut pages)?, String::new(alloc));
-        for _ in 0..u64::MAX {
-            if !walk.next(alloc, &mut pages).map_err(stop_of)? {
-                break;
-            }
-            if !push_row(alloc, &walk, &mut text)? {
-                tell(rt, path, walk.name(), walk.mechanism())?;
-                self.has_wrong_rows.set(true);
-            }
+        let found = file::read(rt, path, WAIT, |pages| find_all(alloc, path, pages));
+        let found = found.map_err(stop_of)??;
+        if found.print(rt) {
+            self.has_wrong_rows.set(true);
         }
-        Ok(text)
+        Ok(found.lines)
     }
 
     fn make_change<C: Change>(
@@ -89,33 +137,44 @@ impl Database<HostRuntime> for SqliteFile {
     }
 }
 
-/// Returns the lines of a user's records, for one mechanism or for all. A row that is no record is an error, which the
-/// errors get with the user's name.
-fn user_lines<P: Pages>(
-    rt: &HostRuntime,
+/// Finds a user's records, for one mechanism or for all.
+fn find_user<P: Pages>(
+    alloc: Global,
     path: &str,
     pages: &mut P,
     name: &str,
     version: Option<ScramVersion>,
-) -> Result<String, Stop> {
-    let alloc = rt.alloc();
+) -> Result<Found, Stop> {
     let root = schema::root(alloc, pages).map_err(stop_of)?;
-    let mut text = String::new(alloc);
+    let mut found = Found::new(alloc);
     for known in &VERSIONS {
         if version.is_none_or(|version| version == *known) {
             let mechanism = known.mechanism().as_bytes();
-            let found = table::fetch(alloc, pages, root, name.as_bytes(), mechanism);
-            let is_read = match found.transpose() {
-                Some(found) => push_user(alloc, name, *known, found, &mut text)?,
+            let user = table::fetch(alloc, pages, root, name.as_bytes(), mechanism);
+            let is_read = match user.transpose() {
+                Some(user) => push_user(alloc, name, *known, user, &mut found.lines)?,
                 None => true,
             };
             if !is_read {
-                tell(rt, path, name.as_bytes(), mechanism)?;
-                return Err(stop_of(DatabaseError::WrongRow));
+                found.tell(alloc, path, name.as_bytes(), mechanism)?;
             }
         }
     }
-    Ok(text)
+    Ok(found)
+}
+
+/// Finds all records.
+fn find_all<P: Pages>(alloc: Global, path: &str, pages: &mut P) -> Result<Found, Stop> {
+    let (mut walk, mut found) = (walk(alloc, pages)?, Found::new(alloc));
+    for _ in 0..u64::MAX {
+        if !walk.next(alloc, pages).map_err(stop_of)? {
+            break;
+        }
+        if !push_row(alloc, &walk, &mut found.lines)? {
+            found.tell(alloc, path, walk.name(), walk.mechanism())?;
+        }
+    }
+    Ok(found)
 }
 
 /// Appends the line of a record that was read, and returns whether there is one: its salt, count and keys may be none of a
@@ -154,19 +213,6 @@ fn valid_line(alloc: Global, name: &str, record: ScramRecord) -> Result<String, 
     Ok(line)
 }
 
-/// Prints, on the errors, whose row is no record.
-fn tell(rt: &HostRuntime, path: &str, name: &[u8], mechanism: &[u8]) -> Result<(), Stop> {
-    let alloc = rt.alloc();
-    let mut line = format!(in alloc; "scram: {path}: the row of ")?.into_bytes();
-    line.extend_from_slice(&shown(alloc, name)?)?;
-    line.extend_from_slice(b" for ")?;
-    line.extend_from_slice(&shown(alloc, mechanism)?)?;
-    line.extend_from_slice(b" is not a record\n")?;
-    // The command goes on or stops, whether or not that can be written.
-    let _ = rt.stderr().write_all(&line);
-    Ok(())
-}
-
 /// Changes the rows of a user.
 fn apply<P: Pages, C: Change>(
     rt: &HostRuntime,
@@ -176,11 +222,11 @@ fn apply<P: Pages, C: Change>(
     change: &C,
 ) -> Result<Changed, Stop> {
     let alloc = rt.alloc();
-    let old = user_lines(rt, path, pages, name, None)?;
+    let old = find_user(alloc, path, pages, name, None)?.user_lines(rt)?;
     let mut firsts = String::new(alloc);
     for version in &VERSIONS {
         if change.makes_record(&old, *version) {
-            push_first(alloc, pages, *version, &mut firsts)?;
+            firsts.push_str(&find_first(alloc, pages, *version)?)?;
         }
     }
     let changed = change.apply(rt, &old, &firsts)?;
@@ -192,24 +238,24 @@ fn apply<P: Pages, C: Change>(
     Ok(changed)
 }
 
-/// Appends the line of the first record for a version, in the order of the names, if there is one. Passes over rows that
-/// are no records.
-fn push_first<P: Pages>(
+/// Finds the line of the first record for a version, in the order of the names. Passes over rows that are no records.
+fn find_first<P: Pages>(
     alloc: Global,
     pages: &mut P,
     version: ScramVersion,
-    text: &mut String,
-) -> Result<(), Stop> {
-    let mut walk = walk(alloc, pages)?;
+) -> Result<String, Stop> {
+    let (mut walk, mut line) = (walk(alloc, pages)?, String::new(alloc));
     for _ in 0..u64::MAX {
         if !walk.next(alloc, pages).map_err(stop_of)? {
             break;
         }
-        if walk.mechanism() == version.mechanism().as_bytes() && push_row(alloc, &walk, text)? {
+        if walk.mechanism() == version.mechanism().as_bytes()
+            && push_row(alloc, &walk, &mut line)?
+        {
             break;
         }
     }
-    Ok(())
+    Ok(line)
 }
 
 /// Begins a walk over all rows.

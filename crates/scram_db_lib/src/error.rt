@@ -22,10 +22,10 @@ pub enum DatabaseError {
     /// The name is that of a folder, a pipe or a device.
     NotAFile,
 
-    /// Another program had the file open during the whole wait.
+    /// Another program had the file open, or changed it again and again, during the whole wait.
     Locked,
 
-    /// SQLite left a rollback journal, which only SQLite can play back.
+    /// There is a rollback journal: SQLite writes the file, or left a journal that only SQLite can play back.
     Journal,
 
     /// The file, its folder or its log cannot be opened.
@@ -61,7 +61,9 @@ impl DatabaseError {
             DatabaseError::DanglingLink => "it is a link to a file that does not exist",
             DatabaseError::NotAFile => "it is not a regular file",
             DatabaseError::Locked => "another program has it open",
-            DatabaseError::Journal => "it has a rollback journal: open it with sqlite3 first",
+            DatabaseError::Journal => {
+                "it has a rollback journal, of a change that is under way or was cut off: open it with sqlite3"
+            }
             DatabaseError::Unopened(ErrorKind::PermissionDenied) => {
                 "permission denied for it, its folder or its log"
             }
