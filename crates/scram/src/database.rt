@@ -264,7 +264,7 @@ fn walk<P: Pages>(alloc: Global, pages: &mut P) -> Result<Walk, Stop> {
     Ok(Walk::new(alloc, root))
 }
 
-/// Gives a user the row of the record for a mechanism, or none if there is no record.
+/// Gives a user the row of the record for a mechanism, or none if there is no record. Returns whether there was a row.
 fn put<P: Pages>(
     alloc: Global,
     pages: &mut P,
@@ -272,12 +272,12 @@ fn put<P: Pages>(
     name: &str,
     version: ScramVersion,
     users: &MultiRecordStore,
-) -> Result<(), Stop> {
+) -> Result<bool, Stop> {
     let mechanism = version.mechanism().as_bytes();
     let removed = table::remove(alloc, pages, root, name.as_bytes(), mechanism);
-    removed.map_err(DatabaseError::from).map_err(stop_of)?;
+    let was_there = removed.map_err(DatabaseError::from).map_err(stop_of)?;
     let Some(kept) = users.for_version(version).get_stored_password(name) else {
-        return Ok(());
+        return Ok(was_there);
     };
     let columns = Columns {
         salt: kept.salt,
@@ -290,7 +290,7 @@ fn put<P: Pages>(
         // The row was removed just before.
         return Err(stop_of(DatabaseError::Damaged));
     }
-    Ok(())
+    Ok(was_there)
 }
 
 /// Appends the line of the row of a walk, and returns whether it is a record.
