@@ -13,6 +13,7 @@ import hashlib
 import hmac
 import os
 import random
+import re
 import sqlite3
 import subprocess
 import sys
@@ -36,6 +37,12 @@ HASHES = {"SCRAM-SHA-1": "sha1", "SCRAM-SHA-256": "sha256", "SCRAM-SHA-512": "sh
 
 # SQLite's lock bytes (fileformat2.html, section 1.6: the lock page).
 LOCK_START, LOCK_LENGTH = 1 << 30, 512
+
+# The head of a journal (fileformat2.html, section 3).
+JOURNAL_HEAD = b"\xd9\xd5\x05\xf9 \xa1c\xd7"
+
+# The salt of changes that are taken back.
+TAKEN_BACK = b"never committed."
 
 
 def scram(*words, password="pencil"):
@@ -277,7 +284,7 @@ def is_plain(path):
     """Whether a file is in rollback-journal mode and has no log."""
     with open(path, "rb") as file:
         return file.read(20)[18:] == b"\1\1" and not any(
-            os.path.exists(path + end) for end in ("-wal", "-shm", "-journal")
+            os.path.exists(f"{path}{end}") for end in ("-wal", "-shm", "-journal")
         )
 
 
@@ -312,6 +319,7 @@ def beside_sqlite(folder):
     for begin in (
         "BEGIN; SELECT 1 FROM users LIMIT 1;",
         "BEGIN IMMEDIATE; DELETE FROM users WHERE name = 'user0000008';",
+        "BEGIN EXCLUSIVE; DELETE FROM users WHERE name = 'user0000008';",
     ):
         beside.do(begin)
         assert log_in(path, "user0000008")[:2] == (0, 0)
@@ -323,10 +331,6 @@ def beside_sqlite(folder):
         threading.Timer(1, lambda: beside.do("ROLLBACK;")).start()
         assert add(path, "late", "--wait", "30") == (0, "added\n")
         assert scram("users", "remove", "--db", path, "late")[0] == 0
-    beside.do("BEGIN EXCLUSIVE;")
-    assert scram("users", "check", "--db", path, "user0000007")[0] == 4
-    threading.Timer(1, lambda: beside.do("ROLLBACK;")).start()
-    assert log_in(path, "user0000007")[:2] == (0, 0)
     for number in range(5):
         copy = str(folder / f"copy{number}.db")
         thread = threading.Thread(target=add, args=(path, f"beside{number}"))
@@ -457,27 +461,91 @@ def journals(folder):
 
 
 def locked(folder):
-    """A file that stays locked is an error of its own, and no unknown user; one that is unlocked in time is read."""
+    """A file that SQLite writes all the time is an error of its own, and no unknown user; afterwards it is read."""
     path = str(folder / "users.db")
     make(path, 2)
     with open(path, "r+b") as file:
         fcntl.lockf(file, fcntl.LOCK_EX, LOCK_LENGTH, LOCK_START)
+        assert scram("users", "check", "--db", path, "user0000000")[0] == 0
+        status, _, errors = scram("users", "add", "--db", path, "new", "--wait", "1")
+        assert status == 4 and "another program has it open" in errors and path in errors, errors
+    journal = Path(path + "-journal")
+    for head in (b"", bytes(512), JOURNAL_HEAD):
+        journal.write_bytes(head)
         begun = time.monotonic()
         status, _, errors = scram("users", "check", "--db", path, "user0000000")
-        assert status == 4 and "another program has it open" in errors and path in errors, errors
-        assert 4 < time.monotonic() - begun < 20
-        login = Login(path, "user0000000", options=("--tell-unknown-users",))
-        assert login.first() == b"", "no answer, and no e=unknown-user"
-        login.client.kill()
-        _, server, errors = login.end()
-        assert server == 4 and "another program has it open" in errors, errors
-        waiting = threading.Thread(target=lambda: answers.append(scram("users", "check", "--db", path, "user0000000")))
-        answers = []
-        waiting.start()
-        time.sleep(1)
-        fcntl.lockf(file, fcntl.LOCK_UN, LOCK_LENGTH, LOCK_START)
-        waiting.join()
-        assert answers[0][0] == 0, answers
+        if head != JOURNAL_HEAD:
+            assert status == 0, errors
+    assert status == 4 and "a change that is under way" in errors and path in errors, errors
+    assert 4 < time.monotonic() - begun < 20
+    login = Login(path, "user0000000", options=("--tell-unknown-users",))
+    assert login.first() == b"", "no answer, and no e=unknown-user"
+    login.client.kill()
+    _, server, errors = login.end()
+    assert server == 4 and "a change that is under way" in errors, errors
+    threading.Timer(1, journal.unlink).start()
+    assert scram("users", "check", "--db", path, "user0000000")[0] == 0
+
+
+def changed_by_sqlite(folder):
+    """While SQLite changes all rows, in each journal mode, and takes changes back, every look-up finds one state."""
+    path = str(folder / "users.db")
+    make(path, 2000)
+    for mode in ("DELETE", "TRUNCATE", "PERSIST", "WAL"):
+        ended, changes, states = threading.Event(), [], set()
+        thread = threading.Thread(target=change_all, args=(path, mode, ended, changes))
+        thread.start()
+        for _ in range(40):
+            status, listed, errors = scram("users", "list", "--db", path)
+            assert status == 0, errors
+            users = {re.sub("user[0-9]{7}", "", line) for line in listed.splitlines()}
+            assert len(users) == 1 and len(listed.splitlines()) == 2000, users
+            states |= users
+            assert scram("users", "check", "--db", path, "user0000007")[0] in (0, 3)
+        ended.set()
+        thread.join()
+        taken_back = base64.b64encode(TAKEN_BACK).decode()
+        assert len(states) > 3 and len(changes) > 3 and not any(taken_back in state for state in states)
+
+
+def change_all(path, mode, ended, changes):
+    """Changes the salts of all users again and again. The cache is so small that pages are written before the end."""
+    base = sqlite3.connect(path, isolation_level=None, timeout=SECONDS)
+    base.execute(f"PRAGMA journal_mode={mode}")
+    base.execute("PRAGMA cache_size=2")
+    while not ended.is_set():
+        number = len(changes)
+        base.execute("BEGIN IMMEDIATE")
+        base.execute("UPDATE users SET salt = ?", (b"%016d" % number if number % 3 else TAKEN_BACK,))
+        base.execute("COMMIT" if number % 3 else "ROLLBACK")
+        if mode == "WAL" and number % 2:
+            base.execute("PRAGMA wal_checkpoint(TRUNCATE)")
+        changes.append(number)
+        time.sleep(random.uniform(0, 0.2))
+    base.close()
+
+
+def changed_by_scram(folder):
+    """While passwords are changed, each login finds the old or the new one."""
+    path = str(folder / "users.db")
+    make(path, 100)
+    ended, changes, statuses = threading.Event(), [], set()
+
+    def change():
+        while not ended.is_set():
+            words = ("users", "passwd", "--db", path, "user0000007", "--iterations", "1")
+            changes.append(scram(*words, password=("pencil", "other")[len(changes) % 2])[0])
+
+    thread = threading.Thread(target=change)
+    thread.start()
+    for _ in range(60):
+        status, _, errors = scram("users", "check", "--db", path, "user0000007")
+        assert status in (0, 3), errors
+        statuses.add(status)
+        assert log_in(path, "user0000007")[1] in (0, 3)
+    ended.set()
+    thread.join()
+    assert statuses == {0, 3} and set(changes) == {0} and is_plain(path)
 
 
 def faults(folder):
@@ -541,16 +609,16 @@ def wrong_rows(folder):
 def damage(folder):
     """A database with a damaged page: no command adds a user and does not find it afterwards, and each ends."""
     path = folder / "users.db"
-    make(str(path), 3000)
+    make(str(path), 800)
     whole, said = path.read_bytes(), set()
-    for turn in range(200):
+    for turn in range(100):
         bytes_left = bytearray(whole)
         page = random.randrange(1, len(whole) // 4096)
         start = page * 4096 + random.choice((0, 0, random.randrange(4096)))
         length = random.choice((1, 8, 100, 4096 - start % 4096))
         bytes_left[start : start + length] = bytes(random.choice((bytes(length), random.randbytes(length))))[:length]
         path.write_bytes(bytes_left)
-        name = f"user{random.randrange(3000):07}x"
+        name = f"user{random.randrange(800):07}x"
         status, output, errors = scram("users", "add", "--db", str(path), name, "--iterations", "1")
         assert (status, output) == (0, "added\n") or status == 4, (status, output, errors)
         said.add(errors.split("the database cannot be used")[-1])
@@ -602,7 +670,7 @@ def run(trials):
 
 def main():
     trials = [commands, forms, logins, closed_at_the_challenge, at_once, locked, faults, wrong_rows, damage]
-    trials += [beside_sqlite, beside_a_log, without_rights, journals, killed]
+    trials += [changed_by_sqlite, changed_by_scram, beside_sqlite, beside_a_log, without_rights, journals, killed]
     if "--sizes" in sys.argv:
         trials.append(sizes)
     run(trials)
