@@ -1,8 +1,8 @@
 //! The file of a database, at the edge of a program.
 
-ghost use Rattle.std.specs.Prelude.{◌≡◌, ◌+◌, ◌%◌, ◌^◌, IsTrue, IfOk, OnOk, [], ◌∷◌, take};
-ghost use Rattle.sqlite_format.specs.Bytes.{u32_at};
-ghost use Rattle.sqlite_disk.specs.Disk.{Holds, Only};
+ghost use Rattle.std.specs.Prelude.{◌≡◌, ◌+◌, ◌%◌, ◌^◌, IsTrue, IfOk, OnOk};
+ghost use Rattle.sqlite_format.specs.Bytes.{u16_at, u32_at};
+ghost use Rattle.sqlite_disk.specs.Disk.{Only};
 ghost use Rattle.sqlite_pool.specs.Opening.{AreUsable};
 ghost use Rattle.sqlite_pool.specs.Pool.{state, usable};
 ghost use Rattle.sqlite_pool.specs.File.{SameButHeader, in_use};
@@ -11,7 +11,7 @@ use crate::error::{DatabaseError, of_pages, of_system};
 use crate::read_only::{Mark, Reading};
 use crate::{new_file, schema};
 use sqlite_disk::{Disk, Files};
-use sqlite_format::bytes::{get_u32, put_u32};
+use sqlite_format::bytes::{get_u32, put_u16, put_u32};
 use sqlite_pager::{Options, Pager};
 use sqlite_pages::Error;
 use sqlite_pool::{Pool, probe_blank};
@@ -108,10 +108,14 @@ pub fn open(
 /// Opens a database to change it. If `makes` is set, makes a missing file first.
 fn open_once(rt: &HostRuntime, path: &str, makes: bool) -> Result<Pool<File>, DatabaseError> {
     match is_empty_file(rt, path) {
-        Err(DatabaseError::Missing) if makes => new_file::make(rt, path)?,
-        Ok(true) if !makes => return Err(DatabaseError::Missing),
+        Ok(false) => {}
+        Ok(true) if makes => new_file::remove_old_log(rt, path)?,
+        Err(DatabaseError::Missing) if makes => {
+            new_file::make(rt, path)?;
+            new_file::remove_old_log(rt, path)?;
+        }
+        Ok(true) => return Err(DatabaseError::Missing),
         Err(error) => return Err(error),
-        Ok(_) => {}
     }
     match sqlite_std_file::open(rt, path, Unknown) {
         Ok(files) => whole(rt.alloc(), files, options(rt)?, makes),
@@ -137,16 +141,12 @@ fn pause(rt: &HostRuntime) {
 /// Recovers the database of files that are locked. If there is no table yet and `makes` is set, makes the table of users.
 fn whole<D: Disk + Drop>(
     alloc: Global,
-    mut files: Files<D>,
+    files: Files<D>,
     options: Options,
     makes: bool,
 ) -> Result<Pool<D>, DatabaseError> {
     if !files.may_be_used() {
         return Err(DatabaseError::Io);
-    }
-    if makes && files.db.len().map_err(of_system)? == 0 {
-        // As in SQLite: a log beside an empty file is that of another file.
-        files.log.set_len(0).map_err(of_system)?;
     }
     let mut pool = opened(alloc, files, options, makes)?;
     if schema::is_empty(alloc, &mut pool)? {
@@ -238,7 +238,7 @@ pub fn close(rt: &HostRuntime, path: &str, mut pool: Pool<File>) -> Result<(), D
 
 /// Writes to the header that the file has no log, and counts the change, as SQLite does in rollback-journal mode.
 fn state_no_log<D: Disk>(db: &mut D) -> Result<(), DatabaseError>
-    ensures { OnOk result (Holds (D.Disk.seen db.new) 18 (1 ∷ 1 ∷ []) × Only (D.Disk.seen db.new) (D.Disk.may_leave db.new)) }
+    ensures { OnOk result ((u16_at (D.Disk.seen db.new) 18 ≡ 0x0101) × Only (D.Disk.seen db.new) (D.Disk.may_leave db.new)) }
 {
     if !db.may_be_used() {
         return Err(DatabaseError::Io);
@@ -252,16 +252,16 @@ fn state_no_log<D: Disk>(db: &mut D) -> Result<(), DatabaseError>
 }
 
 /// Changes bytes 18 to 96 of a header: there is no log, and both counters are one higher (fileformat2.html, section 1.3).
+#[tactic(auto, using(sqlite_pool::proofs::HeaderLemmas::u32_outside))]
 fn count_change(header: &mut [u8; 78])
-    ensures log { take 2 header.new ≡ 1 ∷ 1 ∷ [] }
+    ensures log { u16_at header.new 0 ≡ 0x0101 }
     ensures counter { u32_at header.new 6 ≡ (u32_at header.old 6 + 1) % 2 ^ 32 }
     ensures valid { u32_at header.new 74 ≡ u32_at header.new 6 }
 {
     let counter = get_u32(header, 6).wrapping_add(1);
     put_u32(header, 6, counter);
     put_u32(header, 74, counter);
-    header[0] = 1;
-    header[1] = 1;
+    put_u16(header, 0, 0x0101);
 }
 
 /// Returns the pages of the files, which are not read yet.

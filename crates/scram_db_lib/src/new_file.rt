@@ -4,6 +4,8 @@ ghost use Rattle.std.specs.Prelude.{◌≡◌};
 ghost use Rattle.std.specs.Fs.{permissions_mode};
 
 use crate::error::{DatabaseError, of_system};
+use sqlite_disk::Disk;
+use sqlite_std_file::Unknown;
 use std::fs;
 use std::fs::{OpenOptions, Permissions};
 use std::io::ErrorKind;
@@ -25,6 +27,15 @@ fn private() -> Permissions
     ensures { permissions_mode result ≡ 0o600 }
 {
     Permissions::from_mode(0o600)
+}
+
+/// Removes the log beside an empty file under the lock of a change, as SQLite does: it is the log of another file.
+pub fn remove_old_log(rt: &HostRuntime, path: &str) -> Result<(), DatabaseError> {
+    let mut files = sqlite_std_file::open(rt, path, Unknown).map_err(DatabaseError::of_open)?;
+    if files.db.may_be_used() && files.db.len().map_err(of_system)? == 0 {
+        return remove_beside(rt, path, "wal");
+    }
+    Ok(())
 }
 
 /// Removes a file of SQLite's beside a database, if it is there.
