@@ -2,6 +2,7 @@
 
 use fe2o3_scram::{MultiRecordStore, ScramCredentialProvider, ScramRecord, ScramVersion};
 use scram_base_lib::database::{Database, WAIT};
+use scram_base_lib::database_fault::DatabaseFault;
 use scram_base_lib::lines;
 use scram_base_lib::shown::shown;
 use scram_base_lib::stop::Stop;
@@ -13,7 +14,7 @@ use scram_db_lib::{file, schema, table};
 use sqlite_pages::Pages;
 use std::alloc::Global;
 use std::cell::Cell;
-use std::io::Write;
+use std::io::{ErrorKind, Write};
 
 /// SQLite files.
 #[derive(Drop)]
@@ -309,9 +310,21 @@ fn push_row(alloc: Global, walk: &Walk, text: &mut String) -> Result<bool, Stop>
 
 /// Converts the error of a database.
 fn stop_of(error: DatabaseError) -> Stop {
-    match error {
-        DatabaseError::OutOfMemory => Stop::OutOfMemory,
-        DatabaseError::DanglingLink => Stop::DanglingLink,
-        error => Stop::Database(error.text()),
-    }
+    let fault = match error {
+        DatabaseError::OutOfMemory => return Stop::OutOfMemory,
+        DatabaseError::DanglingLink => return Stop::DanglingLink,
+        DatabaseError::Missing => DatabaseFault::Missing,
+        DatabaseError::NotAFile => DatabaseFault::NotAFile,
+        DatabaseError::Locked => DatabaseFault::Locked,
+        DatabaseError::Journal => DatabaseFault::Journal,
+        DatabaseError::Unopened(ErrorKind::PermissionDenied) => DatabaseFault::Denied,
+        DatabaseError::Unopened(_) => DatabaseFault::Unopened,
+        DatabaseError::NotADatabase => DatabaseFault::NotADatabase,
+        DatabaseError::OtherSchema => DatabaseFault::OtherSchema,
+        DatabaseError::Damaged => DatabaseFault::Damaged,
+        DatabaseError::WrongRow => DatabaseFault::WrongRow,
+        DatabaseError::Io => DatabaseFault::Io,
+        DatabaseError::Full => DatabaseFault::Full,
+    };
+    Stop::Database(fault)
 }

@@ -5,6 +5,7 @@
 pub mod audited;
 pub mod channel;
 pub mod database;
+pub mod database_fault;
 pub mod explain;
 pub mod input;
 pub mod lines;

@@ -3,6 +3,7 @@
 ghost use Rattle.std.specs.Prelude.{◌≡◌, ◌≤◌, option_map};
 ghost use Rattle.scram_base_lib.specs.Stop.{at_line, status_of, suffix_of};
 
+use crate::database_fault::DatabaseFault;
 use fe2o3_sasl_negotiation::{CloseReason, Rejection};
 use fe2o3_scram::{
     ClientSecretError, ReadLinesError, ReadLinesErrorKind, RecordError, ScramErrorKind,
@@ -82,7 +83,7 @@ pub enum Stop {
     #[error("The secret for mock records cannot be made: {}. Run scram server once as root, then chown it.", cause(.0))]
     SecretUnwritten(ErrorKind),
     #[error("The database cannot be used: {0}.")]
-    Database(&'static str),
+    Database(DatabaseFault),
     #[error("The file has no such record. scram users list shows its records.")]
     NoSuchRecord,
     #[error("The records do not look alike, so clients can tell which users exist. scram users passwd mends a user's.")]

@@ -2,6 +2,7 @@
 
 use fe2o3_scram::ScramVersion;
 use scram_base_lib::database::Database;
+use scram_base_lib::database_fault::DatabaseFault;
 use scram_base_lib::stop::Stop;
 use scram_base_lib::store::{Change, Changed};
 
@@ -10,7 +11,7 @@ use scram_base_lib::store::{Change, Changed};
 pub struct NoDatabase;
 
 /// The error of each call.
-const NONE: Stop = Stop::Database("this program has no databases");
+const NONE: Stop = Stop::Database(DatabaseFault::NoDatabases);
 
 impl<R> Database<R> for NoDatabase {
     fn lines_of(
