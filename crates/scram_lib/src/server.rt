@@ -291,17 +291,32 @@ fn challenge<O: Write>(
         nonce.now message.now (Ok (Some challenge)) (state_in server.new)) }
     ensures keeps { IsSameServer server.old server.new }
 {
-    let answer = server.compute_server_first_message(alloc, message, nonce);
-    let frame = FrameView::Init {
-        mechanism: server.mechanism(),
-        initial_response: Some(message),
-        hostname: None,
-    };
-    let replied = reply(alloc, answer, output);
+    let replied = send_challenge(alloc, server, message, nonce, output);
     if let Err(Stop::Rejected(_)) = replied {
+        let frame = FrameView::Init {
+            mechanism: server.mechanism(),
+            initial_response: Some(message),
+            hostname: None,
+        };
         return Err(Stop::Rejected(reason_of(alloc, server, &frame)?));
     }
     replied
+}
+
+/// Sends the answer to the client's first message, and says only that a login is rejected.
+fn send_challenge<O: Write>(
+    alloc: Global,
+    server: &mut ScramAuthenticator<RecordStore>,
+    message: &[u8],
+    nonce: &[u8; 32],
+    output: &mut O,
+) -> Result<(), Stop>
+    ensures opens { OnOk result ((challenge : List ℕ) × ChallengesFrom (state_in server.old) (provider_of server.old)
+        nonce.now message.now (Ok (Some challenge)) (state_in server.new)) }
+    ensures keeps { IsSameServer server.old server.new }
+{
+    let answer = server.compute_server_first_message(alloc, message, nonce);
+    reply(alloc, answer, output)
 }
 
 /// Answers the client's response with the signature. After `Ok` the server has accepted a proof.

@@ -1,7 +1,7 @@
 //! Where the records of a server are, of which it holds only those of the user that a client claims.
 
-ghost use Rattle.std.specs.Prelude.{◌≡◌, ◌++◌, IfOk, OnOk, option_map, string_bytes};
-ghost use Rattle.scram_lib.specs.OwnLines.{AreLinesAs, AreLinesFor, head_of, line_as, source_text};
+ghost use Rattle.std.specs.Prelude.{◌≡◌, ◌++◌, None, Some, IfOk, OnOk, option_map, string_bytes};
+ghost use Rattle.scram_lib.specs.OwnLines.{AreLinesAs, AreLinesFor, AreLinesOfName, head_of, line_as, source_text};
 
 use crate::form::{Form, has_several};
 use crate::server::Service;
@@ -58,10 +58,7 @@ impl<'a, D> Source<'a, D> {
         };
         match self {
             Source::Text(text) => lines_as(alloc, text, &name, sent),
-            Source::Database(db) => {
-                let text = db.lines_of(rt, service.file, &name, Some(service.version))?;
-                lines_as(alloc, &text, &name, sent)
-            }
+            Source::Database(db) => stored_lines(rt, *db, service, &name, sent),
         }
     }
 
@@ -101,6 +98,20 @@ impl<'a, D> Source<'a, D> {
             );
         }
     }
+}
+
+/// Returns the lines of a user in what a database has of a name, with another name in place of the user's.
+fn stored_lines<R: AllocGlobal, D: Database<R>>(
+    rt: &R,
+    db: &D,
+    service: &Service<'_, '_>,
+    name: &str,
+    other: &str,
+) -> Result<String, Stop>
+    ensures { IfOk result (λ own. AreLinesOfName None other.now (Some name.now) (string_bytes own)) }
+{
+    let text = db.lines_of(rt, service.file, name, Some(service.version))?;
+    lines_as(rt.alloc(), &text, name, other)
 }
 
 /// Returns the lines of a user in a text, with another name in place of the user's. The names are not escaped.
