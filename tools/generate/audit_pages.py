@@ -6,8 +6,8 @@
                                             or if a page for auditors has a name in backticks that no source has
 
 The page has a row for each wrong body: its name, the first sentence of its edit, the function that it changes, and the
-clause of that function at which the check fails. README.md quotes how many lines of definitions the theorem rests on, as
-tools/trusted_definitions.py counts them.
+clause of that function at which the check fails. It begins with those that break the headline theorem.
+README.md quotes how many lines of definitions the theorem rests on, as tools/trusted_definitions.py counts them.
 """
 import re
 import sys
@@ -33,7 +33,41 @@ A wrong body is an edit that plants a fault in one function. The gate plants eac
 of that function fails at a clause of its contract. The last column has the function and the name of the clause, or of a
 definition that the clause uses; without one, it is the clause without a name. [CONTRIBUTING.md](../CONTRIBUTING.md) has
 the form of an edit. `tools/generate/audit_pages.py write` writes this page.
+
+`tools/gate/wrong_bodies.py --kept CRATE --only WORD` tries those of a crate with this word in their names. It needs the kit,
+and proves the libraries below the crate first, if no earlier check kept them.
+
+These faults break a sentence of the [headline theorem](THEOREMS.md#the-theorem), or what a `Server` or an audit has of it:
+
+| Sentence | Edit | Fault | Rejected in |
+|---|---|---|---|
+{headline}
 """
+# The faults that the page begins with: a sentence of the headline theorem, and the wrong bodies that break it.
+HEADLINE = {
+    "1": (
+        ("fe2o3_scram", "right_not_tested"),
+        ("fe2o3_scram", "looks_up_again"),
+        ("fe2o3_scram", "challenge_stays_open"),
+        ("fe2o3_scram", "refuses_every_response"),
+    ),
+    "1, of a `Server`": (
+        ("fe2o3_sasl_core", "user_named_before_proof"),
+        ("fe2o3_sasl_core", "response_judged_by_another_hash"),
+        ("fe2o3_sasl_core", "identity_without_right"),
+    ),
+    "1 and 2": (("fe2o3_scram", "signature_by_prefix"),),
+    "2": (
+        ("fe2o3_sasl_core", "reports_any_ok"),
+        ("fe2o3_sasl_core", "ok_without_signed_challenge"),
+        ("fe2o3_scram", "answer_survives_new_start"),
+    ),
+    "3": (
+        ("fe2o3_scram", "rebuilds_auth_message"),
+        ("fe2o3_scram", "rebuilds_auth_message_server"),
+    ),
+    "of the audit": (("fe2o3_sasl", "other_key_always"),),
+}
 # What an edit says of the clause: that it has no name, or its names and, after them, the function.
 NO_NAME = re.compile(r"(?:the|its)(?: one)? (?:clause|contract)(?: of .*)?|")
 NAMES = re.compile(r"(?:the |its )?(?:one )?(?:clauses? )?\(?((?:`\w+`(?:, | and (?:by )?)?)+)\)?(?: \(.*\)| (of .*))?")
@@ -98,10 +132,11 @@ def wrong_bodies(crate):
 def page():
     found = {path.parent.parent.name for path in CRATES.glob("*/wrong-bodies/*.edit")}
     crates = [crate for crate in LIBRARIES if crate in found] + sorted(found.difference(LIBRARIES))
-    rows = {crate: [body.row(crate) for body in wrong_bodies(crate)] for crate in crates}
-    out = [INTRODUCTION.format(count=sum(map(len, rows.values())))]
+    rows = {crate: {body.name: body.row(crate) for body in wrong_bodies(crate)} for crate in crates}
+    first = [f"| {of} {rows[crate][name]}" for of, bodies in HEADLINE.items() for crate, name in bodies]
+    out = [INTRODUCTION.format(count=sum(map(len, rows.values())), headline="\n".join(first))]
     for crate, mine in rows.items():
-        out += [f"## `{crate}`", "", "| Edit | Fault | Rejected in |", "|---|---|---|", *mine, ""]
+        out += [f"## `{crate}`", "", "| Edit | Fault | Rejected in |", "|---|---|---|", *mine.values(), ""]
     return "\n".join(out)
 
 
