@@ -227,13 +227,40 @@ where
         → IfOk result (HasServed service.now) }
 {
     let message = wire::receive_first(rt.alloc(), service.mechanism(), input)?;
-    let claimed = claimed_user(rt.alloc(), service.mechanism(), &message)?;
-    let server = server_for(rt, service, rules, secret, source, claimed.as_deref())?;
-    let done = log_in(rt, service, server, &message, input, output, errors);
+    let done = log_in_by(
+        rt, service, rules, secret, source, &message, input, output, errors,
+    );
     if let Err(stop) = &done {
+        let claimed = claimed_user(rt.alloc(), service.mechanism(), &message)?;
         tell_rejected(rt.alloc(), service, claimed.as_deref(), stop, errors)?;
     }
     done
+}
+
+/// Runs a login by the lines of the user whom the client's first message claims.
+fn log_in_by<R, I, O, E, D>(
+    rt: &R,
+    service: &Service<'_, '_>,
+    rules: ServerRules,
+    secret: Option<Vec<u8>>,
+    source: &Source<'_, D>,
+    message: &[u8],
+    input: &mut I,
+    output: &mut O,
+    errors: &mut E,
+) -> Result<Done, Stop>
+where
+    R: RandomSource + AllocGlobal,
+    I: BufRead,
+    O: Write,
+    E: Write,
+    D: Database<R>,
+    ensures { AreSettingsOf service.now rules (option_map (λ secret. secret.items) secret)
+        → IfOk result (HasServed service.now) }
+{
+    let claimed = claimed_user(rt.alloc(), service.mechanism(), message)?;
+    let server = server_for(rt, service, rules, secret, source, claimed.as_deref())?;
+    log_in(rt, service, server, message, input, output, errors)
 }
 
 /// Answers the messages of a login, of which the first is received.

@@ -56,9 +56,28 @@ impl<'a, D> Source<'a, D> {
         let Some(name) = service.name_of(alloc, sent)? else {
             return Ok(String::new(alloc));
         };
+        self.user_lines(rt, service, &name, sent)
+    }
+
+    /// Returns the lines of the user of this name, with the name as the client sends it.
+    fn user_lines<R: AllocGlobal>(
+        &self,
+        rt: &R,
+        service: &Service<'_, '_>,
+        name: &str,
+        sent: &str,
+    ) -> Result<String, Stop>
+    where
+        D: Database<R>,
+        ensures { IfOk result (λ own.
+            AreLinesOfName (source_text self.now) sent.now (Some name.now) (string_bytes own)) }
+    {
         match self {
-            Source::Text(text) => lines_as(alloc, text, &name, sent),
-            Source::Database(db) => stored_lines(rt, *db, service, &name, sent),
+            Source::Text(text) => lines_as(rt.alloc(), text, name, sent),
+            Source::Database(db) => {
+                let text = db.lines_of(rt, service.file, name, Some(service.version))?;
+                lines_as(rt.alloc(), &text, name, sent)
+            }
         }
     }
 
@@ -98,20 +117,6 @@ impl<'a, D> Source<'a, D> {
             );
         }
     }
-}
-
-/// Returns the lines of a user in what a database has of a name, with another name in place of the user's.
-fn stored_lines<R: AllocGlobal, D: Database<R>>(
-    rt: &R,
-    db: &D,
-    service: &Service<'_, '_>,
-    name: &str,
-    other: &str,
-) -> Result<String, Stop>
-    ensures { IfOk result (λ own. AreLinesOfName None other.now (Some name.now) (string_bytes own)) }
-{
-    let text = db.lines_of(rt, service.file, name, Some(service.version))?;
-    lines_as(rt.alloc(), &text, name, other)
 }
 
 /// Returns the lines of a user in a text, with another name in place of the user's. The names are not escaped.
