@@ -167,13 +167,7 @@ def main():
     if not failed:
         failed = sum(
             fails(*it)
-            for it in (
-                ["gate/restarts.py"],
-                ["program_database.py"],
-                ["test_rows.py", "--altered"],
-                ["test_memory.py"],
-                ["gate/c_memory.py"],
-            )
+            for it in (["gate/restarts.py"], ["test_rows.py", "--altered"], ["test_memory.py"], ["gate/c_memory.py"])
         )
     record = run.record(sample, wrong_bodies.crates(), passed, failed)
     costs.write(record)
