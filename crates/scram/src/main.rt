@@ -6,7 +6,6 @@ mod database;
 use crate::database::SqliteFile;
 use sasl_lab_lib::sides::audit;
 use scram_base_lib::stop::Stop;
-use std::cell::Cell;
 use std::io::{BufReader, IsTerminal};
 use std::process::ExitCode;
 use std::rt::Env;
@@ -15,7 +14,7 @@ use std::{env, io};
 /// Returns the program's arguments, with its own name first.
 fn words<R: Env + AllocGlobal>(rt: &R) -> Result<Vec<String>, Stop> {
     let mut words = Vec::new(rt.alloc());
-    for word in env::args(rt).map_err(Stop::of_words)? {
+    for word in env::args(rt).map_err(Stop::of_input)? {
         words.push(word)?;
     }
     Ok(words)
@@ -27,10 +26,7 @@ fn run(rt: &HostRuntime) -> Result<u8, Stop> {
     let mut input = BufReader::new(rt.alloc(), rt.reader()).map_err(Stop::of_input)?;
     let (mut output, mut errors) = (io::writer(rt), rt.stderr());
     let is_terminal = rt.stdin().is_terminal();
-    let db = SqliteFile {
-        has_wrong_rows: Cell::new(false),
-    };
-    let status = scram_lib::run(
+    Ok(scram_lib::run(
         rt,
         &words,
         is_terminal,
@@ -38,13 +34,8 @@ fn run(rt: &HostRuntime) -> Result<u8, Stop> {
         &mut output,
         &mut errors,
         audit,
-        &db,
-    );
-    Ok(if status == 0 && db.has_wrong_rows.get() {
-        4
-    } else {
-        status
-    })
+        &SqliteFile,
+    ))
 }
 
 fn main(rt: HostRuntime) -> ExitCode {

@@ -29,7 +29,7 @@ pub fn parse_channel(alloc: Global, word: &str) -> Result<ChannelBinding, Stop>
 }
 
 /// Splits a word at its first colon. Without a colon the second part is empty.
-pub fn parts_of(word: &str) -> (&str, &str)
+fn parts_of(word: &str) -> (&str, &str)
     ensures name { result.0.now ≡ name_in word.now }
     ensures digits { result.1.now ≡ digits_in word.now }
 {

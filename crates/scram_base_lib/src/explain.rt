@@ -9,43 +9,49 @@ use crate::explain::channels::{
 };
 use crate::stop::Stop;
 use crate::{input, wire};
-use fe2o3_sasl_wire::{Error as FrameError, FrameView, SymbolsView, view_frame};
+use fe2o3_sasl_wire::{Error, FrameView, SymbolsView, view_frame};
 use fe2o3_scram::{
     ChannelBindingFlag, ClientFirst, ScramErrorKind, ServerFinal, ServerFirst, ServerScramErrorKind,
 };
 use std::alloc::{AllocError, Global};
 use std::io::{BufRead, Write};
-use thiserror::Error;
 
 /// What the messages so far contain.
 #[derive(Drop)]
 pub struct Heard {
     /// The side, which is printed before each message, or nothing.
     side: &'static str,
+
     /// Whether the GS2 header may be that of any channel, and not only `n,,`.
     any_header: bool,
+
     /// The GS2 header of the client-first message.
     header: ChannelBindingFlag,
+
     /// The identity that the client-first message names, not escaped, if any.
     acts_for: Option<String>,
+
     /// The user of the client-first message, not escaped.
     pub user: String,
+
     /// The nonce of the client-first message.
     pub client_nonce: String,
+
     /// The nonce of the server-first message.
     pub nonce: String,
 }
 
 /// Why a message is rejected.
-#[derive(Clone, Copy, Debug, Error)]
+#[derive(Clone, Copy)]
 enum Refusal {
-    #[error("{0}")]
-    Client(#[from] ScramErrorKind),
-    #[error("{0}")]
-    Server(#[from] ServerScramErrorKind),
+    /// A client's error.
+    Client(ScramErrorKind),
+
+    /// A server's error.
+    Server(ServerScramErrorKind),
+
     /// The body is not a frame.
-    #[error("{0}")]
-    Frame(FrameError),
+    Frame(Error),
 }
 
 /// What a message says, or why it is rejected.
@@ -74,6 +80,15 @@ static NAMES: [&str; 4] = [
     "server-final",
 ];
 
+/// Prints why a message is rejected.
+fn refuse<O: Write>(name: &str, refusal: Refusal, output: &mut O) -> std::io::Result<()> {
+    match refusal {
+        Refusal::Client(kind) => writeln!(output, "{name}: rejected: {kind}"),
+        Refusal::Server(kind) => writeln!(output, "{name}: rejected: {kind}"),
+        Refusal::Frame(fault) => writeln!(output, "{name}: rejected: {fault}"),
+    }
+}
+
 impl Refusal {
     /// Returns why the program stops.
     fn stop(self) -> Stop {
@@ -82,6 +97,18 @@ impl Refusal {
             | Refusal::Server(ServerScramErrorKind::OutOfMemory) => Stop::OutOfMemory,
             Refusal::Client(_) | Refusal::Server(_) | Refusal::Frame(_) => Stop::MessageRefused,
         }
+    }
+}
+
+impl From<ScramErrorKind> for Refusal {
+    fn from(kind: ScramErrorKind) -> Refusal {
+        Refusal::Client(kind)
+    }
+}
+
+impl From<ServerScramErrorKind> for Refusal {
+    fn from(kind: ServerScramErrorKind) -> Refusal {
+        Refusal::Server(kind)
     }
 }
 
@@ -125,7 +152,7 @@ impl Heard {
         match told {
             Ok(said) => writeln!(output, "{name}: {said}").map_err(Stop::of_output),
             Err(refusal) => {
-                writeln!(output, "{name}: rejected: {refusal}").map_err(Stop::of_output)?;
+                refuse(name, refusal, output).map_err(Stop::of_output)?;
                 Err(refusal.stop())
             }
         }

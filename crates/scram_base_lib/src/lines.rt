@@ -70,6 +70,20 @@ pub fn of_user(alloc: Global, text: &str, name: &str) -> Result<String, Stop> {
     Ok(own)
 }
 
+/// Returns the lines of a user with another name in place of the user's. The names are not escaped.
+pub fn renamed(alloc: Global, lines: &str, name: &str, other: &str) -> Result<String, Stop> {
+    let name = escaped(alloc, name)?;
+    let other = escaped(alloc, other)?;
+    let mut renamed = String::new(alloc);
+    for line in lines.split_inclusive('\n') {
+        if let Some(record) = line.strip_prefix(name.as_str()) {
+            renamed.push_str(&other)?;
+            renamed.push_str(record)?;
+        }
+    }
+    Ok(renamed)
+}
+
 /// Returns the name of a valid line, not escaped.
 pub fn unescaped(alloc: Global, name: &str) -> Result<String, Stop> {
     match unescape_username(alloc, name) {

@@ -7,8 +7,9 @@ use sqlite_pages::Error as PageError;
 use sqlite_std_file::OpenError;
 use sqlite_wal::Error as LogError;
 use std::alloc::AllocError;
-use std::io;
+use std::error::Error;
 use std::io::ErrorKind;
+use std::{fmt, io};
 
 /// Why a database cannot be used.
 #[derive(Debug, Clone, Copy, PartialEq, Eq)]
@@ -19,16 +20,16 @@ pub enum DatabaseError {
     /// The file is a link to a file that does not exist.
     DanglingLink,
 
-    /// The name is that of a folder, a pipe or a device.
-    NotAFile,
+    /// A new database cannot be made, because `FILE.new` beside it is another program's file, or has users.
+    Beside,
 
-    /// Another program had the file open, or changed it again and again, during the whole wait.
+    /// Another program had the file open during the whole wait.
     Locked,
 
-    /// There is a rollback journal: SQLite writes the file, or left a journal that only SQLite can play back.
+    /// SQLite left a rollback journal, which only SQLite can play back.
     Journal,
 
-    /// The file, its folder or its log cannot be opened.
+    /// The file or its log cannot be opened for reading and writing.
     Unopened(ErrorKind),
 
     /// The file is not a SQLite database, or its header or its free list is damaged.
@@ -54,6 +55,25 @@ pub enum DatabaseError {
 }
 
 impl DatabaseError {
+    /// Returns the reason as a part of a sentence.
+    pub fn text(self) -> &'static str {
+        match self {
+            DatabaseError::Missing => "it does not exist",
+            DatabaseError::DanglingLink => "it is a link to a file that does not exist",
+            DatabaseError::Beside => "the file with .new after its name is in the way",
+            DatabaseError::Locked => "another program has it open",
+            DatabaseError::Journal => "it has a rollback journal: open it with sqlite3 first",
+            DatabaseError::Unopened(_) => "it or its log cannot be opened for reading and writing",
+            DatabaseError::NotADatabase => "it is not a SQLite database",
+            DatabaseError::OtherSchema => "it does not have exactly the table of users",
+            DatabaseError::Damaged => "it is damaged",
+            DatabaseError::WrongRow => "the row of the user is not a record",
+            DatabaseError::Io => "it cannot be read or written",
+            DatabaseError::Full => "it is full",
+            DatabaseError::OutOfMemory => "out of memory",
+        }
+    }
+
     /// Converts the error of an open.
     pub(crate) fn of_open(error: OpenError) -> DatabaseError {
         match error {
@@ -78,7 +98,6 @@ impl DatabaseError {
 /// Converts the error of a call on a file.
 pub(crate) fn of_system(error: io::Error) -> DatabaseError {
     match error.kind() {
-        ErrorKind::WouldBlock => DatabaseError::Locked,
         ErrorKind::OutOfMemory => DatabaseError::OutOfMemory,
         ErrorKind::StorageFull | ErrorKind::QuotaExceeded => DatabaseError::Full,
         kind => DatabaseError::Unopened(kind),
@@ -114,3 +133,11 @@ impl From<AllocError> for DatabaseError {
         DatabaseError::OutOfMemory
     }
 }
+
+impl fmt::Display for DatabaseError {
+    fn fmt<W: fmt::Write>(&self, f: &mut fmt::Formatter<W>) -> fmt::Result {
+        f.write_str(self.text())
+    }
+}
+
+impl Error for DatabaseError {}

@@ -8,9 +8,7 @@ use crate::done::Done;
 use crate::{frames, keys, nonces};
 use fe2o3_scram::secrets::SecretText;
 use fe2o3_scram::{CachedKeys, ClientSecret, Password, ScramClient, ScramErrorKind, ScramVersion};
-use saslprep::Unassigned;
 use scram_base_lib::channel::client_channel;
-use scram_base_lib::input::prepared;
 use scram_base_lib::stop::Stop;
 use scram_base_lib::{input, wire};
 use std::alloc::Global;
@@ -23,29 +21,39 @@ use std::rt::{Clock, Files};
 pub struct Login<'a> {
     /// The mechanism.
     pub version: ScramVersion,
+
     /// The user name, not escaped.
     pub user: &'a str,
+
     /// The identity that the client asks to act for, not escaped, if any.
     pub acts_for: Option<&'a str>,
+
     /// The minimum iteration count that the client accepts.
     pub min_iterations: u32,
+
     /// The maximum iteration count that the client accepts.
     pub max_iterations: u32,
+
     /// The key file, if any.
     pub keys: Option<&'a str>,
+
     /// The channel that the client binds, `KIND:HEX`, if any.
     pub channel: Option<&'a str>,
+
     /// Whether the client has a channel, but was offered no mechanism with `-PLUS`. It has no effect beside `channel`.
     pub channel_not_offered: bool,
+
     /// Whether the client is strict.
     pub strict: bool,
+
     /// The nonce in hexadecimal, or `None` for a random one.
     pub nonce: Option<&'a str>,
+
     /// Whether the input has the bytes of an AMQP connection in place of lines.
     pub frames: bool,
 }
 
-/// The client's secret: the password, prepared, if the first line of the input has one, and the keys, if there are any.
+/// The client's secret: the password, if the first line of the input has one, and the keys, if there are any.
 #[derive(Drop)]
 struct Secret {
     password: Option<SecretText>,
@@ -146,17 +154,12 @@ impl Login<'_> {
         rt: &R,
         input: &mut I,
     ) -> Result<Secret, Stop> {
-        let line = input::next_line(rt.alloc(), input)?.map(SecretText::new);
+        let line = input::next_line(rt.alloc(), input)?;
         let keys = match self.keys {
             Some(file) => keys::read(rt, file, self.version)?,
             None => None,
         };
-        let password = match line {
-            Some(line) if !line.as_str().is_empty() => {
-                Some(prepared(rt.alloc(), line.as_str(), Unassigned::Allowed)?)
-            }
-            _ => None,
-        };
+        let password = line.filter(|line| !line.is_empty()).map(SecretText::new);
         Ok(Secret { password, keys })
     }
 
@@ -178,11 +181,11 @@ impl Secret {
     fn lent(&self) -> Option<ClientSecret<'_>> {
         match (&self.password, &self.keys) {
             (Some(password), Some(keys)) => {
-                let password = Password::Prepared(password.as_str());
+                let password = Password::Typed(password.as_str());
                 Some(ClientSecret::PasswordAndKeys { password, keys })
             }
             (Some(password), None) => {
-                Some(ClientSecret::Password(Password::Prepared(password.as_str())))
+                Some(ClientSecret::Password(Password::Typed(password.as_str())))
             }
             (None, Some(keys)) => Some(ClientSecret::Keys(keys)),
             (None, None) => None,

@@ -1,16 +1,14 @@
 //! `--frames`: a login over the bytes of an AMQP connection.
 
-ghost use Rattle.std.specs.Prelude.{◌≡◌, [], IfOk, IfSome, OnOk, box_value};
+ghost use Rattle.std.specs.Prelude.{◌≡◌, IfOk, IfSome, OnOk, box_value};
 ghost use Rattle.fe2o3_sasl_core.specs.Profiles.{ScramProfile};
-ghost use Rattle.fe2o3_sasl_negotiation.specs.Sides.{acceptor_in, client_side, server_side, connection_side};
+ghost use Rattle.fe2o3_sasl_negotiation.specs.Sides.{client_side, server_side, connection_side};
 ghost use Rattle.fe2o3_sasl_negotiation.specs.declared.progress.Progress.TheVariants.{Authenticated};
-ghost use Rattle.fe2o3_scram.specs.ScramServer.{provider_in, rules_in};
 ghost use Rattle.scram_lib.specs.Done.{HasLoggedIn, HasServed, IsWaiting};
 
 use crate::client::Login;
 use crate::done::Done;
 use crate::nonces;
-use crate::server::rejected::{reason_of, tell_rejected};
 use crate::server::source::Source;
 use crate::server::{Service, server_for, tell_user};
 use bytes::BytesMut;
@@ -53,6 +51,33 @@ where
     input.consume(received.taken);
     send(output, sent).map_err(Stop::of_output)?;
     Ok(received)
+}
+
+/// Passes bytes to a side and from it until the login ends, and returns its progress.
+fn carry<R, E, K, I, O>(
+    rt: &R,
+    side: &mut ConnectionSide<E, K>,
+    word: Option<&str>,
+    sent: &mut BytesMut,
+    input: &mut I,
+    output: &mut O,
+) -> Result<Progress, Stop>
+where
+    R: RandomSource + AllocGlobal,
+    E: Endpoint<K>,
+    K: Role,
+    I: BufRead,
+    O: Write,
+    ensures { IfOk result (λ progress. progress ≡ (connection_side E.state side.new).progress) }
+{
+    send(output, sent).map_err(Stop::of_output)?;
+    for _ in 0..u64::MAX {
+        let received = pass(rt, side, word, sent, input, output)?;
+        if received.taken == 0 || received.progress != Progress::InProgress {
+            return Ok(received.progress);
+        }
+    }
+    Err(Stop::Ended)
 }
 
 /// Sends the pending bytes.
@@ -98,18 +123,12 @@ where
 {
     let mut sent = BytesMut::new(rt.alloc());
     ClientNegotiation::open(&mut sent)?;
-    send(output, &mut sent).map_err(Stop::of_output)?;
-    for _ in 0..u64::MAX {
-        let received = pass(rt, client, login.nonce, &mut sent, input, output)?;
-        match received.progress {
-            Progress::Authenticated => return Ok(()),
-            Progress::Failed(CloseReason::Refused(_)) => return Err(Stop::RefusedByServer),
-            Progress::Failed(why) => return Err(Stop::Closed(why)),
-            Progress::InProgress if received.taken == 0 => return Err(Stop::Ended),
-            Progress::InProgress => {}
-        }
+    match carry(rt, client, login.nonce, &mut sent, input, output)? {
+        Progress::Authenticated => Ok(()),
+        Progress::InProgress => Err(Stop::Ended),
+        Progress::Failed(CloseReason::Refused(_)) => Err(Stop::RefusedByServer),
+        Progress::Failed(why) => Err(Stop::Closed(why)),
     }
-    Err(Stop::Ended)
 }
 
 /// Returns the client's side. Its mechanism is that of the client, with its channel.
@@ -123,8 +142,8 @@ fn negotiation(
     Ok(Box::new(alloc, ClientNegotiation::new(alloc, profile, None))?)
 }
 
-/// Serves a login, and prints on the errors who has logged in, or whose login is rejected. The server is made at the
-/// client's init, which claims a user name.
+/// Serves a login, and prints on the errors who has logged in. The server is made at the client's init, which claims a
+/// user name.
 pub(crate) fn serve<R, I, O, E, D>(
     rt: &R,
     service: &Service<'_, '_>,
@@ -144,30 +163,20 @@ where
     ensures { IfOk result (λ done. HasServed service.now done) }
 {
     let alloc = rt.alloc();
-    let opener = opener(alloc, service, rules);
-    let mut opener = Box::new(alloc, ServerNegotiation::new(alloc, opener))?;
+    let mut opener = Box::new(alloc, opener(alloc, service, rules))?;
     let claimed = receive_init(rt, service, &mut *opener, input, output)?;
     let server = server_for(rt, service, rules, secret, source, claimed.as_deref())?;
     let mut server = Box::new(alloc, continued(alloc, &opener, server)?)?;
-    if let Err(stop) = serve_over(rt, service, &mut *server, input, output) {
-        tell_rejected(alloc, service, claimed.as_deref(), &stop, errors)?;
-        return Err(stop);
-    }
+    serve_over(rt, service, &mut *server, input, output)?;
     let user = server.authenticated_user();
     tell_user(alloc, service, user, server.acts_for(), errors);
     Ok(Done::ServerOfFrames(server))
 }
 
-/// Returns a server without users, which answers up to the client's init.
-fn opener(
-    alloc: Global,
-    service: &Service<'_, '_>,
-    rules: ServerRules,
-) -> ScramAuthenticator<RecordStore>
-    ensures rules { rules_in result ≡ rules }
-    ensures nobody { provider_in result ≡ record { version = service.now.version; records = [] } }
-{
-    ScramAuthenticator::new(RecordStore::new(alloc, service.version)).with_rules(rules)
+/// Returns a server's side without users, which offers the mechanism.
+fn opener(alloc: Global, service: &Service<'_, '_>, rules: ServerRules) -> Side {
+    let nobody = RecordStore::new(alloc, service.version);
+    ServerNegotiation::new(alloc, ScramAuthenticator::new(nobody).with_rules(rules))
 }
 
 /// Answers the client up to its init, and returns the user name that the init claims, if any. The init is not taken.
@@ -187,7 +196,7 @@ where
     let mut sent = BytesMut::new(rt.alloc());
     for _ in 0..u64::MAX {
         let bytes = input.fill_buf().map_err(Stop::of_input)?;
-        if let Some(body) = frame_in(rt.alloc(), opener, bytes)? {
+        if let Some(body) = init_in(rt.alloc(), opener, bytes)? {
             return user_of(rt.alloc(), &body);
         }
         let received = pass(rt, opener, service.nonce, &mut sent, input, output)?;
@@ -201,8 +210,8 @@ where
     Err(Stop::Ended)
 }
 
-/// Returns the body of the frame that these bytes complete, if they do. Nothing is taken.
-fn frame_in(alloc: Global, opener: &Side, bytes: &[u8]) -> Result<Option<Vec<u8>>, Stop>
+/// Returns the body of the init that these bytes complete, if they do. Nothing is taken.
+fn init_in(alloc: Global, opener: &Side, bytes: &[u8]) -> Result<Option<Vec<u8>>, Stop>
     ensures { IfOk result (λ body. IfSome body (λ _. IsWaiting opener.now)) }
 {
     match opener.snapshot().peek_frame(alloc, bytes) {
@@ -235,7 +244,6 @@ fn continued(
     server: ScramAuthenticator<RecordStore>,
 ) -> Result<Side, Stop>
     requires { IsWaiting opener.now }
-    ensures { IfOk result (λ side. acceptor_in side ≡ server) }
 {
     match ServerNegotiation::restore(alloc, server, &opener.snapshot()) {
         Ok(side) => Ok(side),
@@ -245,48 +253,24 @@ fn continued(
 }
 
 /// Serves a login with a server's side. After `Ok` the side has logged its client in.
-fn serve_over<R, I, O>(
+fn serve_over<R, S, I, O>(
     rt: &R,
     service: &Service<'_, '_>,
-    server: &mut Side,
+    server: &mut ServerNegotiation<S>,
     input: &mut I,
     output: &mut O,
 ) -> Result<(), Stop>
 where
     R: RandomSource + AllocGlobal,
+    S: AuthenticatedUser,
     I: BufRead,
     O: Write,
-    ensures { OnOk result ((server_side (λ server. server) server.new).progress ≡ Authenticated) }
+    ensures { OnOk result ((server_side S.state server.new).progress ≡ Authenticated) }
 {
-    let (mut sent, mut last) = (BytesMut::new(rt.alloc()), Vec::new(rt.alloc()));
-    for _ in 0..u64::MAX {
-        let bytes = input.fill_buf().map_err(Stop::of_input)?;
-        if let Some(body) = frame_in(rt.alloc(), server, bytes)? {
-            last = body;
-        }
-        let received = pass(rt, server, service.nonce, &mut sent, input, output)?;
-        match received.progress {
-            Progress::Authenticated => return Ok(()),
-            Progress::Failed(why) => return Err(stop_of(rt.alloc(), server, why, &last)?),
-            Progress::InProgress if received.taken == 0 => return Err(Stop::Ended),
-            Progress::InProgress => {}
-        }
-    }
-    Err(Stop::Ended)
-}
-
-/// Returns why a login stops at a client's frame, after which the server has closed.
-fn stop_of(
-    alloc: Global,
-    server: &Side,
-    why: CloseReason,
-    body: &[u8],
-) -> Result<Stop, OutOfMemory> {
-    match (why, view_frame(body)) {
-        (CloseReason::Refused(_), Ok((frame, _))) => {
-            let reason = reason_of(alloc, server.acceptor(), &frame)?;
-            Ok(Stop::Rejected(reason))
-        }
-        _ => Ok(Stop::Closed(why)),
+    let mut sent = BytesMut::new(rt.alloc());
+    match carry(rt, server, service.nonce, &mut sent, input, output)? {
+        Progress::Authenticated => Ok(()),
+        Progress::InProgress => Err(Stop::Ended),
+        Progress::Failed(why) => Err(Stop::Closed(why)),
     }
 }

@@ -64,7 +64,7 @@ impl NewRecord<'_> {
     {
         let salt = self.salt(rt, first)?;
         let iterations = self.iterations.unwrap_or(first.iterations);
-        let (password, meter) = (Password::Prepared(password), &mut Meter::new());
+        let (password, meter) = (Password::Typed(password), &mut Meter::new());
         Ok(ScramRecord::from_password(rt.alloc(), version, password, &salt, iterations, meter)?)
     }
 

@@ -1,8 +1,7 @@
 //! The task that the arguments ask for.
 
-ghost use Rattle.std.specs.Prelude.{◌≡◌, ℕ, List, true, false, Some, None, IfErr, IfOk, IsOk, codes, is_some, map, option_map};
+ghost use Rattle.std.specs.Prelude.{◌≡◌, true, false, Some, None, IfOk, codes, is_some, map, option_map};
 ghost use Rattle.clap.specs.Matches.{first_value, found_of, matched_of, one_text, raw_values};
-ghost use Rattle.scram_lib.specs.Counts.{IsCountOf};
 ghost use Rattle.scram_lib.specs.Done.{IsDone};
 
 use crate::client::{Login, log_in};
@@ -13,15 +12,12 @@ use crate::users::alike::{check_file, list_hashes};
 use crate::users::{Listed, Named, add, change_password, check, list, remove};
 use crate::{man, record};
 use clap::ArgMatches;
-use fe2o3_scram::secrets::SecretText;
 use fe2o3_scram::{DEFAULT_SCRAM_ITERATIONS, ScramVersion};
-use saslprep::Unassigned;
 use scram_base_lib::audited::Audited;
 use scram_base_lib::database::Database;
 use scram_base_lib::explain::explain;
 use scram_base_lib::input;
 use scram_base_lib::stop::Stop;
-use std::alloc::Global;
 use std::io::{BufRead, Write};
 use std::random::RandomSource;
 use std::rt::{Clock, Files};
@@ -31,8 +27,10 @@ use std::rt::{Clock, Files};
 pub struct Streams<'a, 'd, I, O, D> {
     /// Whether the input is a terminal.
     pub is_terminal: bool,
+
     pub input: &'a mut I,
     pub output: &'a mut O,
+
     /// The databases of `--db`.
     pub db: &'d D,
 }
@@ -42,6 +40,7 @@ pub struct Streams<'a, 'd, I, O, D> {
 pub enum Command<'a, 'm> {
     /// A task of this library.
     Task(Task<'a, 'm>),
+
     /// An audit of both sides of a login, which the caller does.
     Audit(Audited<'a>),
 }
@@ -51,26 +50,37 @@ pub enum Command<'a, 'm> {
 pub enum Task<'a, 'm> {
     /// Prints a record.
     Record(ScramVersion, NewRecord<'a>),
-    /// Adds a user's records to a file. The flag says that the name may be empty or have spaces at its ends.
-    Add(Named<'a>, NewRecord<'a>, bool),
+
+    /// Adds a user's records to a file.
+    Add(Named<'a>, NewRecord<'a>),
+
     /// Changes a user's password in a file.
     ChangePassword(Named<'a>, NewRecord<'a>),
+
     /// Removes a user's records from a file.
     Remove(Named<'a>),
+
     /// Lists the records of a file.
     List(Listed<'a>),
+
     /// Lists the mechanisms for which all users of a file have records.
     ListHashes(Listed<'a>),
+
     /// Checks a password.
     Check(Named<'a>),
+
     /// Checks whether the records of a file look alike.
     CheckFile(Listed<'a>),
+
     /// Logs in.
     Client(Login<'a>),
+
     /// Serves a login.
     Server(Service<'a, 'm>),
+
     /// Explains messages. The flag says that the lines are frame bodies.
     Explain(bool),
+
     /// Prints the manual page.
     Man,
 }
@@ -129,9 +139,7 @@ impl<'a, 'm> Task<'a, 'm> {
     /// Returns the task of the parsed arguments of `users`.
     fn of_users(matches: &ArgMatches<'a>) -> Task<'a, 'm> {
         match matches.subcommand() {
-            Some(("add", found)) => {
-                Task::Add(named(found), new_record(found), found.get_flag("force"))
-            }
+            Some(("add", found)) => Task::Add(named(found), new_record(found)),
             Some(("passwd", found)) => Task::ChangePassword(password_of(found), new_record(found)),
             Some(("remove", found)) => Task::Remove(named(found)),
             Some(("check", found)) if found.contains_id("NAME") => Task::Check(named(found)),
@@ -145,7 +153,7 @@ impl<'a, 'm> Task<'a, 'm> {
     /// Returns the file of the task, or an empty text if it has none.
     fn file(&self) -> &'a str {
         match self {
-            Task::Add(named, _, _)
+            Task::Add(named, _)
             | Task::ChangePassword(named, _)
             | Task::Remove(named)
             | Task::Check(named) => named.file,
@@ -178,7 +186,7 @@ impl<'a, 'm> Task<'a, 'm> {
                 serve(rt, db, service, streams.input, streams.output, errors)
             }
             Task::Check(named) => {
-                let password = input::password(rt.alloc(), streams.input, Unassigned::Allowed)?;
+                let password = input::password(rt.alloc(), streams.input)?;
                 check(rt, streams.db, named, password, streams.output)
             }
             other => {
@@ -205,12 +213,11 @@ impl<'a, 'm> Task<'a, 'm> {
         let (alloc, db) = (rt.alloc(), streams.db);
         match self {
             Task::Record(version, record) => {
-                let password = new_password(alloc, streams, errors)?;
+                let password = input::password(alloc, streams.input)?;
                 record::print(rt, *version, record, password.as_str(), streams.output)
             }
-            Task::Add(named, record, force) => {
-                test_name(named.name, *force)?;
-                let password = new_password(alloc, streams, errors)?;
+            Task::Add(named, record) => {
+                let password = input::password(alloc, streams.input)?;
                 add(
                     rt,
                     db,
@@ -222,7 +229,7 @@ impl<'a, 'm> Task<'a, 'm> {
                 )
             }
             Task::ChangePassword(named, record) => {
-                let password = new_password(alloc, streams, errors)?;
+                let password = input::password(alloc, streams.input)?;
                 change_password(
                     rt,
                     db,
@@ -244,40 +251,6 @@ impl<'a, 'm> Task<'a, 'm> {
     }
 }
 
-/// Reads a password to store. At a terminal it is asked for twice.
-fn new_password<I: BufRead, O, D, E: Write>(
-    alloc: Global,
-    streams: &mut Streams<'_, '_, I, O, D>,
-    errors: &mut E,
-) -> Result<SecretText, Stop> {
-    let password = input::password(alloc, streams.input, Unassigned::Refused)?;
-    if streams.is_terminal {
-        ask("The same password again: ", errors);
-        let again = input::password(alloc, streams.input, Unassigned::Refused)?;
-        if again.as_str() != password.as_str() {
-            return Err(Stop::OtherPasswords);
-        }
-    }
-    Ok(password)
-}
-
-/// Asks for a line at a terminal. The program reads on, whether or not that can be written.
-pub(crate) fn ask<E: Write>(question: &str, errors: &mut E) {
-    let _ = errors.write_all(question.as_bytes());
-    let _ = errors.flush();
-}
-
-/// Checks that a name is not empty and has no spaces at its ends, unless `force` is set.
-fn test_name(name: &str, force: bool) -> Result<(), Stop>
-    ensures forced { force ≡ true → IsOk result }
-    ensures err { IfErr result (λ stop. stop ≡ Stop.OddName) }
-{
-    if !force && (name.is_empty() || name.trim().len() != name.len()) {
-        return Err(Stop::OddName);
-    }
-    Ok(())
-}
-
 /// Returns the arguments of `client`.
 fn login<'a>(matches: &ArgMatches<'a>) -> Login<'a>
     ensures channel { option_map (λ word. word.now) result.channel
@@ -288,15 +261,14 @@ fn login<'a>(matches: &ArgMatches<'a>) -> Login<'a>
         → result.channel_not_offered ≡ true }
     ensures strict { (one_text (found_of matches.now) (codes "strict") ≡ Some (codes "true"))
         → result.strict ≡ true }
-    ensures default_min { one_text (found_of matches.now) (codes "min-iterations") ≡ None → result.min_iterations ≡ 4096 }
-    ensures typed_min { (text : List ℕ) → one_text (found_of matches.now) (codes "min-iterations") ≡ Some text
-        → IsCountOf text 4096 result.min_iterations }
 {
     Login {
         version: version_of(matches, "M").unwrap_or(ScramVersion::Sha256),
         user: text(matches, "USER"),
         acts_for: matches.get_str("acts-for"),
-        min_iterations: count_of(matches, "min-iterations", DEFAULT_SCRAM_ITERATIONS),
+        min_iterations: matches
+            .get_one::<u32>("min-iterations")
+            .unwrap_or(DEFAULT_SCRAM_ITERATIONS),
         max_iterations: max_iterations(matches),
         keys: matches.get_str("keys"),
         channel: matches.get_str("channel"),
@@ -309,15 +281,9 @@ fn login<'a>(matches: &ArgMatches<'a>) -> Login<'a>
 
 /// Returns the maximum iteration count, or its default.
 fn max_iterations(matches: &ArgMatches<'_>) -> u32 {
-    count_of(matches, "max-iterations", 1_000_000)
-}
-
-/// Returns the number of an option, or this one if the option is absent.
-fn count_of(matches: &ArgMatches<'_>, id: &str, otherwise: u32) -> u32
-    ensures absent { one_text (found_of matches.now) id.now ≡ None → result ≡ otherwise }
-    ensures typed { (text : List ℕ) → one_text (found_of matches.now) id.now ≡ Some text → IsCountOf text otherwise result }
-{
-    matches.get_one::<u32>(id).unwrap_or(otherwise)
+    matches
+        .get_one::<u32>("max-iterations")
+        .unwrap_or(1_000_000)
 }
 
 /// Returns the arguments of `server`.

@@ -285,7 +285,7 @@ fn answer(
         return None;
     }
     let kept = users.for_version(version).get_stored_password(name)?;
-    Some(kept.verify_password(version, Password::Prepared(password), &mut Meter::new()))
+    Some(kept.verify_password(version, Password::Typed(password), &mut Meter::new()))
 }
 
 /// Returns whether a version is asked for. `None` asks for all.
