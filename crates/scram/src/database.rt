@@ -3,7 +3,9 @@
 use fe2o3_scram::{MultiRecordStore, ScramCredentialProvider, ScramRecord, ScramVersion};
 use scram_base_lib::database::{Database, WAIT};
 use scram_base_lib::database_fault::DatabaseFault;
+use scram_base_lib::imported::Imported;
 use scram_base_lib::lines;
+use scram_base_lib::lines::UserLine;
 use scram_base_lib::stop::Stop;
 use scram_base_lib::store::{Change, Changed};
 use scram_db_lib::error::DatabaseError;
@@ -69,6 +71,43 @@ impl Database<HostRuntime> for SqliteFile {
         file::save(&mut pages).map_err(stop_of)?;
         Ok(changed)
     }
+
+    fn import(
+        &self,
+        rt: &HostRuntime,
+        path: &str,
+        wait: u32,
+        lines: &str,
+    ) -> Result<Imported, Stop> {
+        let mut pages = file::open(rt, path, wait, true).map_err(stop_of)?;
+        let mut done = Imported::new(rt.alloc());
+        for line in lines.split_inclusive('\n') {
+            import_line(rt.alloc(), &mut pages, line, &mut done)?;
+        }
+        file::save(&mut pages).map_err(stop_of)?;
+        Ok(done)
+    }
+}
+
+/// Adds the record of a valid line, or replaces the one for the same name and mechanism.
+fn import_line<P: Pages>(
+    alloc: Global,
+    pages: &mut P,
+    line: &str,
+    done: &mut Imported,
+) -> Result<(), Stop> {
+    let (users, parts) = (
+        MultiRecordStore::parse_lines(alloc, line)?,
+        UserLine::of(line),
+    );
+    let name = lines::unescaped(alloc, parts.name)?;
+    let root = schema::root(alloc, pages).map_err(stop_of)?;
+    let mut old = String::new(alloc);
+    if let Some(version) = ScramVersion::from_mechanism(parts.mechanism) {
+        push_user(alloc, pages, root, &name, version, &mut old)?;
+        put(alloc, pages, root, &name, version, &users)?;
+    }
+    done.push(alloc, line, !old.is_empty())
 }
 
 /// Returns the lines of a user's records, for one mechanism or for all.

@@ -1,6 +1,7 @@
 //! A database of users, which the caller of the commands opens.
 
 use crate::database_fault::DatabaseFault;
+use crate::imported::Imported;
 use crate::stop::Stop;
 use crate::store::{Change, Changed};
 use fe2o3_scram::ScramVersion;
@@ -35,6 +36,10 @@ pub trait Database<R> {
         name: &str,
         change: &C,
     ) -> Result<Changed, Stop>;
+
+    /// Adds the records of these lines, or replaces those for the same names and mechanisms, all of them or none. Waits
+    /// like [`Database::make_change`].
+    fn import(&self, rt: &R, file: &str, wait: u32, lines: &str) -> Result<Imported, Stop>;
 }
 
 /// No database: each call returns an error.
@@ -71,6 +76,10 @@ impl<R> Database<R> for NoDatabase {
         _name: &str,
         _change: &C,
     ) -> Result<Changed, Stop> {
+        Err(NONE)
+    }
+
+    fn import(&self, _rt: &R, _file: &str, _wait: u32, _lines: &str) -> Result<Imported, Stop> {
         Err(NONE)
     }
 }

@@ -86,16 +86,24 @@ pub enum Stop {
     #[error("The file cannot be read. {0}. Correct or remove that line.")]
     Line(ReadLinesError),
 
+    /// A line of the file is no record, and what it is.
+    #[error("The file cannot be read: line {0} {1}.")]
+    NoRecord(usize, &'static str),
+
     /// The file to change is a folder, a pipe or a device.
     #[error("The file is not changed: it is not a regular file. Name a regular file.")]
     NotRegular,
+
+    /// The file to change has several names. A change would be one of the file of this name only.
+    #[error("The file is not changed: it has another name (a hard link). Make that a symbolic link, or a copy.")]
+    HardLinks,
 
     /// The file to change is a link, and the file that it names does not exist.
     #[error("The file is a link to a file that does not exist. Make that file, or remove the link.")]
     DanglingLink,
 
-    /// Another program is writing the new file, or was stopped while it was writing.
-    #[error("This new file exists: a change is under way, or was stopped. Wait with --wait, or remove it if no program is changing the file.")]
+    /// Another program has the new file, or another user left it.
+    #[error("A change is under way in this new file, or it is another's. Wait with --wait, or remove it if no program is changing the file.")]
     Busy,
 
     /// The new file cannot be written. The old one stays.
@@ -117,6 +125,14 @@ pub enum Stop {
     /// The database of users cannot be used.
     #[error("The database cannot be used: {0}.")]
     Database(DatabaseFault),
+
+    /// A line of the input is no record to import.
+    #[error("Standard input cannot be imported. {0}. Nothing is changed.")]
+    NotImported(ReadLinesError),
+
+    /// Two lines of the input have one name and one mechanism.
+    #[error("Line {0} of standard input has the name and the mechanism of an earlier one. Nothing is changed.")]
+    Repeated(usize),
 
     /// No record has the name.
     #[error("The file has no such record. scram users list shows its records.")]
@@ -331,7 +347,9 @@ impl Stop {
             | Stop::NotUtf8
             | Stop::Marked
             | Stop::Line(_)
+            | Stop::NoRecord(_, _)
             | Stop::NotRegular
+            | Stop::HardLinks
             | Stop::DanglingLink
             | Stop::Unwritten(_)
             | Stop::OwnerLost(_)
@@ -388,7 +406,11 @@ impl Stop {
             | Stop::NotUtf8
             | Stop::Marked
             | Stop::Line(_)
+            | Stop::NoRecord(_, _)
             | Stop::NotRegular
+            | Stop::HardLinks
+            | Stop::NotImported(_)
+            | Stop::Repeated(_)
             | Stop::DanglingLink
             | Stop::Busy
             | Stop::OwnerLost(_)

@@ -1,6 +1,7 @@
 pub mod Acting
 pub mod Done
 pub mod Forms
+pub mod Gsasl
 pub mod LoginLine
 pub mod Names
 pub mod private

@@ -11,6 +11,7 @@ pub mod client;
 pub mod done;
 pub mod form;
 pub mod frames;
+pub mod gsasl;
 pub mod keys;
 pub mod man;
 pub mod manual;
@@ -30,6 +31,7 @@ use scram_base_lib::audited::Audited;
 use scram_base_lib::database::Database;
 use scram_base_lib::stop::Stop;
 use scram_base_lib::store;
+use scram_base_lib::store::Locks;
 use std::io::{BufRead, Write};
 use std::random::RandomSource;
 use std::rt::{Clock, Files};
@@ -53,7 +55,7 @@ pub fn run<R, I, O, E, A, D>(
     db: &D,
 ) -> u8
 where
-    R: Files + Clock + RandomSource + AllocGlobal,
+    R: Locks + Clock + RandomSource + AllocGlobal,
     I: BufRead,
     O: Write,
     E: Write,
@@ -84,7 +86,7 @@ fn read_words<R, I, O, E, A, D>(
     audit: A,
 ) -> Result<u8, Stop>
 where
-    R: Files + Clock + RandomSource + AllocGlobal,
+    R: Locks + Clock + RandomSource + AllocGlobal,
     I: BufRead,
     O: Write,
     E: Write,
@@ -108,7 +110,7 @@ fn obey<R, I, O, E, A, D>(
     audit: A,
 ) -> u8
 where
-    R: Files + Clock + RandomSource + AllocGlobal,
+    R: Locks + Clock + RandomSource + AllocGlobal,
     I: BufRead,
     O: Write,
     E: Write,
@@ -151,7 +153,7 @@ fn do_command<R, I, O, E, A, D>(
     audit: A,
 ) -> Result<Done, Stop>
 where
-    R: Files + Clock + RandomSource + AllocGlobal,
+    R: Locks + Clock + RandomSource + AllocGlobal,
     I: BufRead,
     O: Write,
     E: Write,

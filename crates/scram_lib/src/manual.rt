@@ -3,10 +3,10 @@
 use crate::words::{
     ACCEPT_AUTHZID, ACCEPT_Y, ACTS_FOR, ADDED_MECHANISM, ALL, AUDIT, AUDIT_ECHO,
     AUDITED_ITERATIONS, BODIES, CHANGED_MECHANISM, CHANNEL, CHANNEL_ACCEPTED, CHANNEL_NOT_OFFERED,
-    CHECKED_NAME, DB, ECHO, FILE, FRAMES, HASHES, ITERATIONS, KEYS, Kind, M, MAX_ITERATIONS,
-    MAY_ACT, MECHANISM, MIN_ITERATIONS, NAME, NEW_MECHANISM, NONCE, REJECT_MISPLACED, SALT,
-    SALT_LENGTH, SASLPREP, SERVER_DB, STRICT, TAKEN_ITERATIONS, TAKEN_SALT_LENGTH,
-    TELL_UNKNOWN_USERS, USER, WAIT, Word, Words,
+    CHECKED_NAME, DB, DRY_RUN, ECHO, FILE, FRAMES, GSASL, HASHES, ITERATIONS, KEYS, Kind, M,
+    MAX_ITERATIONS, MAY_ACT, MECHANISM, MIN_ITERATIONS, NAME, NEW_MECHANISM, NONCE,
+    REJECT_MISPLACED, SALT, SALT_LENGTH, SASLPREP, SERVER_DB, STRICT, TAKEN_ITERATIONS,
+    TAKEN_SALT_LENGTH, TELL_UNKNOWN_USERS, USER, WAIT, Word, Words,
 };
 use clap::builder::ValueParser;
 use clap::{Arg, ArgAction, Command};
@@ -86,7 +86,7 @@ pub static COMMANDS: [Words; 5] = [
 ];
 
 /// The commands of `users`.
-pub static USERS_COMMANDS: [Words; 5] = [
+pub static USERS_COMMANDS: [Words; 7] = [
     Words {
         name: "add",
         about: "Adds the records of a user, or replaces those for the same mechanisms",
@@ -126,6 +126,17 @@ pub static USERS_COMMANDS: [Words; 5] = [
         name: "list",
         about: "Prints the mechanism, the iteration count and the name of each record, quoted for a shell",
         words: &[FILE, DB, HASHES],
+    },
+    Words {
+        name: "import",
+        about: "Adds the records of standard input, each a line NAME RECORD, or replaces those for the same names and \
+            mechanisms; a record is one of this program, of PostgreSQL, or of gsasl --mkpasswd",
+        words: &[FILE, DB, DRY_RUN, WAIT],
+    },
+    Words {
+        name: "export",
+        about: "Prints the records as lines for import; PostgreSQL takes the records too",
+        words: &[FILE, DB, GSASL],
     },
     Words {
         name: "check",

@@ -9,7 +9,9 @@ use crate::done::Done;
 use crate::record::NewRecord;
 use crate::server::{Service, serve};
 use crate::users::alike::{check_file, list_hashes};
-use crate::users::{Listed, Named, add, change_password, check, list, remove};
+use crate::users::export::{Printed, export, print};
+use crate::users::import::import;
+use crate::users::{Listed, Named, check, put, remove};
 use crate::{man, record};
 use clap::ArgMatches;
 use fe2o3_scram::{DEFAULT_SCRAM_ITERATIONS, ScramVersion};
@@ -18,9 +20,10 @@ use scram_base_lib::database::Database;
 use scram_base_lib::explain::explain;
 use scram_base_lib::input;
 use scram_base_lib::stop::Stop;
+use scram_base_lib::store::Locks;
 use std::io::{BufRead, Write};
 use std::random::RandomSource;
-use std::rt::{Clock, Files};
+use std::rt::Clock;
 
 /// The input and the output, and the databases.
 #[derive(Drop)]
@@ -62,6 +65,12 @@ pub enum Task<'a, 'm> {
 
     /// Lists the records of a file.
     List(Listed<'a>),
+
+    /// Prints the records of a file as lines of it or of `gsasl`.
+    Export(Listed<'a>, Printed),
+
+    /// Adds the records of the input to a file. The flag asks for a dry run.
+    Import(Named<'a>, bool),
 
     /// Lists the mechanisms for which all users of a file have records.
     ListHashes(Listed<'a>),
@@ -144,6 +153,11 @@ impl<'a, 'm> Task<'a, 'm> {
             Some(("remove", found)) => Task::Remove(named(found)),
             Some(("check", found)) if found.contains_id("NAME") => Task::Check(named(found)),
             Some(("check", found)) => Task::CheckFile(listed(found)),
+            Some(("import", found)) => Task::Import(named(found), found.get_flag("dry-run")),
+            Some(("export", found)) if found.get_flag("gsasl") => {
+                Task::Export(listed(found), Printed::Gsasl)
+            }
+            Some(("export", found)) => Task::Export(listed(found), Printed::Line),
             Some((_, found)) if found.get_flag("hashes") => Task::ListHashes(listed(found)),
             Some((_, found)) => Task::List(listed(found)),
             None => Task::List(listed(matches)),
@@ -156,8 +170,12 @@ impl<'a, 'm> Task<'a, 'm> {
             Task::Add(named, _)
             | Task::ChangePassword(named, _)
             | Task::Remove(named)
+            | Task::Import(named, _)
             | Task::Check(named) => named.file,
-            Task::List(listed) | Task::ListHashes(listed) | Task::CheckFile(listed) => listed.file,
+            Task::List(listed)
+            | Task::Export(listed, _)
+            | Task::ListHashes(listed)
+            | Task::CheckFile(listed) => listed.file,
             Task::Client(login) => login.keys.unwrap_or(""),
             Task::Server(service) => service.file,
             Task::Record(_, _) | Task::Explain(_) | Task::Man => "",
@@ -172,7 +190,7 @@ impl<'a, 'm> Task<'a, 'm> {
         errors: &mut E,
     ) -> Result<Done, Stop>
     where
-        R: Files + Clock + RandomSource + AllocGlobal,
+        R: Locks + Clock + RandomSource + AllocGlobal,
         I: BufRead,
         O: Write,
         E: Write,
@@ -204,7 +222,7 @@ impl<'a, 'm> Task<'a, 'm> {
         errors: &mut E,
     ) -> Result<(), Stop>
     where
-        R: Files + Clock + RandomSource + AllocGlobal,
+        R: Locks + Clock + RandomSource + AllocGlobal,
         I: BufRead,
         O: Write,
         E: Write,
@@ -216,32 +234,21 @@ impl<'a, 'm> Task<'a, 'm> {
                 let password = input::password(alloc, streams.input)?;
                 record::print(rt, *version, record, password.as_str(), streams.output)
             }
-            Task::Add(named, record) => {
-                let password = input::password(alloc, streams.input)?;
-                add(
-                    rt,
-                    db,
-                    named,
-                    record,
-                    password.as_str(),
-                    streams.output,
-                    errors,
-                )
-            }
-            Task::ChangePassword(named, record) => {
-                let password = input::password(alloc, streams.input)?;
-                change_password(
-                    rt,
-                    db,
-                    named,
-                    record,
-                    password.as_str(),
-                    streams.output,
-                    errors,
-                )
+            Task::Add(named, record) | Task::ChangePassword(named, record) => {
+                let must_exist = matches!(self, Task::ChangePassword(_, _));
+                let word = input::password(alloc, streams.input)?;
+                let (password, output) = (word.as_str(), &mut *streams.output);
+                put(rt, db, named, must_exist, record, password, output, errors)
             }
             Task::Remove(named) => remove(rt, db, named, streams.output),
-            Task::List(listed) => list(rt, db, listed, streams.output),
+            Task::List(listed) => {
+                let _ = print(rt, db, listed, Printed::Name, streams.output)?;
+                Ok(())
+            }
+            Task::Export(listed, how) => export(rt, db, listed, *how, streams.output, errors),
+            Task::Import(named, dry_run) => {
+                import(rt, db, named, *dry_run, streams.input, streams.output)
+            }
             Task::ListHashes(listed) => list_hashes(rt, db, listed, streams.output),
             Task::CheckFile(listed) => check_file(rt, db, listed, streams.output),
             Task::Explain(frames) => explain(alloc, *frames, streams.input, streams.output),

@@ -167,6 +167,20 @@ pub(crate) const WAIT: Word = Word {
     help: "Waits this long for another change of the file; default 0",
 };
 
+pub(crate) const DRY_RUN: Word = Word {
+    kind: Kind::Flag,
+    name: "dry-run",
+    value: "",
+    help: "Prints what would be done, and changes nothing",
+};
+
+pub(crate) const GSASL: Word = Word {
+    kind: Kind::Flag,
+    name: "gsasl",
+    value: "",
+    help: "Prints records as gsasl --mkpasswd does: {M}COUNT,SALT,STOREDKEY,SERVERKEY",
+};
+
 pub(crate) const NEW_MECHANISM: Word = Word {
     kind: Kind::DefaultMechanism,
     name: "mechanism",
