@@ -3,7 +3,6 @@
 use fe2o3_scram::{MultiRecordStore, ScramCredentialProvider, ScramRecord, ScramVersion};
 use scram_base_lib::database::{Database, WAIT};
 use scram_base_lib::database_fault::DatabaseFault;
-use scram_base_lib::imported::Imported;
 use scram_base_lib::lines;
 use scram_base_lib::lines::UserLine;
 use scram_base_lib::stop::Stop;
@@ -78,14 +77,14 @@ impl Database<HostRuntime> for SqliteFile {
         path: &str,
         wait: u32,
         lines: &str,
-    ) -> Result<Imported, Stop> {
+    ) -> Result<Vec<u8>, Stop> {
         let mut pages = file::open(rt, path, wait, true).map_err(stop_of)?;
-        let mut done = Imported::new(rt.alloc());
+        let mut report = Vec::new(rt.alloc());
         for line in lines.split_inclusive('\n') {
-            import_line(rt.alloc(), &mut pages, line, &mut done)?;
+            import_line(rt.alloc(), &mut pages, line, &mut report)?;
         }
         file::save(&mut pages).map_err(stop_of)?;
-        Ok(done)
+        Ok(report)
     }
 }
 
@@ -94,7 +93,7 @@ fn import_line<P: Pages>(
     alloc: Global,
     pages: &mut P,
     line: &str,
-    done: &mut Imported,
+    report: &mut Vec<u8>,
 ) -> Result<(), Stop> {
     let (users, parts) = (
         MultiRecordStore::parse_lines(alloc, line)?,
@@ -107,7 +106,7 @@ fn import_line<P: Pages>(
         push_user(alloc, pages, root, &name, version, &mut old)?;
         put(alloc, pages, root, &name, version, &users)?;
     }
-    done.push(alloc, line, !old.is_empty())
+    lines::push_report(alloc, line, !old.is_empty(), report)
 }
 
 /// Returns the lines of a user's records, for one mechanism or for all.

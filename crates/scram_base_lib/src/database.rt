@@ -1,7 +1,6 @@
 //! A database of users, which the caller of the commands opens.
 
 use crate::database_fault::DatabaseFault;
-use crate::imported::Imported;
 use crate::stop::Stop;
 use crate::store::{Change, Changed};
 use fe2o3_scram::ScramVersion;
@@ -38,8 +37,8 @@ pub trait Database<R> {
     ) -> Result<Changed, Stop>;
 
     /// Adds the records of these lines, or replaces those for the same names and mechanisms, all of them or none. Waits
-    /// like [`Database::make_change`].
-    fn import(&self, rt: &R, file: &str, wait: u32, lines: &str) -> Result<Imported, Stop>;
+    /// like [`Database::make_change`]. Returns a line for each, of [`push_report`](crate::lines::push_report).
+    fn import(&self, rt: &R, file: &str, wait: u32, lines: &str) -> Result<Vec<u8>, Stop>;
 }
 
 /// No database: each call returns an error.
@@ -79,7 +78,7 @@ impl<R> Database<R> for NoDatabase {
         Err(NONE)
     }
 
-    fn import(&self, _rt: &R, _file: &str, _wait: u32, _lines: &str) -> Result<Imported, Stop> {
+    fn import(&self, _rt: &R, _file: &str, _wait: u32, _lines: &str) -> Result<Vec<u8>, Stop> {
         Err(NONE)
     }
 }

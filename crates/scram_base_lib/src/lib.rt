@@ -7,7 +7,6 @@ pub mod channel;
 pub mod database;
 pub mod database_fault;
 pub mod explain;
-pub mod imported;
 pub mod input;
 pub mod lines;
 pub mod shown;

@@ -13,7 +13,8 @@ use fe2o3_scram::{
     WriteLinesError, escape_username, unescape_username,
 };
 use std::alloc::Global;
-use std::io::{BufRead, Write};
+use std::collections::{BTreeMap, BTreeSet};
+use std::io::BufRead;
 use std::random::RandomSource;
 use std::rt::{Clock, Files};
 
@@ -131,7 +132,7 @@ pub fn push_shown(alloc: Global, line: &UserLine<'_>, text: &mut Vec<u8>) -> Res
     Ok(text.push(b'\n')?)
 }
 
-/// A change of the lines of a user, whose name is not escaped, in a file. The other lines stay byte for byte.
+/// A change of the lines of a user, whose name is not escaped, in a file.
 #[derive(Drop)]
 struct InFile<'a, C> {
     name: &'a str,
@@ -145,24 +146,22 @@ impl<C: Change> Rewrite for InFile<'_, C> {
         self.change.makes_files()
     }
 
-    fn write<R: RandomSource + AllocGlobal, W: Write>(
+    fn rewrite<R: RandomSource + AllocGlobal>(
         &self,
         rt: &R,
         old: &str,
-        new: &mut W,
-    ) -> Result<Changed, Stop> {
+    ) -> Result<(String, Changed), Stop> {
         let alloc = rt.alloc();
         let name = escaped(alloc, self.name)?;
         let (mut own, mut firsts) = (String::new(alloc), String::new(alloc));
         find(alloc, old, &name, &mut own, &mut firsts)?;
         let changed = self.change.apply(rt, &own, &firsts)?;
-        write(alloc, old, &name, &changed.text, new)?;
-        Ok(changed)
+        let text = merge(alloc, old, Some(&name), &changed.text, &mut Vec::new(alloc))?;
+        Ok((text, changed))
     }
 }
 
-/// Changes the lines of a user in a file. The name is not escaped. A line takes the place of an old one for its mechanism,
-/// or is added at the end.
+/// Changes the lines of a user in a file. The name is not escaped. The other lines stay byte for byte.
 pub fn make_change<R: Locks + Clock + RandomSource + AllocGlobal, C: Change>(
     rt: &R,
     file: &str,
@@ -196,45 +195,66 @@ fn find(
     Ok(())
 }
 
-/// Writes a text with these lines of a name, which is escaped, in place of its own.
-fn write<W: Write>(
+/// Returns a text in which each of these lines takes the place of that for its name and its mechanism, or is added at the
+/// end. Other lines of the user of this name, which is escaped, are left out. The report gets a line for each.
+pub fn merge(
     alloc: Global,
     text: &str,
-    name: &str,
+    name: Option<&str>,
     lines: &str,
-    new: &mut W,
-) -> Result<(), Stop> {
-    let mut lines: Vec<&str> = lines.split_inclusive('\n').collect(alloc)?;
-    let (mut kept, mut end) = (0, 0usize);
+    report: &mut Vec<u8>,
+) -> Result<String, Stop> {
+    let (added, mut replaced) = (by_key(alloc, lines)?, BTreeSet::new(alloc));
+    let mut merged = String::with_capacity(alloc, text.len().saturating_add(lines.len()))?;
     for line in text.split_inclusive('\n') {
-        let start = end;
-        end = end.saturating_add(line.len());
-        // The first test is quick, and fails for most lines.
-        if line.starts_with(name) && UserLine::of(line).name == name {
-            write_str(text.get(kept..start).unwrap_or(""), new)?;
-            let mechanism = UserLine::of(line).mechanism;
-            if let Some(at) = lines
-                .iter()
-                .position(|it| UserLine::of(it).mechanism == mechanism)
-            {
-                write_str(lines.remove(at), new)?;
+        let key = key_of(line);
+        match added.get(key) {
+            None if name.is_some_and(|name| UserLine::of(line).name == name) => {}
+            None => merged.push_str(line)?,
+            Some(line) if replaced.insert(key)? => {
+                merged.push_str(line)?;
+                push_report(alloc, line, true, report)?;
             }
-            kept = end;
+            // Only the first record of a name and a mechanism counts.
+            Some(_) => {}
         }
     }
-    write_str(text.get(kept..).unwrap_or(""), new)?;
-    for line in lines {
-        write_str(line, new)?;
+    for line in lines.split_inclusive('\n') {
+        if !replaced.contains(key_of(line)) {
+            merged.push_str(line)?;
+            push_report(alloc, line, false, report)?;
+        }
     }
-    Ok(())
+    Ok(merged)
 }
 
-/// Writes a part of a new file.
-fn write_str<W: Write>(text: &str, new: &mut W) -> Result<(), Stop> {
-    if text.is_empty() {
-        return Ok(());
+/// Appends what an import does with a line.
+pub fn push_report(
+    alloc: Global,
+    line: &str,
+    replaces: bool,
+    report: &mut Vec<u8>,
+) -> Result<(), Stop> {
+    report.extend_from_slice(if replaces { b"replace " } else { b"add " })?;
+    push_shown(alloc, &UserLine::of(line), report)
+}
+
+/// Returns lines by their keys. The error at a key of two lines is `Repeated`.
+fn by_key<'a>(alloc: Global, lines: &'a str) -> Result<BTreeMap<&'a str, &'a str>, Stop> {
+    let mut keys = BTreeMap::new(alloc);
+    for (before, line) in lines.split_inclusive('\n').enumerate() {
+        if keys.insert(key_of(line), line)?.is_some() {
+            return Err(Stop::Repeated(before.saturating_add(1)));
+        }
     }
-    new.write_all(text.as_bytes()).map_err(Stop::of_writing)
+    Ok(keys)
+}
+
+/// Returns the name, escaped, and the mechanism of a valid line.
+fn key_of(line: &str) -> &str {
+    let parts = UserLine::of(line);
+    let len = parts.name.len().saturating_add(parts.mechanism.len());
+    line.get(..len.saturating_add(1)).unwrap_or("")
 }
 
 /// Returns the lines of a user in a text. The name is not escaped.

@@ -55,13 +55,12 @@ pub trait Rewrite {
     /// Returns whether a missing file counts as an empty one.
     fn makes_files(&self) -> bool;
 
-    /// Writes the new text.
-    fn write<R: RandomSource + AllocGlobal, W: Write>(
+    /// Returns the new text.
+    fn rewrite<R: RandomSource + AllocGlobal>(
         &self,
         rt: &R,
         old: &str,
-        new: &mut W,
-    ) -> Result<Self::Done, Stop>;
+    ) -> Result<(String, Self::Done), Stop>;
 }
 
 /// A change of the lines of a user.
@@ -251,8 +250,9 @@ fn fill<R: Locks + RandomSource + AllocGlobal, C: Rewrite>(
     change: &C,
 ) -> Result<C::Done, Stop> {
     let old = read_old(rt, target, change.makes_files())?;
-    let done = change.write(rt, &old.text, new)?;
+    let (text, done) = change.rewrite(rt, &old.text)?;
     let permissions = keep_owner(rt, beside, new, &old.metadata)?;
+    new.write_all(text.as_bytes()).map_err(Stop::of_writing)?;
     new.set_permissions(permissions).map_err(Stop::of_writing)?;
     new.sync_all().map_err(Stop::of_writing)?;
     fs::rename(rt, beside, target).map_err(Stop::of_writing)?;

@@ -8,7 +8,6 @@ use scram_base_lib::store;
 use scram_base_lib::store::{Locks, Rewrite};
 use scram_base_lib::wire::bytes_of;
 use std::alloc::{AllocError, Global};
-use std::io::Write;
 use std::random::RandomSource;
 use std::rt::{Clock, Files};
 
@@ -64,14 +63,12 @@ impl Rewrite for Kept {
         true
     }
 
-    fn write<R: RandomSource + AllocGlobal, W: Write>(
+    fn rewrite<R: RandomSource + AllocGlobal>(
         &self,
         _rt: &R,
         _old: &str,
-        new: &mut W,
-    ) -> Result<(), Stop> {
-        new.write_all(self.line.as_bytes())
-            .map_err(Stop::of_writing)
+    ) -> Result<(String, ()), Stop> {
+        Ok((self.line.clone()?, ()))
     }
 }
 

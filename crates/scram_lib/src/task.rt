@@ -9,7 +9,7 @@ use crate::done::Done;
 use crate::record::NewRecord;
 use crate::server::{Service, serve};
 use crate::users::alike::{check_file, list_hashes};
-use crate::users::export::{Printed, export, print};
+use crate::users::export::{Printed, print};
 use crate::users::import::import;
 use crate::users::{Listed, Named, check, put, remove};
 use crate::{man, record};
@@ -63,11 +63,8 @@ pub enum Task<'a, 'm> {
     /// Removes a user's records from a file.
     Remove(Named<'a>),
 
-    /// Lists the records of a file.
-    List(Listed<'a>),
-
-    /// Prints the records of a file as lines of it or of `gsasl`.
-    Export(Listed<'a>, Printed),
+    /// Lists or exports the records of a file.
+    List(Listed<'a>, Printed),
 
     /// Adds the records of the input to a file. The flag asks for a dry run.
     Import(Named<'a>, bool),
@@ -155,12 +152,12 @@ impl<'a, 'm> Task<'a, 'm> {
             Some(("check", found)) => Task::CheckFile(listed(found)),
             Some(("import", found)) => Task::Import(named(found), found.get_flag("dry-run")),
             Some(("export", found)) if found.get_flag("gsasl") => {
-                Task::Export(listed(found), Printed::Gsasl)
+                Task::List(listed(found), Printed::Gsasl)
             }
-            Some(("export", found)) => Task::Export(listed(found), Printed::Line),
+            Some(("export", found)) => Task::List(listed(found), Printed::Line),
             Some((_, found)) if found.get_flag("hashes") => Task::ListHashes(listed(found)),
-            Some((_, found)) => Task::List(listed(found)),
-            None => Task::List(listed(matches)),
+            Some((_, found)) => Task::List(listed(found), Printed::Name),
+            None => Task::List(listed(matches), Printed::Name),
         }
     }
 
@@ -172,8 +169,7 @@ impl<'a, 'm> Task<'a, 'm> {
             | Task::Remove(named)
             | Task::Import(named, _)
             | Task::Check(named) => named.file,
-            Task::List(listed)
-            | Task::Export(listed, _)
+            Task::List(listed, _)
             | Task::ListHashes(listed)
             | Task::CheckFile(listed) => listed.file,
             Task::Client(login) => login.keys.unwrap_or(""),
@@ -241,11 +237,7 @@ impl<'a, 'm> Task<'a, 'm> {
                 put(rt, db, named, must_exist, record, password, output, errors)
             }
             Task::Remove(named) => remove(rt, db, named, streams.output),
-            Task::List(listed) => {
-                let _ = print(rt, db, listed, Printed::Name, streams.output)?;
-                Ok(())
-            }
-            Task::Export(listed, how) => export(rt, db, listed, *how, streams.output, errors),
+            Task::List(listed, how) => print(rt, db, listed, *how, streams.output, errors),
             Task::Import(named, dry_run) => {
                 import(rt, db, named, *dry_run, streams.input, streams.output)
             }

@@ -28,27 +28,8 @@ pub enum Printed {
     Gsasl,
 }
 
-/// Prints each record of a file, and returns their number.
-pub fn print<R: Files + AllocGlobal, O: Write, D: Database<R>>(
-    rt: &R,
-    db: &D,
-    listed: &Listed<'_>,
-    how: Printed,
-    output: &mut O,
-) -> Result<usize, Stop> {
-    let alloc = rt.alloc();
-    if listed.is_db {
-        let text = db.lines(rt, listed.file)?;
-        let mut input = BufReader::new(alloc, text.as_bytes()).map_err(Stop::of_reading)?;
-        return print_lines(alloc, &mut input, how, output);
-    }
-    let file = fs::open(rt, listed.file).map_err(Stop::of_reading)?;
-    let mut input = BufReader::new(alloc, file).map_err(Stop::of_reading)?;
-    print_lines(alloc, &mut input, how, output)
-}
-
-/// Prints the records of a file, and their number on the errors.
-pub fn export<R: Files + AllocGlobal, O: Write, E: Write, D: Database<R>>(
+/// Prints each record of a file, and the number of exported ones on the errors.
+pub fn print<R: Files + AllocGlobal, O: Write, E: Write, D: Database<R>>(
     rt: &R,
     db: &D,
     listed: &Listed<'_>,
@@ -56,9 +37,20 @@ pub fn export<R: Files + AllocGlobal, O: Write, E: Write, D: Database<R>>(
     output: &mut O,
     errors: &mut E,
 ) -> Result<(), Stop> {
-    let count = print(rt, db, listed, how, output)?;
-    // The records are printed, whether or not that can be written.
-    let _ = writeln!(errors, "scram: {count} exported");
+    let alloc = rt.alloc();
+    let count = if listed.is_db {
+        let text = db.lines(rt, listed.file)?;
+        let mut input = BufReader::new(alloc, text.as_bytes()).map_err(Stop::of_reading)?;
+        print_lines(alloc, &mut input, how, output)?
+    } else {
+        let file = fs::open(rt, listed.file).map_err(Stop::of_reading)?;
+        let mut input = BufReader::new(alloc, file).map_err(Stop::of_reading)?;
+        print_lines(alloc, &mut input, how, output)?
+    };
+    if !matches!(how, Printed::Name) {
+        // The records are printed, whether or not that can be written.
+        let _ = writeln!(errors, "scram: {count} exported");
+    }
     Ok(())
 }
 

@@ -12,13 +12,10 @@ use fe2o3_scram::{
 };
 use scram_base_lib::database::{Database, WAIT};
 use scram_base_lib::database_fault::DatabaseFault;
-use scram_base_lib::imported::Imported;
-use scram_base_lib::lines::UserLine;
 use scram_base_lib::stop::Stop;
 use scram_base_lib::store::{Locks, Rewrite};
 use scram_base_lib::{input, lines, store};
 use std::alloc::Global;
-use std::collections::{BTreeMap, BTreeSet};
 use std::io::{BufRead, ErrorKind, Write};
 use std::random::RandomSource;
 use std::rt::{Clock, Files};
@@ -39,21 +36,35 @@ where
     O: Write,
     D: Database<R>,
 {
-    let text = lines_in(rt.alloc(), input)?;
-    let added = Added { lines: &text };
+    let lines = lines_in(rt.alloc(), input)?;
+    let added = Added { lines: &lines };
     if dry_run {
-        let done = added.write(rt, &old_lines(rt, db, named)?, &mut Vec::new(rt.alloc()))?;
-        output.write_all(&done.report).map_err(Stop::of_output)?;
-        let (added, replaced) = (done.added, done.replaced);
+        let (_, report) = added.rewrite(rt, &old_lines(rt, db, named)?)?;
+        output.write_all(&report).map_err(Stop::of_output)?;
+        let (added, replaced) = counts(&report);
         return writeln!(output, "{added} to add, {replaced} to replace").map_err(Stop::of_output);
     }
-    let done = if named.is_db {
+    let report = if named.is_db {
         let wait = if named.wait == 0 { WAIT } else { named.wait };
-        db.import(rt, named.file, wait, &text)?
+        db.import(rt, named.file, wait, &lines)?
     } else {
         store::make_change(rt, named.file, named.wait, &added)?
     };
-    writeln!(output, "{} added, {} replaced", done.added, done.replaced).map_err(Stop::of_report)
+    let (added, replaced) = counts(&report);
+    writeln!(output, "{added} added, {replaced} replaced").map_err(Stop::of_report)
+}
+
+/// Returns the number of records that a report says are added, and that of replaced ones.
+fn counts(report: &[u8]) -> (usize, usize) {
+    let (mut added, mut replaced) = (0usize, 0usize);
+    for line in report.split(|byte| *byte == b'\n') {
+        if line.starts_with(b"add ") {
+            added = added.saturating_add(1);
+        } else if line.starts_with(b"replace ") {
+            replaced = replaced.saturating_add(1);
+        }
+    }
+    (added, replaced)
 }
 
 /// Returns the lines of a file before an import, which makes a missing one.
@@ -117,58 +128,20 @@ struct Added<'a> {
 }
 
 impl Rewrite for Added<'_> {
-    type Done = Imported;
+    type Done = Vec<u8>;
 
     fn makes_files(&self) -> bool {
         true
     }
 
-    fn write<R: RandomSource + AllocGlobal, W: Write>(
+    fn rewrite<R: RandomSource + AllocGlobal>(
         &self,
         rt: &R,
         old: &str,
-        new: &mut W,
-    ) -> Result<Imported, Stop> {
-        let alloc = rt.alloc();
-        let (mut done, mut text) = (Imported::new(alloc), String::new(alloc));
-        let (added, mut replaced) = (by_key(alloc, self.lines)?, BTreeSet::new(alloc));
-        for (before, line) in old.split_inclusive('\n').enumerate() {
-            lines::check(alloc, line, before.saturating_add(1))?;
-            match added.get(key_of(line)) {
-                None => text.push_str(line)?,
-                Some(line) if replaced.insert(key_of(line))? => {
-                    text.push_str(line)?;
-                    done.push(alloc, line, true)?;
-                }
-                // Only the first record of a name and a mechanism counts.
-                Some(_) => {}
-            }
-        }
-        for line in self.lines.split_inclusive('\n') {
-            if !replaced.contains(key_of(line)) {
-                text.push_str(line)?;
-                done.push(alloc, line, false)?;
-            }
-        }
-        new.write_all(text.as_bytes()).map_err(Stop::of_writing)?;
-        Ok(done)
+    ) -> Result<(String, Vec<u8>), Stop> {
+        drop(lines::parse(rt.alloc(), old)?);
+        let mut report = Vec::new(rt.alloc());
+        let text = lines::merge(rt.alloc(), old, None, self.lines, &mut report)?;
+        Ok((text, report))
     }
-}
-
-/// Returns lines by their keys. The error at a key of two lines is `Repeated`.
-fn by_key<'a>(alloc: Global, lines: &'a str) -> Result<BTreeMap<&'a str, &'a str>, Stop> {
-    let mut keys = BTreeMap::new(alloc);
-    for (before, line) in lines.split_inclusive('\n').enumerate() {
-        if keys.insert(key_of(line), line)?.is_some() {
-            return Err(Stop::Repeated(before.saturating_add(1)));
-        }
-    }
-    Ok(keys)
-}
-
-/// Returns the name, escaped, and the mechanism of a valid line.
-fn key_of(line: &str) -> &str {
-    let parts = UserLine::of(line);
-    let len = parts.name.len().saturating_add(parts.mechanism.len());
-    line.get(..len.saturating_add(1)).unwrap_or("")
 }
