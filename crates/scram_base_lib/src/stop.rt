@@ -122,6 +122,14 @@ pub enum Stop {
     #[error("The secret for mock records cannot be used: {0}. Correct its file, or remove it for a new secret.")]
     Secret(SecretError),
 
+    /// The file of rights cannot be read.
+    #[error("The rights cannot be read. Check the mode of this file, and that it is UTF-8.")]
+    UnreadableRights,
+
+    /// A line of the file of rights is no right.
+    #[error("Line {0} is not USER IDENTITY, both escaped as in a file of records. A user has no space and no colon.")]
+    WrongRights(usize),
+
     /// The database of users cannot be used.
     #[error("The database cannot be used: {0}.")]
     Database(DatabaseFault),
@@ -341,6 +349,7 @@ impl Stop {
         match self {
             Stop::Busy => Some(".new"),
             Stop::Secret(_) => Some(".secret"),
+            Stop::UnreadableRights | Stop::WrongRights(_) => Some(".rights"),
             Stop::Unreported(_)
             | Stop::UnreportedClosed
             | Stop::Unreadable(_)
@@ -409,6 +418,8 @@ impl Stop {
             | Stop::NoRecord(_, _)
             | Stop::NotRegular
             | Stop::HardLinks
+            | Stop::UnreadableRights
+            | Stop::WrongRights(_)
             | Stop::NotImported(_)
             | Stop::Repeated(_)
             | Stop::DanglingLink

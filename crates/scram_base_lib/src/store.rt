@@ -196,7 +196,12 @@ fn create_once<R: Locks>(rt: &R, beside: &str) -> Result<R::File, Stop> {
     }
     let mut options = OpenOptions::new();
     options.write(true).create_new(true).mode(0o600);
-    lock(rt, beside, options.open(rt, beside).map_err(of_beside)?)
+    let locked = lock(rt, beside, options.open(rt, beside).map_err(of_beside)?);
+    if let Err(Stop::Unwritten(_)) = &locked {
+        // The first error is the one to report.
+        let _ = fs::remove_file(rt, beside);
+    }
+    locked
 }
 
 /// Opens and locks the new file of a killed process, if there is one.

@@ -17,6 +17,7 @@ pub mod man;
 pub mod manual;
 pub mod nonces;
 pub mod record;
+pub mod rights;
 pub mod server;
 pub mod task;
 pub mod users;

@@ -7,7 +7,8 @@ ghost use Rattle.scram_lib.specs.Done.{IsDone};
 use crate::client::{Login, log_in};
 use crate::done::Done;
 use crate::record::NewRecord;
-use crate::server::{Service, serve};
+use crate::rights::serve_with_rights;
+use crate::server::Service;
 use crate::users::alike::{check_file, list_hashes};
 use crate::users::export::{Printed, print};
 use crate::users::import::import;
@@ -169,9 +170,8 @@ impl<'a, 'm> Task<'a, 'm> {
             | Task::Remove(named)
             | Task::Import(named, _)
             | Task::Check(named) => named.file,
-            Task::List(listed, _)
-            | Task::ListHashes(listed)
-            | Task::CheckFile(listed) => listed.file,
+            Task::List(listed, _) | Task::ListHashes(listed) | Task::CheckFile(listed) =>
+                listed.file,
             Task::Client(login) => login.keys.unwrap_or(""),
             Task::Server(service) => service.file,
             Task::Record(_, _) | Task::Explain(_) | Task::Man => "",
@@ -197,7 +197,7 @@ impl<'a, 'm> Task<'a, 'm> {
             Task::Client(login) => log_in(rt, login, streams.input, streams.output),
             Task::Server(service) => {
                 let db = streams.db;
-                serve(rt, db, service, streams.input, streams.output, errors)
+                serve_with_rights(rt, db, service, streams.input, streams.output, errors)
             }
             Task::Check(named) => {
                 let password = input::password(rt.alloc(), streams.input)?;
