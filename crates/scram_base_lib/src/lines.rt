@@ -62,7 +62,7 @@ pub fn parse(alloc: Global, text: &str) -> Result<MultiRecordStore, Stop>
     match MultiRecordStore::parse_lines(alloc, text) {
         Ok(users) => Ok(users),
         Err(fault) => {
-            let line = text.lines().nth(fault.line.saturating_sub(1));
+            let line = text.split('\n').nth(fault.line.saturating_sub(1));
             Err(stop_of(line.unwrap_or(""), fault))
         }
     }
@@ -239,15 +239,26 @@ pub fn push_report(
     push_shown(alloc, &UserLine::of(line), report)
 }
 
-/// Returns lines by their keys. The error at a key of two lines is `Repeated`.
+/// Returns lines by their keys. Of two with one key the first counts.
 fn by_key<'a>(alloc: Global, lines: &'a str) -> Result<BTreeMap<&'a str, &'a str>, Stop> {
     let mut keys = BTreeMap::new(alloc);
-    for (before, line) in lines.split_inclusive('\n').enumerate() {
-        if keys.insert(key_of(line), line)?.is_some() {
-            return Err(Stop::Repeated(before.saturating_add(1)));
+    for line in lines.split_inclusive('\n') {
+        if !keys.contains_key(key_of(line)) {
+            let _ = keys.insert(key_of(line), line)?;
         }
     }
     Ok(keys)
+}
+
+/// Checks that no two lines have one name and one mechanism.
+pub fn test_once(alloc: Global, lines: &str) -> Result<(), Stop> {
+    let mut keys = BTreeSet::new(alloc);
+    for (before, line) in lines.lines().enumerate() {
+        if !keys.insert(key_of(line))? {
+            return Err(Stop::Repeated(before.saturating_add(1)));
+        }
+    }
+    Ok(())
 }
 
 /// Returns the name, escaped, and the mechanism of a valid line.

@@ -36,8 +36,9 @@ where
     O: Write,
     D: Database<R>,
 {
-    let lines = lines_in(rt.alloc(), input)?;
-    let added = Added { lines: &lines };
+    let text = lines_in(rt.alloc(), input)?;
+    lines::test_once(rt.alloc(), &text)?;
+    let added = Added { lines: &text };
     if dry_run {
         let (_, report) = added.rewrite(rt, &old_lines(rt, db, named)?)?;
         output.write_all(&report).map_err(Stop::of_output)?;
@@ -46,7 +47,7 @@ where
     }
     let report = if named.is_db {
         let wait = if named.wait == 0 { WAIT } else { named.wait };
-        db.import(rt, named.file, wait, &lines)?
+        db.import(rt, named.file, wait, &text)?
     } else {
         store::make_change(rt, named.file, named.wait, &added)?
     };
