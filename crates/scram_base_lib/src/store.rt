@@ -215,7 +215,11 @@ fn left_over<R: Locks>(rt: &R, beside: &str) -> Result<Option<R::File>, Stop> {
     // NFS locks only what is open for writing.
     match options.write(true).open(rt, beside) {
         // It is that of another user, or was renamed.
-        Err(error) if is_in_use(error.kind()) => Err(Stop::Busy),
+        Err(error)
+            if matches!(
+                error.kind(),
+                ErrorKind::NotFound | ErrorKind::PermissionDenied
+            ) => { Err(Stop::Busy) }
         opened => Ok(Some(lock(rt, beside, opened.map_err(Stop::of_writing)?)?)),
     }
 }
@@ -231,11 +235,6 @@ fn lock<R: Locks>(rt: &R, beside: &str, file: R::File) -> Result<R::File, Stop> 
         return Err(Stop::Busy);
     }
     Ok(file)
-}
-
-/// Returns whether an error says that a new file is another's.
-fn is_in_use(kind: ErrorKind) -> bool {
-    matches!(kind, ErrorKind::NotFound | ErrorKind::PermissionDenied)
 }
 
 /// Converts the error of a new file.

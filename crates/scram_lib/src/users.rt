@@ -163,28 +163,11 @@ fn answers(users: &MultiRecordStore, named: &Named<'_>, password: &str) -> [Opti
     ensures { TellsEach users.now named.now.version named.now.name.now password.now
         (Sha1 ∷ Sha256 ∷ Sha512 ∷ []) result }
 {
+    let (asked, name) = (named.version, named.name);
     [
-        answer(
-            users,
-            named.version,
-            named.name,
-            password,
-            ScramVersion::Sha1,
-        ),
-        answer(
-            users,
-            named.version,
-            named.name,
-            password,
-            ScramVersion::Sha256,
-        ),
-        answer(
-            users,
-            named.version,
-            named.name,
-            password,
-            ScramVersion::Sha512,
-        ),
+        answer(users, asked, name, password, ScramVersion::Sha1),
+        answer(users, asked, name, password, ScramVersion::Sha256),
+        answer(users, asked, name, password, ScramVersion::Sha512),
     ]
 }
 

@@ -113,7 +113,10 @@ pub fn list_hashes<R: Files + AllocGlobal, O: Write, D: Database<R>>(
     let text = source::lines(rt, db, listed)?;
     let users = lines::parse(alloc, &text)?;
     for version in &VERSIONS {
-        let is_used = users.for_version(*version).first_stored_password().is_some();
+        let is_used = users
+            .for_version(*version)
+            .first_stored_password()
+            .is_some();
         if is_used && users.all_have(*version) {
             writeln!(output, "{}", version.mechanism()).map_err(Stop::of_output)?;
         }
