@@ -48,7 +48,7 @@ where
 
 /// Returns the arguments with these rights in place of theirs.
 fn with_words<'a, 'm>(service: &Service<'a, '_>, words: &'m [&'a str]) -> Service<'a, 'm>
-    ensures { result ≡ record service.now { may_act = result.may_act } }
+    ensures same { result ≡ record service.now { may_act = result.may_act } }
     ensures words { words_of (option_map (λ words. map (λ word. word.now) words.now) result.may_act)
         ≡ map (λ word. word.now) words.now }
 {

@@ -287,7 +287,11 @@ impl Locks for Disk {
         let bytes = file.node.bytes.replace(Vec::new(self.alloc()));
         let is_locked = bytes.as_slice() == b"locked\n";
         file.node.bytes.set(bytes);
-        if is_locked { Err(TryLockError::WouldBlock) } else { Ok(()) }
+        if is_locked {
+            Err(TryLockError::WouldBlock)
+        } else {
+            Ok(())
+        }
     }
 }
 
