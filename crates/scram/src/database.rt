@@ -3,6 +3,7 @@
 use fe2o3_scram::{MultiRecordStore, ScramCredentialProvider, ScramRecord, ScramVersion};
 use scram_base_lib::database::{Database, WAIT};
 use scram_base_lib::lines;
+use scram_base_lib::lines::UserLine;
 use scram_base_lib::shown::shown;
 use scram_base_lib::stop::Stop;
 use scram_base_lib::store::{Change, Changed};
@@ -11,9 +12,11 @@ use scram_db_lib::row::{Columns, StoredUser};
 use scram_db_lib::scan::Walk;
 use scram_db_lib::{file, schema, table};
 use sqlite_pages::Pages;
+use sqlite_pool::Pool;
+use sqlite_std_file::File;
 use std::alloc::Global;
 use std::cell::Cell;
-use std::io::Write;
+use std::io::{ErrorKind, Write};
 
 /// SQLite files.
 #[derive(Drop)]
@@ -78,15 +81,56 @@ impl Database<HostRuntime> for SqliteFile {
         change: &C,
     ) -> Result<Changed, Stop> {
         let mut pages = file::open(rt, path, wait, change.makes_files()).map_err(stop_of)?;
-        let saved = match apply(rt, path, &mut pages, name, change) {
-            Ok(changed) => file::save(&mut pages).map(|()| changed).map_err(stop_of),
-            Err(stop) => Err(stop),
-        };
-        let closed = file::close(rt, path, pages).map_err(stop_of);
-        let changed = saved?;
-        closed?;
-        Ok(changed)
+        let changed = apply(rt, path, &mut pages, name, change);
+        end(rt, path, pages, changed)
     }
+
+    fn import(
+        &self,
+        rt: &HostRuntime,
+        path: &str,
+        wait: u32,
+        lines: &str,
+    ) -> Result<Vec<u8>, Stop> {
+        let mut pages = file::open(rt, path, wait, true).map_err(stop_of)?;
+        let report = import_lines(rt.alloc(), &mut pages, lines);
+        end(rt, path, pages, report)
+    }
+}
+
+/// Saves what was done without an error, and closes the database.
+fn end<T: Drop>(
+    rt: &HostRuntime,
+    path: &str,
+    mut pages: Pool<File>,
+    done: Result<T, Stop>,
+) -> Result<T, Stop> {
+    let saved = match done {
+        Ok(done) => file::save(&mut pages).map(|()| done).map_err(stop_of),
+        Err(stop) => Err(stop),
+    };
+    let closed = file::close(rt, path, pages).map_err(stop_of);
+    let done = saved?;
+    closed?;
+    Ok(done)
+}
+
+/// Adds the records of valid lines, or replaces those for the same names and mechanisms. Returns the report.
+fn import_lines<P: Pages>(alloc: Global, pages: &mut P, lines: &str) -> Result<Vec<u8>, Stop> {
+    let root = schema::root(alloc, pages).map_err(stop_of)?;
+    let mut report = Vec::new(alloc);
+    for line in lines.split_inclusive('\n') {
+        let (users, parts) = (
+            MultiRecordStore::parse_lines(alloc, line)?,
+            UserLine::of(line),
+        );
+        let name = lines::unescaped(alloc, parts.name)?;
+        if let Some(version) = ScramVersion::from_mechanism(parts.mechanism) {
+            let replaces = put(alloc, pages, root, &name, version, &users)?;
+            lines::push_report(alloc, line, replaces, &mut report)?;
+        }
+    }
+    Ok(report)
 }
 
 /// Returns the lines of a user's records, for one mechanism or for all. A row that is no record is an error, which the
@@ -187,7 +231,7 @@ fn apply<P: Pages, C: Change>(
     let root = schema::root(alloc, pages).map_err(stop_of)?;
     let users = MultiRecordStore::parse_lines(alloc, &changed.text)?;
     for version in &VERSIONS {
-        put(alloc, pages, root, name, *version, &users)?;
+        let _ = put(alloc, pages, root, name, *version, &users)?;
     }
     Ok(changed)
 }
@@ -218,7 +262,7 @@ fn walk<P: Pages>(alloc: Global, pages: &mut P) -> Result<Walk, Stop> {
     Ok(Walk::new(alloc, root))
 }
 
-/// Gives a user the row of the record for a mechanism, or none if there is no record.
+/// Gives a user the row of the record for a mechanism, or none if there is no record. Returns whether there was a row.
 fn put<P: Pages>(
     alloc: Global,
     pages: &mut P,
@@ -226,12 +270,12 @@ fn put<P: Pages>(
     name: &str,
     version: ScramVersion,
     users: &MultiRecordStore,
-) -> Result<(), Stop> {
+) -> Result<bool, Stop> {
     let mechanism = version.mechanism().as_bytes();
     let removed = table::remove(alloc, pages, root, name.as_bytes(), mechanism);
-    removed.map_err(DatabaseError::from).map_err(stop_of)?;
+    let removed = removed.map_err(DatabaseError::from).map_err(stop_of)?;
     let Some(kept) = users.for_version(version).get_stored_password(name) else {
-        return Ok(());
+        return Ok(removed);
     };
     let columns = Columns {
         salt: kept.salt,
@@ -244,7 +288,7 @@ fn put<P: Pages>(
         // The row was removed just before.
         return Err(stop_of(DatabaseError::Damaged));
     }
-    Ok(())
+    Ok(removed)
 }
 
 /// Appends the line of the row of a walk, and returns whether it is a record.
@@ -265,6 +309,7 @@ fn push_row(alloc: Global, walk: &Walk, text: &mut String) -> Result<bool, Stop>
 fn stop_of(error: DatabaseError) -> Stop {
     match error {
         DatabaseError::OutOfMemory => Stop::OutOfMemory,
+        DatabaseError::Missing => Stop::Unreadable(ErrorKind::NotFound),
         DatabaseError::DanglingLink => Stop::DanglingLink,
         error => Stop::Database(error.text()),
     }

@@ -42,19 +42,24 @@ at_line stops.MessageRefused line = stops.MessageRefusedAt line
 at_line stop line = stop
 
 -- what follows the file's name in the name of the file at fault: `.new` where a change is under way, `.secret` where the
--- secret of mock records cannot be used, nothing where it is the file itself; no file is at fault otherwise
+-- secret of mock records cannot be used, `.rights` where the rights cannot be read, nothing where it is the file itself; no
+-- file is at fault otherwise
 abbrev pub suffix_of : Stop → Option (List ℕ)
 suffix_of stops.Busy = Some (codes ".new")
 suffix_of (stops.Secret fault) = Some (codes ".secret")
 suffix_of (stops.SecretUnreadable kind) = Some (codes ".secret")
 suffix_of (stops.SecretUnwritten kind) = Some (codes ".secret")
+suffix_of stops.UnreadableRights = Some (codes ".rights")
+suffix_of (stops.WrongRights line) = Some (codes ".rights")
 suffix_of (stops.Unreported kind) = Some []
 suffix_of stops.UnreportedClosed = Some []
 suffix_of (stops.Unreadable kind) = Some []
 suffix_of stops.NotUtf8 = Some []
 suffix_of stops.Marked = Some []
 suffix_of (stops.Line fault) = Some []
+suffix_of (stops.NoRecord line why) = Some []
 suffix_of stops.NotRegular = Some []
+suffix_of stops.HardLinks = Some []
 suffix_of stops.DanglingLink = Some []
 suffix_of (stops.Unwritten kind) = Some []
 suffix_of (stops.OwnerLost kind) = Some []

@@ -34,4 +34,8 @@ pub trait Database<R> {
         name: &str,
         change: &C,
     ) -> Result<Changed, Stop>;
+
+    /// Adds the records of these lines, or replaces those for the same names and mechanisms, all of them or none. Waits
+    /// like [`Database::make_change`]. Returns a line for each, of [`push_report`](crate::lines::push_report).
+    fn import(&self, rt: &R, file: &str, wait: u32, lines: &str) -> Result<Vec<u8>, Stop>;
 }

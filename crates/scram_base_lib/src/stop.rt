@@ -61,11 +61,15 @@ pub enum Stop {
     Marked,
     #[error("The file cannot be read. {0}. Correct or remove that line.")]
     Line(ReadLinesError),
+    #[error("The file cannot be read: line {0} {1}.")]
+    NoRecord(usize, &'static str),
     #[error("The file is not changed: it is not a regular file. Name a regular file.")]
     NotRegular,
+    #[error("The file is not changed: it has another name (a hard link). Make that a symbolic link, or a copy.")]
+    HardLinks,
     #[error("The file is a link to a file that does not exist. Make that file, or remove the link.")]
     DanglingLink,
-    #[error("It exists: another program is changing the file, or was interrupted. Wait with --wait, or remove it.")]
+    #[error("A change is under way in this new file, or it is another's. Wait with --wait, or remove it if no program is changing the file.")]
     Busy,
     /// The old file stays.
     #[error("The file is not changed: the new one beside it cannot be written: {}. Check the folder and its space.", cause(.0))]
@@ -81,8 +85,16 @@ pub enum Stop {
     SecretUnreadable(ErrorKind),
     #[error("The secret for mock records cannot be made: {}. Run scram server once as root, then chown it.", cause(.0))]
     SecretUnwritten(ErrorKind),
+    #[error("The rights cannot be read. Check the mode of this file, and that it is UTF-8.")]
+    UnreadableRights,
+    #[error("Line {0} is not USER IDENTITY, both escaped as in a file of records. A user has no space and no colon.")]
+    WrongRights(usize),
     #[error("The database cannot be used: {0}.")]
     Database(&'static str),
+    #[error("Standard input cannot be imported. {0}. Nothing is changed.")]
+    NotImported(ReadLinesError),
+    #[error("Line {0} of standard input has the name and the mechanism of an earlier one. Nothing is changed.")]
+    Repeated(usize),
     #[error("The file has no such record. scram users list shows its records.")]
     NoSuchRecord,
     #[error("The records do not look alike, so clients can tell which users exist. scram users passwd mends a user's.")]
@@ -260,13 +272,16 @@ impl Stop {
             Stop::Secret(_) | Stop::SecretUnreadable(_) | Stop::SecretUnwritten(_) => {
                 Some(".secret")
             }
+            Stop::UnreadableRights | Stop::WrongRights(_) => Some(".rights"),
             Stop::Unreported(_)
             | Stop::UnreportedClosed
             | Stop::Unreadable(_)
             | Stop::NotUtf8
             | Stop::Marked
             | Stop::Line(_)
+            | Stop::NoRecord(_, _)
             | Stop::NotRegular
+            | Stop::HardLinks
             | Stop::DanglingLink
             | Stop::Unwritten(_)
             | Stop::OwnerLost(_)

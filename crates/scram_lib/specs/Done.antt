@@ -1,5 +1,5 @@
 -- What a command of the program `scram` has done if it ends with status 0.
-use Rattle.std.specs.Prelude.{ℕ, List, [], ◌∷◌, ◌||◌, Bool, true, false, Option, Some, Result, Ok, ◌≡◌, ◌≤◌, ◌↔◌, IsSome, box_value, is_some, map, option_map, string_bytes}
+use Rattle.std.specs.Prelude.{ℕ, List, [], ◌∷◌, ◌++◌, ◌||◌, Bool, true, false, Option, Some, Result, Ok, ◌≡◌, ◌≤◌, ◌↔◌, IsSome, box_value, is_some, map, option_map, string_bytes}
 use Rattle.std.specs.List.{Contains}
 use Rattle.fe2o3_scram.specs.declared.hmac.ScramVersion.{ScramVersion}
 use Rattle.fe2o3_scram.specs.declared.hmac.ScramVersion.TheVariants.{Sha1, Sha256, Sha512}
@@ -24,7 +24,7 @@ use Rattle.scram_lib.specs.declared.task.Command.TheVariants as commands
 use Rattle.scram_lib.specs.declared.task.Task.{Task}
 use Rattle.scram_lib.specs.declared.task.Task.TheVariants as tasks
 use Rattle.scram_lib.specs.declared.users.Named.{Named}
-use Rattle.scram_lib.specs.Acting.{AreRightsOf}
+use Rattle.scram_lib.specs.Acting.{AreRightsOf, words_of}
 use Rattle.scram_lib.specs.OwnLines.{AreLinesFor}
 use Rattle.scram_lib.specs.private.Passwords.{TellsEach}
 
@@ -146,10 +146,18 @@ HasServed service (dones.Server server) = (fresh : ScramAuthenticator Store) × 
 HasServed service (dones.ServerOfFrames side) = (server_side (λ server. server) (box_value side)).progress ≡ Authenticated
 HasServed service done = ⊥
 
+-- the arguments of a server with the rights of a file after theirs: with none unless clients may name identities
+pub record IsWithRights (service full : Service) : Type 0 where
+  pub same : full ≡ record service { may_act = full.may_act }
+  pub given : List (List ℕ)
+  pub rights : words_of (option_map (λ words. map (λ word. word.now) words.now) full.may_act)
+      ≡ words_of (option_map (λ words. map (λ word. word.now) words.now) service.may_act) ++ given
+  pub none : service.accept_authzid ≡ false → given ≡ []
+
 -- what a task has done
 abbrev pub IsDone : Task → Done → Type 0
 IsDone (tasks.Client login) done = HasLoggedIn login done
-IsDone (tasks.Server service) done = HasServed service done
+IsDone (tasks.Server service) done = (full : Service) × IsWithRights service full × HasServed full done
 IsDone (tasks.Check named) done = HasChecked named done
 IsDone task done = Unit {0}
 

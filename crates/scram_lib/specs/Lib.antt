@@ -2,6 +2,7 @@ pub mod Acting
 pub mod Counts
 pub mod Done
 pub mod Forms
+pub mod Gsasl
 pub mod LoginLine
 pub mod Names
 pub mod Nonces

@@ -12,6 +12,7 @@ use saslprep::Unassigned;
 use scram_base_lib::channel::client_channel;
 use scram_base_lib::input::prepared;
 use scram_base_lib::stop::Stop;
+use scram_base_lib::store::Locks;
 use scram_base_lib::{input, wire};
 use std::alloc::Global;
 use std::io::{BufRead, Write};
@@ -60,7 +61,7 @@ pub fn log_in<R, I, O>(
     output: &mut O,
 ) -> Result<Done, Stop>
 where
-    R: Files + Clock + RandomSource + AllocGlobal,
+    R: Locks + Clock + RandomSource + AllocGlobal,
     I: BufRead,
     O: Write,
     ensures { IfOk result (λ done. HasLoggedIn login.now done) }
@@ -81,7 +82,7 @@ fn over_lines<R, I, O>(
     output: &mut O,
 ) -> Result<Done, Stop>
 where
-    R: Files + Clock + RandomSource + AllocGlobal,
+    R: Locks + Clock + RandomSource + AllocGlobal,
     I: BufRead,
     O: Write,
     ensures { IsClientAsked login.now (box_value client) → IfOk result (λ done. HasLoggedIn login.now done) }
@@ -161,7 +162,7 @@ impl Login<'_> {
     }
 
     /// Stores the keys of the login if there is a key file.
-    pub(crate) fn keep<R: Files + Clock + RandomSource + AllocGlobal>(
+    pub(crate) fn keep<R: Locks + Clock + RandomSource + AllocGlobal>(
         &self,
         rt: &R,
         keys: Option<&CachedKeys>,

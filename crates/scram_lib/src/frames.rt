@@ -22,10 +22,11 @@ use fe2o3_sasl_negotiation::{
 use fe2o3_scram::{OutOfMemory, RecordStore, ScramAuthenticator, ScramClient, ServerRules};
 use scram_base_lib::database::Database;
 use scram_base_lib::stop::Stop;
+use scram_base_lib::store::Locks;
 use std::alloc::Global;
 use std::io::{BufRead, Result as Written, Write};
 use std::random::RandomSource;
-use std::rt::{Clock, Files};
+use std::rt::Clock;
 
 /// A server's side.
 type Side = ServerNegotiation<ScramAuthenticator<RecordStore>>;
@@ -71,7 +72,7 @@ pub fn log_in<R, I, O>(
     output: &mut O,
 ) -> Result<Done, Stop>
 where
-    R: Files + Clock + RandomSource + AllocGlobal,
+    R: Locks + Clock + RandomSource + AllocGlobal,
     I: BufRead,
     O: Write,
     ensures { IfOk result (λ done. HasLoggedIn login.now done) }

@@ -11,11 +11,13 @@ pub mod client;
 pub mod done;
 pub mod form;
 pub mod frames;
+pub mod gsasl;
 pub mod keys;
 pub mod man;
 pub mod manual;
 pub mod nonces;
 pub mod record;
+pub mod rights;
 pub mod server;
 pub mod task;
 pub mod users;
@@ -31,6 +33,7 @@ use scram_base_lib::database::Database;
 use scram_base_lib::shown::shown;
 use scram_base_lib::stop::Stop;
 use scram_base_lib::store;
+use scram_base_lib::store::Locks;
 use std::io::{BufRead, Write};
 use std::random::RandomSource;
 use std::rt::{Clock, Files};
@@ -54,7 +57,7 @@ pub fn run<R, I, O, E, A, D>(
     db: &D,
 ) -> u8
 where
-    R: Files + Clock + RandomSource + AllocGlobal,
+    R: Locks + Clock + RandomSource + AllocGlobal,
     I: BufRead,
     O: Write,
     E: Write,
@@ -89,7 +92,7 @@ fn obey<R, I, O, E, A, D>(
     audit: A,
 ) -> u8
 where
-    R: Files + Clock + RandomSource + AllocGlobal,
+    R: Locks + Clock + RandomSource + AllocGlobal,
     I: BufRead,
     O: Write,
     E: Write,
@@ -132,7 +135,7 @@ fn do_command<R, I, O, E, A, D>(
     audit: A,
 ) -> Result<Done, Stop>
 where
-    R: Files + Clock + RandomSource + AllocGlobal,
+    R: Locks + Clock + RandomSource + AllocGlobal,
     I: BufRead,
     O: Write,
     E: Write,

@@ -37,7 +37,11 @@ A change follows links, and keeps owner, group and mode, but no access control l
 \fBgetfacl FILE >acl\fP and \fBsetfacl \-\-restore=acl\fP.
 .TP
 .I FILE.new
-The new file during a change, which then takes the place of FILE.
+The new file during a change, which then takes the place of FILE. It is locked: another change waits, or fails. One that a
+killed command left is replaced.
+.TP
+.I FILE.rights
+Rights for \fB\-\-may\-act\fP and \fB\-\-accept\-authzid\fP of \fBserver\fP: lines USER IDENTITY, escaped as in FILE.
 .TP
 .I FILE.secret
 The secret of mock records, of mode 0600, which the first \fBserver\fP makes. Without the right to write the folder, make it

@@ -8,9 +8,12 @@ ghost use Rattle.scram_lib.specs.Done.{IsDone};
 use crate::client::{Login, log_in};
 use crate::done::Done;
 use crate::record::NewRecord;
-use crate::server::{Service, serve};
+use crate::rights::serve_with_rights;
+use crate::server::Service;
 use crate::users::alike::{check_file, list_hashes};
-use crate::users::{Listed, Named, add, change_password, check, list, remove};
+use crate::users::export::{Printed, print};
+use crate::users::import::import;
+use crate::users::{Listed, Named, check, put, remove};
 use crate::{man, record};
 use clap::ArgMatches;
 use fe2o3_scram::secrets::SecretText;
@@ -21,10 +24,11 @@ use scram_base_lib::database::Database;
 use scram_base_lib::explain::explain;
 use scram_base_lib::input;
 use scram_base_lib::stop::Stop;
+use scram_base_lib::store::Locks;
 use std::alloc::Global;
 use std::io::{BufRead, Write};
 use std::random::RandomSource;
-use std::rt::{Clock, Files};
+use std::rt::Clock;
 
 /// The input and the output, and the databases.
 #[derive(Drop)]
@@ -57,8 +61,10 @@ pub enum Task<'a, 'm> {
     ChangePassword(Named<'a>, NewRecord<'a>),
     /// Removes a user's records from a file.
     Remove(Named<'a>),
-    /// Lists the records of a file.
-    List(Listed<'a>),
+    /// Lists or exports the records of a file.
+    List(Listed<'a>, Printed),
+    /// Adds the records of the input to a file. The flag asks for a dry run.
+    Import(Named<'a>, bool),
     /// Lists the mechanisms for which all users of a file have records.
     ListHashes(Listed<'a>),
     /// Checks a password.
@@ -136,9 +142,14 @@ impl<'a, 'm> Task<'a, 'm> {
             Some(("remove", found)) => Task::Remove(named(found)),
             Some(("check", found)) if found.contains_id("NAME") => Task::Check(named(found)),
             Some(("check", found)) => Task::CheckFile(listed(found)),
+            Some(("import", found)) => Task::Import(named(found), found.get_flag("dry-run")),
+            Some(("export", found)) if found.get_flag("gsasl") => {
+                Task::List(listed(found), Printed::Gsasl)
+            }
+            Some(("export", found)) => Task::List(listed(found), Printed::Line),
             Some((_, found)) if found.get_flag("hashes") => Task::ListHashes(listed(found)),
-            Some((_, found)) => Task::List(listed(found)),
-            None => Task::List(listed(matches)),
+            Some((_, found)) => Task::List(listed(found), Printed::Name),
+            None => Task::List(listed(matches), Printed::Name),
         }
     }
 
@@ -148,8 +159,10 @@ impl<'a, 'm> Task<'a, 'm> {
             Task::Add(named, _, _)
             | Task::ChangePassword(named, _)
             | Task::Remove(named)
+            | Task::Import(named, _)
             | Task::Check(named) => named.file,
-            Task::List(listed) | Task::ListHashes(listed) | Task::CheckFile(listed) => listed.file,
+            Task::List(listed, _) | Task::ListHashes(listed) | Task::CheckFile(listed) =>
+                listed.file,
             Task::Client(login) => login.keys.unwrap_or(""),
             Task::Server(service) => service.file,
             Task::Record(_, _) | Task::Explain(_) | Task::Man => "",
@@ -164,7 +177,7 @@ impl<'a, 'm> Task<'a, 'm> {
         errors: &mut E,
     ) -> Result<Done, Stop>
     where
-        R: Files + Clock + RandomSource + AllocGlobal,
+        R: Locks + Clock + RandomSource + AllocGlobal,
         I: BufRead,
         O: Write,
         E: Write,
@@ -175,7 +188,7 @@ impl<'a, 'm> Task<'a, 'm> {
             Task::Client(login) => log_in(rt, login, streams.input, streams.output),
             Task::Server(service) => {
                 let db = streams.db;
-                serve(rt, db, service, streams.input, streams.output, errors)
+                serve_with_rights(rt, db, service, streams.input, streams.output, errors)
             }
             Task::Check(named) => {
                 let password = input::password(rt.alloc(), streams.input, Unassigned::Allowed)?;
@@ -196,7 +209,7 @@ impl<'a, 'm> Task<'a, 'm> {
         errors: &mut E,
     ) -> Result<(), Stop>
     where
-        R: Files + Clock + RandomSource + AllocGlobal,
+        R: Locks + Clock + RandomSource + AllocGlobal,
         I: BufRead,
         O: Write,
         E: Write,
@@ -211,30 +224,19 @@ impl<'a, 'm> Task<'a, 'm> {
             Task::Add(named, record, force) => {
                 test_name(named.name, *force)?;
                 let password = new_password(alloc, streams, errors)?;
-                add(
-                    rt,
-                    db,
-                    named,
-                    record,
-                    password.as_str(),
-                    streams.output,
-                    errors,
-                )
+                let (password, output) = (password.as_str(), &mut *streams.output);
+                put(rt, db, named, false, record, password, output, errors)
             }
             Task::ChangePassword(named, record) => {
                 let password = new_password(alloc, streams, errors)?;
-                change_password(
-                    rt,
-                    db,
-                    named,
-                    record,
-                    password.as_str(),
-                    streams.output,
-                    errors,
-                )
+                let (password, output) = (password.as_str(), &mut *streams.output);
+                put(rt, db, named, true, record, password, output, errors)
             }
             Task::Remove(named) => remove(rt, db, named, streams.output),
-            Task::List(listed) => list(rt, db, listed, streams.output),
+            Task::List(listed, how) => print(rt, db, listed, *how, streams.output, errors),
+            Task::Import(named, dry_run) => {
+                import(rt, db, named, *dry_run, streams.input, streams.output)
+            }
             Task::ListHashes(listed) => list_hashes(rt, db, listed, streams.output),
             Task::CheckFile(listed) => check_file(rt, db, listed, streams.output),
             Task::Explain(frames) => explain(alloc, *frames, streams.input, streams.output),

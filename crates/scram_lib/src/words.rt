@@ -185,7 +185,7 @@ pub static COMMANDS: [Words; 5] = [
 ];
 
 /// The commands of `users`.
-pub static USERS_COMMANDS: [Words; 5] = [
+pub static USERS_COMMANDS: [Words; 7] = [
     Words {
         name: "add",
         about: "Adds the records of a user, or replaces those for the same mechanisms",
@@ -231,6 +231,26 @@ pub static USERS_COMMANDS: [Words; 5] = [
             DB,
             word!(Flag "hashes" "" "Prints the mechanisms for which each user has a record, which a server can offer, and \
                 nothing else"),
+        ],
+    },
+    Words {
+        name: "import",
+        about: "Adds the records of standard input, each a line NAME RECORD, or replaces those for the same names and \
+            mechanisms; a record is one of this program, of PostgreSQL, or of gsasl --mkpasswd",
+        words: &[
+            FILE,
+            DB,
+            word!(Flag "dry-run" "" "Prints what would be done, and changes nothing"),
+            WAIT,
+        ],
+    },
+    Words {
+        name: "export",
+        about: "Prints the records as lines for import; PostgreSQL takes the records too",
+        words: &[
+            FILE,
+            DB,
+            word!(Flag "gsasl" "" "Prints records as gsasl --mkpasswd does: {M}COUNT,SALT,STOREDKEY,SERVERKEY"),
         ],
     },
     Words {
