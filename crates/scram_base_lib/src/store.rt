@@ -39,10 +39,8 @@ impl Locks for HostRuntime {
 pub struct Changed {
     /// The new lines of the user.
     pub text: String,
-
     /// What the change did.
     pub done: &'static str,
-
     /// Lines for the errors, each with its line feed.
     pub notes: String,
 }

@@ -19,13 +19,10 @@ use std::alloc::{AllocError, Global};
 pub struct StoredUser {
     /// The salt.
     pub salt: Vec<u8>,
-
     /// The iteration count.
     pub iterations: u32,
-
     /// StoredKey.
     pub stored_key: Vec<u8>,
-
     /// ServerKey.
     pub server_key: Vec<u8>,
 }
@@ -35,13 +32,10 @@ pub struct StoredUser {
 pub struct Columns<'a> {
     /// The salt.
     pub salt: &'a [u8],
-
     /// The iteration count.
     pub iterations: u32,
-
     /// StoredKey.
     pub stored_key: &'a [u8],
-
     /// ServerKey.
     pub server_key: &'a [u8],
 }

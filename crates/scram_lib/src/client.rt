@@ -54,16 +54,12 @@ struct Secret {
 }
 
 /// Logs in, and stores the keys of the login if there is a key file.
-pub fn log_in<R, I, O>(
+pub fn log_in<R: Locks + Clock + RandomSource + AllocGlobal, I: BufRead, O: Write>(
     rt: &R,
     login: &Login<'_>,
     input: &mut I,
     output: &mut O,
 ) -> Result<Done, Stop>
-where
-    R: Locks + Clock + RandomSource + AllocGlobal,
-    I: BufRead,
-    O: Write,
     ensures { IfOk result (λ done. HasLoggedIn login.now done) }
 {
     let client = login.client(rt, input)?;
@@ -74,17 +70,13 @@ where
 }
 
 /// Logs in over lines.
-fn over_lines<R, I, O>(
+fn over_lines<R: Locks + Clock + RandomSource + AllocGlobal, I: BufRead, O: Write>(
     rt: &R,
     login: &Login<'_>,
     mut client: Box<ScramClient>,
     input: &mut I,
     output: &mut O,
 ) -> Result<Done, Stop>
-where
-    R: Locks + Clock + RandomSource + AllocGlobal,
-    I: BufRead,
-    O: Write,
     ensures { IsClientAsked login.now (box_value client) → IfOk result (λ done. HasLoggedIn login.now done) }
 {
     let nonce = nonces::nonce(rt, login.nonce)?;

@@ -32,7 +32,7 @@ use std::rt::Clock;
 type Side = ServerNegotiation<ScramAuthenticator<RecordStore>>;
 
 /// Passes received bytes to a side once, and sends its answer.
-fn pass<R, E, K, I, O>(
+fn pass<R: RandomSource + AllocGlobal, E: Endpoint<K>, K: Role, I: BufRead, O: Write>(
     rt: &R,
     side: &mut ConnectionSide<E, K>,
     word: Option<&str>,
@@ -40,12 +40,6 @@ fn pass<R, E, K, I, O>(
     input: &mut I,
     output: &mut O,
 ) -> Result<Received, Stop>
-where
-    R: RandomSource + AllocGlobal,
-    E: Endpoint<K>,
-    K: Role,
-    I: BufRead,
-    O: Write,
     ensures { IfOk result (λ received. received.progress ≡ (connection_side E.state side.new).progress) }
 {
     let nonce = nonces::nonce(rt, word)?;
@@ -64,17 +58,13 @@ fn send<O: Write>(output: &mut O, sent: &mut BytesMut) -> Written<()> {
 }
 
 /// Logs in.
-pub fn log_in<R, I, O>(
+pub fn log_in<R: Locks + Clock + RandomSource + AllocGlobal, I: BufRead, O: Write>(
     rt: &R,
     login: &Login<'_>,
     client: Box<ScramClient>,
     input: &mut I,
     output: &mut O,
 ) -> Result<Done, Stop>
-where
-    R: Locks + Clock + RandomSource + AllocGlobal,
-    I: BufRead,
-    O: Write,
     ensures { IfOk result (λ done. HasLoggedIn login.now done) }
 {
     let mut client = negotiation(rt.alloc(), client)?;
@@ -84,17 +74,13 @@ where
 }
 
 /// Logs in with a client's side. After `Ok` the side has logged in.
-fn log_in_over<R, I, O>(
+fn log_in_over<R: RandomSource + AllocGlobal, I: BufRead, O: Write>(
     rt: &R,
     login: &Login<'_>,
     client: &mut ClientNegotiation,
     input: &mut I,
     output: &mut O,
 ) -> Result<(), Stop>
-where
-    R: RandomSource + AllocGlobal,
-    I: BufRead,
-    O: Write,
     ensures { OnOk result ((client_side client.new).progress ≡ Authenticated) }
 {
     let mut sent = BytesMut::new(rt.alloc());
@@ -126,7 +112,7 @@ fn negotiation(
 
 /// Serves a login, and prints on the errors who has logged in, or whose login is rejected. The server is made at the
 /// client's init, which claims a user name.
-pub(crate) fn serve<R, I, O, E, D>(
+pub(crate) fn serve<R: RandomSource + AllocGlobal, I: BufRead, O: Write, E: Write, D: Database<R>>(
     rt: &R,
     service: &Service<'_, '_>,
     rules: ServerRules,
@@ -136,12 +122,6 @@ pub(crate) fn serve<R, I, O, E, D>(
     output: &mut O,
     errors: &mut E,
 ) -> Result<Done, Stop>
-where
-    R: RandomSource + AllocGlobal,
-    I: BufRead,
-    O: Write,
-    E: Write,
-    D: Database<R>,
     ensures { IfOk result (λ done. HasServed service.now done) }
 {
     let alloc = rt.alloc();
@@ -172,17 +152,13 @@ fn opener(
 }
 
 /// Answers the client up to its init, and returns the user name that the init claims, if any. The init is not taken.
-fn receive_init<R, I, O>(
+fn receive_init<R: RandomSource + AllocGlobal, I: BufRead, O: Write>(
     rt: &R,
     service: &Service<'_, '_>,
     opener: &mut Side,
     input: &mut I,
     output: &mut O,
 ) -> Result<Option<String>, Stop>
-where
-    R: RandomSource + AllocGlobal,
-    I: BufRead,
-    O: Write,
     ensures { OnOk result (IsWaiting opener.new) }
 {
     let mut sent = BytesMut::new(rt.alloc());
@@ -246,17 +222,13 @@ fn continued(
 }
 
 /// Serves a login with a server's side. After `Ok` the side has logged its client in.
-fn serve_over<R, I, O>(
+fn serve_over<R: RandomSource + AllocGlobal, I: BufRead, O: Write>(
     rt: &R,
     service: &Service<'_, '_>,
     server: &mut Side,
     input: &mut I,
     output: &mut O,
 ) -> Result<(), Stop>
-where
-    R: RandomSource + AllocGlobal,
-    I: BufRead,
-    O: Write,
     ensures { OnOk result ((server_side (λ server. server) server.new).progress ≡ Authenticated) }
 {
     let (mut sent, mut last) = (BytesMut::new(rt.alloc()), Vec::new(rt.alloc()));

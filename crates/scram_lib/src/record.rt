@@ -16,10 +16,8 @@ use std::random::RandomSource;
 pub struct NewRecord<'a> {
     /// The length of a random salt, or `None` for that of the first record.
     pub salt_len: Option<usize>,
-
     /// The iteration count, or `None` for that of the first record.
     pub iterations: Option<u32>,
-
     /// The salt in hexadecimal, or `None` for a random one.
     pub salt: Option<&'a str>,
 }

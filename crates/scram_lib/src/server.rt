@@ -70,7 +70,7 @@ pub struct Service<'a, 'm> {
 }
 
 /// Serves a login, and prints on the errors who has logged in, or whose login is rejected.
-pub fn serve<R, I, O, E, D>(
+pub fn serve<R: Files + RandomSource + AllocGlobal, I: BufRead, O: Write, E: Write, D: Database<R>>(
     rt: &R,
     db: &D,
     service: &Service<'_, '_>,
@@ -78,12 +78,6 @@ pub fn serve<R, I, O, E, D>(
     output: &mut O,
     errors: &mut E,
 ) -> Result<Done, Stop>
-where
-    R: Files + RandomSource + AllocGlobal,
-    I: BufRead,
-    O: Write,
-    E: Write,
-    D: Database<R>,
     ensures { IfOk result (λ done. HasServed service.now done) }
 {
     let rules = service.rules(rt.alloc())?;
@@ -207,7 +201,7 @@ fn users(alloc: Global, service: &Service<'_, '_>, text: &str) -> Result<RecordS
 }
 
 /// Serves a login over lines.
-fn over_lines<R, I, O, E, D>(
+fn over_lines<R: RandomSource + AllocGlobal, I: BufRead, O: Write, E: Write, D: Database<R>>(
     rt: &R,
     service: &Service<'_, '_>,
     rules: ServerRules,
@@ -217,12 +211,6 @@ fn over_lines<R, I, O, E, D>(
     output: &mut O,
     errors: &mut E,
 ) -> Result<Done, Stop>
-where
-    R: RandomSource + AllocGlobal,
-    I: BufRead,
-    O: Write,
-    E: Write,
-    D: Database<R>,
     ensures { AreSettingsOf service.now rules (option_map (λ secret. secret.items) secret)
         → IfOk result (HasServed service.now) }
 {
@@ -237,7 +225,7 @@ where
 }
 
 /// Answers the messages of a login, of which the first is received.
-fn log_in<R, I, O, E>(
+fn log_in<R: RandomSource + AllocGlobal, I: BufRead, O: Write, E: Write>(
     rt: &R,
     service: &Service<'_, '_>,
     server: ScramAuthenticator<RecordStore>,
@@ -246,11 +234,6 @@ fn log_in<R, I, O, E>(
     output: &mut O,
     errors: &mut E,
 ) -> Result<Done, Stop>
-where
-    R: RandomSource + AllocGlobal,
-    I: BufRead,
-    O: Write,
-    E: Write,
     ensures { (claimed : Option (List ℕ)) → IsClaim service.now message.now claimed
         → IsServerAsked service.now claimed server → IfOk result (HasServed service.now) }
 {

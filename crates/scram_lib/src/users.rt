@@ -31,16 +31,12 @@ use std::rt::{Clock, Files};
 pub struct Named<'a> {
     /// The file.
     pub file: &'a str,
-
     /// Whether the file is a database.
     pub is_db: bool,
-
     /// The user name, not escaped.
     pub name: &'a str,
-
     /// The mechanism, or `None` for those of the command: of `add` the two that servers offer by default, otherwise all.
     pub version: Option<ScramVersion>,
-
     /// How long a change waits for another one, in seconds.
     pub wait: u32,
 }
@@ -50,7 +46,6 @@ pub struct Named<'a> {
 pub struct Listed<'a> {
     /// The file.
     pub file: &'a str,
-
     /// Whether the file is a database.
     pub is_db: bool,
 }
@@ -64,7 +59,7 @@ static VERSIONS: [ScramVersion; 3] = [
 
 /// Makes new records of a user, and prints what the change did. The errors get what to look at. Records for the same
 /// mechanisms are replaced; `must_exist` says that there has to be one.
-pub fn put<R, O, E, D>(
+pub fn put<R: Locks + Clock + RandomSource + AllocGlobal, O: Write, E: Write, D: Database<R>>(
     rt: &R,
     db: &D,
     named: &Named<'_>,
@@ -73,13 +68,7 @@ pub fn put<R, O, E, D>(
     password: &str,
     output: &mut O,
     errors: &mut E,
-) -> Result<(), Stop>
-where
-    R: Locks + Clock + RandomSource + AllocGlobal,
-    O: Write,
-    E: Write,
-    D: Database<R>,
-{
+) -> Result<(), Stop> {
     let put = Put::of(named, must_exist, password, record);
     let changed = source::make_change(rt, db, named, &put)?;
     report(changed.done, output)?;

@@ -18,7 +18,6 @@ use std::rt::Files;
 pub enum Source<'a, D> {
     /// The text of a file of lines.
     Text(String),
-
     /// A database, which is open only while a record is fetched.
     Database(&'a D),
 }

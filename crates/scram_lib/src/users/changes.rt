@@ -27,17 +27,13 @@ static ADDED: [ScramVersion; 3] = [
 pub struct Put<'a> {
     /// The name, not escaped.
     pub name: &'a str,
-
     /// The mechanism, or `None` for SHA-256 and SHA-512, which servers offer by default, and, if the user has to exist, those
     /// of its records.
     pub version: Option<ScramVersion>,
-
     /// Whether the user has to have a record that the change replaces.
     pub must_exist: bool,
-
     /// The password.
     pub password: &'a str,
-
     /// The arguments of the records.
     pub asked: NewRecord<'a>,
 }

@@ -20,10 +20,8 @@ const PIECE: usize = 32768;
 pub enum Printed {
     /// The mechanism, the iteration count and the name, quoted for a shell.
     Name,
-
     /// Its line.
     Line,
-
     /// Its line with the record as `gsasl --mkpasswd` writes it.
     Gsasl,
 }

@@ -21,20 +21,14 @@ use std::rt::{Clock, Files};
 
 /// Adds the records of the input to a file, or replaces those of the same names and mechanisms. A dry run prints what that
 /// would do.
-pub fn import<R, I, O, D>(
+pub fn import<R: Locks + Clock + RandomSource + AllocGlobal, I: BufRead, O: Write, D: Database<R>>(
     rt: &R,
     db: &D,
     named: &Named<'_>,
     dry_run: bool,
     input: &mut I,
     output: &mut O,
-) -> Result<(), Stop>
-where
-    R: Locks + Clock + RandomSource + AllocGlobal,
-    I: BufRead,
-    O: Write,
-    D: Database<R>,
-{
+) -> Result<(), Stop> {
     let text = lines_in(rt.alloc(), input)?;
     lines::test_once(rt.alloc(), &text)?;
     let added = Added { lines: &text };
