@@ -107,22 +107,14 @@ fn channels(alloc: Global, word: Option<&str>) -> Result<Option<ChannelBindings>
 fn only(binding: ChannelBinding) -> ChannelBindings
     ensures { result ≡ only_data binding.kind binding.cbind_data }
 {
-    let known = Some(binding.cbind_data);
-    match binding.kind {
-        ChannelKind::TlsUnique => ChannelBindings {
-            tls_unique: known,
-            tls_server_end_point: None,
-            tls_exporter: None,
-        },
-        ChannelKind::TlsServerEndPoint => ChannelBindings {
-            tls_unique: None,
-            tls_server_end_point: known,
-            tls_exporter: None,
-        },
-        ChannelKind::TlsExporter => ChannelBindings {
-            tls_unique: None,
-            tls_server_end_point: None,
-            tls_exporter: known,
-        },
+    let (tls_unique, tls_server_end_point, tls_exporter) = match binding.kind {
+        ChannelKind::TlsUnique => (Some(binding.cbind_data), None, None),
+        ChannelKind::TlsServerEndPoint => (None, Some(binding.cbind_data), None),
+        ChannelKind::TlsExporter => (None, None, Some(binding.cbind_data)),
+    };
+    ChannelBindings {
+        tls_unique,
+        tls_server_end_point,
+        tls_exporter,
     }
 }

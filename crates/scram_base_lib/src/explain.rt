@@ -59,11 +59,20 @@ pub fn explain<I: BufRead, O: Write>(
     input: &mut I,
     output: &mut O,
 ) -> Result<(), Stop> {
-    let mut heard = Heard::of_any_header(alloc);
-    if frames {
-        return heard.bodies(alloc, input, output);
+    let mut heard = Heard::new(alloc, "");
+    heard.any_header = true;
+    for before in 0..u64::MAX {
+        let Some(line) = input::next_line(alloc, input)? else {
+            break;
+        };
+        let told = if frames {
+            heard.body_in(alloc, &line, output)
+        } else {
+            heard.text(alloc, before, &line, output)
+        };
+        told.map_err(|stop| stop.at_line(before.saturating_add(1)))?;
     }
-    heard.texts(alloc, input, output)
+    Ok(())
 }
 
 /// The messages of an exchange (RFC 5802, section 7).
@@ -106,13 +115,6 @@ impl Heard {
         }
     }
 
-    /// Returns an empty value, for logins with channel binding too. Nothing is printed before a message.
-    fn of_any_header(alloc: Global) -> Heard {
-        let mut heard = Heard::new(alloc, "");
-        heard.any_header = true;
-        heard
-    }
-
     /// Returns the server's part of the nonce, which follows the client's (RFC 5802, section 5.1, `r`).
     pub fn server_nonce(&self) -> Option<&str> {
         let (nonce, client_nonce) = (self.nonce.as_str(), self.client_nonce.as_str());
@@ -131,56 +133,20 @@ impl Heard {
         }
     }
 
-    /// Prints what each message says.
-    fn texts<I: BufRead, O: Write>(
-        &mut self,
-        alloc: Global,
-        input: &mut I,
-        output: &mut O,
-    ) -> Result<(), Stop> {
-        for place in 0..4 {
-            let Some(line) = input::next_line(alloc, input)? else {
-                return Ok(());
-            };
-            let told = self.text(alloc, place, &line, output);
-            told.map_err(|stop| stop.at_line(place as u64 + 1))?;
-        }
-        match input::next_line(alloc, input)? {
-            Some(_) => Err(Stop::ExtraLine),
-            None => Ok(()),
-        }
-    }
-
-    /// Prints what the message at a place says. The line has it in base64.
+    /// Prints what the message at a place says, which has at most three before it. The line has it in base64.
     fn text<O: Write>(
         &mut self,
         alloc: Global,
-        place: usize,
+        before: u64,
         line: &str,
         output: &mut O,
-    ) -> Result<(), Stop>
-        requires { place < 4 }
-    {
-        let message = wire::bytes_of(alloc, line)?;
-        let told = self.tell(alloc, place, &message);
-        self.print(NAMES[place], told, output)
-    }
-
-    /// Prints what each frame body says, and the message in it.
-    fn bodies<I: BufRead, O: Write>(
-        &mut self,
-        alloc: Global,
-        input: &mut I,
-        output: &mut O,
     ) -> Result<(), Stop> {
-        for number in 1..u64::MAX {
-            let Some(line) = input::next_line(alloc, input)? else {
-                break;
-            };
-            let told = self.body_in(alloc, &line, output);
-            told.map_err(|stop| stop.at_line(number))?;
+        if before >= 4 {
+            return Err(Stop::ExtraLine);
         }
-        Ok(())
+        let message = wire::bytes_of(alloc, line)?;
+        let told = self.tell(alloc, before as usize, &message);
+        self.print(NAMES[before as usize], told, output)
     }
 
     /// Prints what a frame body says, and the message in it. The line has it in hexadecimal.
@@ -227,7 +193,10 @@ impl Heard {
         );
         let first = ClientFirst::parse_with_rules(alloc, message, rules)?;
         self.header = first.header;
-        self.acts_for = copied(alloc, first.acts_for.as_deref())?;
+        self.acts_for = match first.acts_for.as_deref() {
+            Some(name) => Some(name.to_string(alloc)?),
+            None => None,
+        };
         self.user = first.username.as_str().to_string(alloc)?;
         self.client_nonce = first.client_nonce.to_string(alloc)?;
         let (user, nonce) = (first.username.as_str(), first.client_nonce);
@@ -254,14 +223,6 @@ impl Heard {
         let channel = channel_said(alloc, &channel, acts_for)?;
         let proof = hex::encode(alloc, last.proof.as_slice())?;
         Ok(format!(in alloc; "{channel}proof {proof}, same nonce")?)
-    }
-}
-
-/// Copies a text, if there is one.
-fn copied(alloc: Global, text: Option<&str>) -> Result<Option<String>, AllocError> {
-    match text {
-        Some(text) => Ok(Some(text.to_string(alloc)?)),
-        None => Ok(None),
     }
 }
 
@@ -310,14 +271,10 @@ fn told_of(alloc: Global, view: &FrameView<'_>) -> Told {
         FrameView::Mechanisms(names) => names_of(alloc, names),
         FrameView::Init {
             mechanism,
-            hostname,
+            hostname: Some(hostname),
             ..
-        } => match hostname {
-            Some(hostname) => {
-                Ok(format!(in alloc; "mechanism {mechanism}, hostname {hostname:?}")?)
-            }
-            None => Ok(format!(in alloc; "mechanism {mechanism}")?),
-        },
+        } => Ok(format!(in alloc; "mechanism {mechanism}, hostname {hostname:?}")?),
+        FrameView::Init { mechanism, .. } => Ok(format!(in alloc; "mechanism {mechanism}")?),
         FrameView::Challenge(text) | FrameView::Response(text) => {
             let len = text.len();
             Ok(format!(in alloc; "{len} bytes")?)
@@ -343,9 +300,7 @@ fn server_final(alloc: Global, message: &[u8]) -> Told {
         let error = error.as_str();
         return Ok(format!(in alloc; "error {error:?}")?);
     }
-    let signature = hex::encode(
-        alloc,
-        ServerFinal::parse(alloc, message)?.signature.as_slice(),
-    )?;
+    let last = ServerFinal::parse(alloc, message)?;
+    let signature = hex::encode(alloc, last.signature.as_slice())?;
     Ok(format!(in alloc; "signature {signature}")?)
 }

@@ -241,16 +241,6 @@ impl Stop {
         Stop::Unwritten(error.kind())
     }
 
-    /// Converts the error of a change of a new file's owner.
-    pub fn of_owner(error: io::Error) -> Stop {
-        Stop::OwnerLost(error.kind())
-    }
-
-    /// Converts the error of a sync of a folder.
-    pub fn of_sync(error: io::Error) -> Stop {
-        Stop::Unsynced(error.kind())
-    }
-
     /// Returns the error with the line of the input at which it occurred, counted from 1.
     pub fn at_line(self, line: u64) -> Stop
         ensures { result ≡ at_line self line }
@@ -331,77 +321,55 @@ impl Stop {
     }
 }
 
-/// The system's number for a descriptor that is not open (`EBADF`).
-const NOT_OPEN: i32 = 9;
-
-/// Returns whether a stream is closed.
+/// Returns whether a stream is closed. The system's number for a descriptor that is not open (`EBADF`) is 9.
 fn is_closed(error: &io::Error) -> bool {
-    error.raw_os_error() == Some(NOT_OPEN)
+    error.raw_os_error() == Some(9)
 }
 
-impl From<RecordError> for Stop {
-    fn from(fault: RecordError) -> Stop {
-        match fault {
-            RecordError::NormalizeError => Stop::WrongPassword,
-            // Cannot happen: the parser takes counts from 1.
-            RecordError::ZeroIterations => Stop::WrongSalt,
-            RecordError::OutOfMemory => Stop::OutOfMemory,
-        }
+/// Conversions of errors, each by a match.
+macro_rules! stop_from {
+    ($($error:ty { $($pattern:pat => $stop:expr,)+ })+) => {
+        $(impl From<$error> for Stop {
+            fn from(error: $error) -> Stop {
+                match error { $($pattern => $stop,)+ }
+            }
+        })+
+    };
+}
+
+stop_from! {
+    RecordError {
+        RecordError::NormalizeError => Stop::WrongPassword,
+        // Cannot happen: the parser takes counts from 1.
+        RecordError::ZeroIterations => Stop::WrongSalt,
+        RecordError::OutOfMemory => Stop::OutOfMemory,
     }
-}
-
-impl From<ClientSecretError> for Stop {
-    fn from(fault: ClientSecretError) -> Stop {
-        match fault {
-            ClientSecretError::VersionMismatch => Stop::OtherMechanism,
-            ClientSecretError::OutOfMemory => Stop::OutOfMemory,
-        }
+    ClientSecretError {
+        ClientSecretError::VersionMismatch => Stop::OtherMechanism,
+        ClientSecretError::OutOfMemory => Stop::OutOfMemory,
     }
-}
-
-impl From<SecretError> for Stop {
-    fn from(fault: SecretError) -> Stop {
-        match fault {
-            SecretError::OutOfMemory => Stop::OutOfMemory,
-            SecretError::Unreadable(kind) => Stop::SecretUnreadable(kind),
-            SecretError::Unwritten(kind) => Stop::SecretUnwritten(kind),
-            SecretError::Random(kind) => Stop::Random(kind),
-            _ => Stop::Secret(fault),
-        }
+    SecretError {
+        SecretError::OutOfMemory => Stop::OutOfMemory,
+        SecretError::Unreadable(kind) => Stop::SecretUnreadable(kind),
+        SecretError::Unwritten(kind) => Stop::SecretUnwritten(kind),
+        SecretError::Random(kind) => Stop::Random(kind),
+        fault => Stop::Secret(fault),
     }
-}
-
-impl From<ReadLinesError> for Stop {
-    fn from(fault: ReadLinesError) -> Stop {
-        match fault.kind {
-            ReadLinesErrorKind::OutOfMemory => Stop::OutOfMemory,
-            _ => Stop::Line(fault),
-        }
+    ReadLinesError {
+        ReadLinesError { kind: ReadLinesErrorKind::OutOfMemory, .. } => Stop::OutOfMemory,
+        fault => Stop::Line(fault),
     }
-}
-
-impl From<ScramErrorKind> for Stop {
-    fn from(kind: ScramErrorKind) -> Stop {
-        match kind {
-            ScramErrorKind::OutOfMemory => Stop::OutOfMemory,
-            ScramErrorKind::XorLengthMismatch => Stop::OtherHash,
-            _ => Stop::Client(kind),
-        }
+    ScramErrorKind {
+        ScramErrorKind::OutOfMemory => Stop::OutOfMemory,
+        ScramErrorKind::XorLengthMismatch => Stop::OtherHash,
+        kind => Stop::Client(kind),
     }
-}
-
-impl From<ServerScramErrorKind> for Stop {
-    fn from(kind: ServerScramErrorKind) -> Stop {
-        match kind {
-            ServerScramErrorKind::OutOfMemory => Stop::OutOfMemory,
-            _ => Stop::Rejected(Rejection::Scram(kind)),
-        }
+    ServerScramErrorKind {
+        ServerScramErrorKind::OutOfMemory => Stop::OutOfMemory,
+        kind => Stop::Rejected(Rejection::Scram(kind)),
     }
-}
-
-impl From<AllocError> for Stop {
-    fn from(_error: AllocError) -> Stop {
-        Stop::OutOfMemory
+    AllocError {
+        _ => Stop::OutOfMemory,
     }
 }
 

@@ -4,7 +4,7 @@ ghost use Rattle.std.specs.Prelude.{◌≡◌, ◌≢◌, None, Some};
 
 use crate::stop::Stop;
 use fe2o3_scram::ScramVersion;
-use std::alloc::{AllocError, Global};
+use std::alloc::Global;
 use std::fs::{File, Metadata, OpenFile, OpenOptions, Permissions, TryLockError};
 use std::io::{Error, ErrorKind, Read, Write};
 use std::os::unix::fs::{MetadataExt, OpenOptionsExt, PermissionsExt, lchown};
@@ -117,7 +117,7 @@ pub fn make_change<R: Locks + Clock + RandomSource + AllocGlobal, C: Rewrite>(
     let target = target_of(rt, file)?;
     test_kind(rt, &target)?;
     let folder = fs::open(rt, folder_of(&target)).map_err(Stop::of_writing)?;
-    let beside = name_beside(rt.alloc(), &target)?;
+    let beside = format!(in rt.alloc(); "{target}.new")?;
     let mut new = create(rt, &beside, wait)?;
     let filled = fill(rt, &target, &beside, &mut new, change);
     if filled.is_err() {
@@ -127,7 +127,9 @@ pub fn make_change<R: Locks + Clock + RandomSource + AllocGlobal, C: Rewrite>(
     // The lock ends here, so that no other process finds a file without one at this name.
     drop(new);
     let done = filled?;
-    folder.sync_all().map_err(Stop::of_sync)?;
+    folder
+        .sync_all()
+        .map_err(|error| Stop::Unsynced(error.kind()))?;
     Ok(done)
 }
 
@@ -166,11 +168,6 @@ fn folder_of(file: &str) -> &str {
         Some((folder, _)) => folder,
         None => ".",
     }
-}
-
-/// Returns the name of the new file.
-fn name_beside(alloc: Global, file: &str) -> Result<String, AllocError> {
-    format!(in alloc; "{file}.new")
 }
 
 /// Creates and locks a new file that only its owner can read and write. While another process has it, tries again for
@@ -306,7 +303,7 @@ fn keep_owner<R: Files>(
     let uid = other_id(found.uid(), old.uid());
     let gid = other_id(found.gid(), old.gid());
     if uid.is_some() || gid.is_some() {
-        lchown(rt, beside, uid, gid).map_err(Stop::of_owner)?;
+        lchown(rt, beside, uid, gid).map_err(|error| Stop::OwnerLost(error.kind()))?;
     }
     Ok(old.permissions())
 }
