@@ -26,7 +26,6 @@ pub mod words;
 use crate::done::Done;
 use crate::manual::manual;
 use crate::task::{Command, Streams, ask, echo_of};
-use clap::ArgMatches;
 use clap::error::ErrorKind;
 use scram_base_lib::audited::Audited;
 use scram_base_lib::database::Database;
@@ -80,32 +79,11 @@ where
         output,
         db,
     };
-    obey(rt, &matches, &mut streams, errors, audit)
-}
-
-/// Does what the parsed words ask, and returns the exit status.
-fn obey<R, I, O, E, A, D>(
-    rt: &R,
-    matches: &ArgMatches<'_>,
-    streams: &mut Streams<'_, '_, I, O, D>,
-    errors: &mut E,
-    audit: A,
-) -> u8
-where
-    R: Locks + Clock + RandomSource + AllocGlobal,
-    I: BufRead,
-    O: Write,
-    E: Write,
-    A: FnOnce(&R, &Audited<'_>, &mut I, &mut O) -> Result<(), Stop>,
-    D: Database<R>,
-    requires { A.IsAlwaysCallable audit }
-    ensures { result ≤ 4 }
-{
-    let command = Command::of(matches);
-    if let Err(stop) = prompt(streams.is_terminal, echo_of(matches), errors) {
+    let command = Command::of(&matches);
+    if let Err(stop) = prompt(is_terminal, echo_of(&matches), errors) {
         return tell(stop, errors);
     }
-    let done = do_command(rt, &command, streams, errors, audit);
+    let done = do_command(rt, &command, &mut streams, errors, audit);
     end(rt, done, command.file(), errors)
 }
 

@@ -36,10 +36,11 @@ impl Word {
             Kind::Text => self.option(arg),
             Kind::Texts => self.option(arg).action(ArgAction::Append),
             Kind::Mechanism => mechanism(self.option(arg)),
-            Kind::SaltLen => salt_len(self.option(arg)),
-            Kind::Count => count(self.option(arg)),
-            Kind::Seconds => seconds(self.option(arg)),
-            Kind::CountOf(other) => return count(self.option(arg)).requires_arg(other),
+            // A mock record can have no longer salt.
+            Kind::SaltLen => self.number(arg, 1, 64),
+            Kind::Count => self.number(arg, 1, 4294967295),
+            Kind::Seconds => self.number(arg, 0, 86400),
+            Kind::CountOf(other) => return self.number(arg, 1, 4294967295).requires_arg(other),
         })
     }
 
@@ -59,26 +60,17 @@ impl Word {
     fn option<'a>(&self, arg: Arg<'a>) -> Arg<'a> {
         arg.long(self.name).value_name(self.value)
     }
+
+    /// Returns the word as an option with a number within these bounds.
+    fn number<'a>(&self, arg: Arg<'a>, min: u64, max: u64) -> Arg<'a> {
+        self.option(arg)
+            .value_parser(ValueParser::unsigned(min, max))
+    }
 }
 
 /// Returns a word whose value is the name of a mechanism.
 fn mechanism<'a>(arg: Arg<'a>) -> Arg<'a> {
     arg.value_parser(MECHANISMS.as_slice())
-}
-
-/// Returns a word whose value is an iteration count.
-fn count<'a>(arg: Arg<'a>) -> Arg<'a> {
-    arg.value_parser(ValueParser::unsigned(1, 4294967295))
-}
-
-/// Returns a word whose value is the length of a salt. A mock record can have no longer one.
-fn salt_len<'a>(arg: Arg<'a>) -> Arg<'a> {
-    arg.value_parser(ValueParser::unsigned(1, 64))
-}
-
-/// Returns a word whose value is a number of seconds, up to a day.
-fn seconds<'a>(arg: Arg<'a>) -> Arg<'a> {
-    arg.value_parser(ValueParser::unsigned(0, 86400))
 }
 
 impl Words {

@@ -13,7 +13,7 @@ use crate::server::Service;
 use crate::users::alike::{check_file, list_hashes};
 use crate::users::export::{Printed, print};
 use crate::users::import::import;
-use crate::users::{Listed, Named, check, put, remove};
+use crate::users::{Named, check, put, remove};
 use crate::{man, record};
 use clap::ArgMatches;
 use fe2o3_scram::secrets::SecretText;
@@ -62,15 +62,15 @@ pub enum Task<'a, 'm> {
     /// Removes a user's records from a file.
     Remove(Named<'a>),
     /// Lists or exports the records of a file.
-    List(Listed<'a>, Printed),
+    List(Named<'a>, Printed),
     /// Adds the records of the input to a file. The flag asks for a dry run.
     Import(Named<'a>, bool),
     /// Lists the mechanisms for which all users of a file have records.
-    ListHashes(Listed<'a>),
+    ListHashes(Named<'a>),
     /// Checks a password.
     Check(Named<'a>),
     /// Checks whether the records of a file look alike.
-    CheckFile(Listed<'a>),
+    CheckFile(Named<'a>),
     /// Logs in.
     Client(Login<'a>),
     /// Serves a login.
@@ -85,7 +85,13 @@ impl<'a, 'm> Command<'a, 'm> {
     /// Returns the command of the parsed arguments.
     pub fn of(matches: &'m ArgMatches<'a>) -> Command<'a, 'm> {
         match matches.subcommand() {
-            Some(("explain", found)) => Command::of_explain(found),
+            Some(("explain", found)) => match found.get_str("audit") {
+                Some(file) => Command::Audit(Audited {
+                    file,
+                    max_iterations: max_iterations(found),
+                }),
+                None => Command::Task(Task::Explain(found.get_flag("frames"))),
+            },
             _ => Command::Task(Task::of(matches)),
         }
     }
@@ -95,17 +101,6 @@ impl<'a, 'm> Command<'a, 'm> {
         match self {
             Command::Task(task) => task.file(),
             Command::Audit(asked) => asked.file,
-        }
-    }
-
-    /// Returns the command of the parsed arguments of `explain`.
-    fn of_explain(matches: &ArgMatches<'a>) -> Command<'a, 'm> {
-        match matches.get_str("audit") {
-            Some(file) => Command::Audit(Audited {
-                file,
-                max_iterations: max_iterations(matches),
-            }),
-            None => Command::Task(Task::Explain(matches.get_flag("frames"))),
         }
     }
 }
@@ -141,15 +136,15 @@ impl<'a, 'm> Task<'a, 'm> {
             Some(("passwd", found)) => Task::ChangePassword(password_of(found), new_record(found)),
             Some(("remove", found)) => Task::Remove(named(found)),
             Some(("check", found)) if found.contains_id("NAME") => Task::Check(named(found)),
-            Some(("check", found)) => Task::CheckFile(listed(found)),
+            Some(("check", found)) => Task::CheckFile(named(found)),
             Some(("import", found)) => Task::Import(named(found), found.get_flag("dry-run")),
             Some(("export", found)) if found.get_flag("gsasl") => {
-                Task::List(listed(found), Printed::Gsasl)
+                Task::List(named(found), Printed::Gsasl)
             }
-            Some(("export", found)) => Task::List(listed(found), Printed::Line),
-            Some((_, found)) if found.get_flag("hashes") => Task::ListHashes(listed(found)),
-            Some((_, found)) => Task::List(listed(found), Printed::Name),
-            None => Task::List(listed(matches), Printed::Name),
+            Some(("export", found)) => Task::List(named(found), Printed::Line),
+            Some((_, found)) if found.get_flag("hashes") => Task::ListHashes(named(found)),
+            Some((_, found)) => Task::List(named(found), Printed::Name),
+            None => Task::List(named(matches), Printed::Name),
         }
     }
 
@@ -160,9 +155,10 @@ impl<'a, 'm> Task<'a, 'm> {
             | Task::ChangePassword(named, _)
             | Task::Remove(named)
             | Task::Import(named, _)
+            | Task::List(named, _)
+            | Task::ListHashes(named)
+            | Task::CheckFile(named)
             | Task::Check(named) => named.file,
-            Task::List(listed, _) | Task::ListHashes(listed) | Task::CheckFile(listed) =>
-                listed.file,
             Task::Client(login) => login.keys.unwrap_or(""),
             Task::Server(service) => service.file,
             Task::Record(_, _) | Task::Explain(_) | Task::Man => "",
@@ -233,12 +229,12 @@ impl<'a, 'm> Task<'a, 'm> {
                 put(rt, db, named, true, record, password, output, errors)
             }
             Task::Remove(named) => remove(rt, db, named, streams.output),
-            Task::List(listed, how) => print(rt, db, listed, *how, streams.output, errors),
+            Task::List(named, how) => print(rt, db, named, *how, streams.output, errors),
             Task::Import(named, dry_run) => {
                 import(rt, db, named, *dry_run, streams.input, streams.output)
             }
-            Task::ListHashes(listed) => list_hashes(rt, db, listed, streams.output),
-            Task::CheckFile(listed) => check_file(rt, db, listed, streams.output),
+            Task::ListHashes(named) => list_hashes(rt, db, named, streams.output),
+            Task::CheckFile(named) => check_file(rt, db, named, streams.output),
             Task::Explain(frames) => explain(alloc, *frames, streams.input, streams.output),
             Task::Man => man::print(streams.output).map_err(Stop::of_output),
             Task::Client(_) | Task::Server(_) | Task::Check(_) => Ok(()),
@@ -369,14 +365,6 @@ fn new_record<'a>(matches: &ArgMatches<'a>) -> NewRecord<'a> {
     }
 }
 
-/// Returns the file to list.
-fn listed<'a>(matches: &ArgMatches<'a>) -> Listed<'a> {
-    Listed {
-        file: text(matches, "FILE"),
-        is_db: matches.get_flag("db"),
-    }
-}
-
 /// Returns the file, the user name and the mechanism, if any.
 fn named<'a>(matches: &ArgMatches<'a>) -> Named<'a>
     ensures { first_value (found_of matches.now) (codes "mechanism") ≡ None → result.version ≡ None }
@@ -405,21 +393,16 @@ fn password_of<'a>(matches: &ArgMatches<'a>) -> Named<'a>
 
 /// Returns whether `--echo` is given, or `None` for a command that reads no password.
 pub fn echo_of(matches: &ArgMatches<'_>) -> Option<bool> {
-    match matches.subcommand() {
-        Some(("users", found)) => echo_of_users(found),
-        Some(("record" | "client", found)) => Some(found.get_flag("echo")),
-        Some(("explain", found)) if found.get_str("audit").is_some() => {
+    let found = match matches.subcommand() {
+        Some(("users", found)) => found.subcommand(),
+        found => found,
+    };
+    match found? {
+        ("check", found) if !found.contains_id("NAME") => None,
+        ("explain", found) if found.get_str("audit").is_none() => None,
+        ("record" | "client" | "explain" | "add" | "passwd" | "check", found) => {
             Some(found.get_flag("echo"))
         }
-        _ => None,
-    }
-}
-
-/// Returns whether `--echo` is given to a command of `users`, or `None` if the command reads no password.
-fn echo_of_users(matches: &ArgMatches<'_>) -> Option<bool> {
-    match matches.subcommand() {
-        Some(("check", found)) if !found.contains_id("NAME") => None,
-        Some(("add" | "passwd" | "check", found)) => Some(found.get_flag("echo")),
         _ => None,
     }
 }

@@ -26,7 +26,7 @@ use std::io::Write;
 use std::random::RandomSource;
 use std::rt::{Clock, Files};
 
-/// A user of a file, for one mechanism or for all.
+/// A file, and a user of it, for one mechanism or for all. A command of the whole file has no user: the name is empty.
 #[derive(Clone, Copy)]
 pub struct Named<'a> {
     /// The file.
@@ -39,15 +39,6 @@ pub struct Named<'a> {
     pub version: Option<ScramVersion>,
     /// How long a change waits for another one, in seconds.
     pub wait: u32,
-}
-
-/// A file of records to list.
-#[derive(Clone, Copy)]
-pub struct Listed<'a> {
-    /// The file.
-    pub file: &'a str,
-    /// Whether the file is a database.
-    pub is_db: bool,
 }
 
 /// The versions, in the order in which `check` prints their answers.
@@ -69,7 +60,13 @@ pub fn put<R: Locks + Clock + RandomSource + AllocGlobal, O: Write, E: Write, D:
     output: &mut O,
     errors: &mut E,
 ) -> Result<(), Stop> {
-    let put = Put::of(named, must_exist, password, record);
+    let put = Put {
+        name: named.name,
+        version: named.version,
+        must_exist,
+        password,
+        asked: *record,
+    };
     let changed = source::make_change(rt, db, named, &put)?;
     report(changed.done, output)?;
     // The file is changed, whether or not that can be written.

@@ -1,7 +1,7 @@
 //! Whether the records of a file look alike: `users check` without a name, and `users list --hashes`.
 
 use crate::form::Form;
-use crate::users::{Listed, VERSIONS, source};
+use crate::users::{Named, VERSIONS, source};
 use fe2o3_scram::{MultiRecordStore, ScramVersion};
 use scram_base_lib::database::Database;
 use scram_base_lib::lines;
@@ -18,11 +18,11 @@ use std::rt::Files;
 pub fn check_file<R: Files + AllocGlobal, O: Write, D: Database<R>>(
     rt: &R,
     db: &D,
-    listed: &Listed<'_>,
+    named: &Named<'_>,
     output: &mut O,
 ) -> Result<(), Stop> {
     let alloc = rt.alloc();
-    let text = source::lines(rt, db, listed)?;
+    let text = source::lines(rt, db, named)?;
     let users = lines::parse(alloc, &text)?;
     let mut names = BTreeSet::new(alloc);
     let mut is_alike = true;
@@ -106,11 +106,11 @@ fn print<O: Write>(
 pub fn list_hashes<R: Files + AllocGlobal, O: Write, D: Database<R>>(
     rt: &R,
     db: &D,
-    listed: &Listed<'_>,
+    named: &Named<'_>,
     output: &mut O,
 ) -> Result<(), Stop> {
     let alloc = rt.alloc();
-    let text = source::lines(rt, db, listed)?;
+    let text = source::lines(rt, db, named)?;
     let users = lines::parse(alloc, &text)?;
     for version in &VERSIONS {
         let is_used = users

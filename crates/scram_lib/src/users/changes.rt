@@ -6,7 +6,6 @@ ghost use Rattle.scram_lib.specs.Forms.{IsMade, IsNewLine, form_for};
 
 use crate::form::Form;
 use crate::record::NewRecord;
-use crate::users::Named;
 use fe2o3_scram::{MultiRecordStore, ScramVersion};
 use scram_base_lib::lines;
 use scram_base_lib::lines::UserLine;
@@ -46,22 +45,6 @@ pub struct Taken {
 }
 
 impl<'a> Put<'a> {
-    /// Returns the change for the arguments of a command.
-    pub fn of(
-        named: &Named<'a>,
-        must_exist: bool,
-        password: &'a str,
-        record: &NewRecord<'a>,
-    ) -> Put<'a> {
-        Put {
-            name: named.name,
-            version: named.version,
-            must_exist,
-            password,
-            asked: *record,
-        }
-    }
-
     /// Returns whether the change makes a record for a version. `has` says whether the user has one.
     fn wants(&self, version: ScramVersion, has: bool) -> bool
         ensures { IsTrue result ↔ IsMade self.now.version self.now.must_exist version has }

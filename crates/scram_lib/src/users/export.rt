@@ -1,7 +1,7 @@
 //! `users list` and `users export`: the records of a file, which are read and printed one after another.
 
 use crate::gsasl::gsasl_text;
-use crate::users::Listed;
+use crate::users::Named;
 use fe2o3_scram::ScramRecord;
 use scram_base_lib::database::Database;
 use scram_base_lib::lines;
@@ -30,18 +30,18 @@ pub enum Printed {
 pub fn print<R: Files + AllocGlobal, O: Write, E: Write, D: Database<R>>(
     rt: &R,
     db: &D,
-    listed: &Listed<'_>,
+    named: &Named<'_>,
     how: Printed,
     output: &mut O,
     errors: &mut E,
 ) -> Result<(), Stop> {
     let alloc = rt.alloc();
-    let count = if listed.is_db {
-        let text = db.lines(rt, listed.file)?;
+    let count = if named.is_db {
+        let text = db.lines(rt, named.file)?;
         let mut input = BufReader::new(alloc, text.as_bytes()).map_err(Stop::of_reading)?;
         print_lines(alloc, &mut input, how, output)?
     } else {
-        let file = fs::open(rt, listed.file).map_err(Stop::of_reading)?;
+        let file = fs::open(rt, named.file).map_err(Stop::of_reading)?;
         let mut input = BufReader::new(alloc, file).map_err(Stop::of_reading)?;
         print_lines(alloc, &mut input, how, output)?
     };

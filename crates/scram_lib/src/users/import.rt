@@ -6,7 +6,7 @@ ghost use Rattle.fe2o3_scram.specs.MultiRecordLines.{mixed_text};
 ghost use Rattle.scram_lib.specs.Gsasl.{NamesBoth};
 
 use crate::gsasl::record_of;
-use crate::users::{Listed, Named, source};
+use crate::users::{Named, source};
 use fe2o3_scram::{
     ReadLinesError, ReadLinesErrorKind, RecordTextError, UnescapeError, unescape_username,
 };
@@ -67,8 +67,7 @@ fn old_lines<R: Files + AllocGlobal, D: Database<R>>(
     db: &D,
     named: &Named<'_>,
 ) -> Result<String, Stop> {
-    let (file, is_db) = (named.file, named.is_db);
-    match source::lines(rt, db, &Listed { file, is_db }) {
+    match source::lines(rt, db, named) {
         Err(Stop::Unreadable(ErrorKind::NotFound)) => Ok(String::new(rt.alloc())),
         found => found,
     }

@@ -1,6 +1,6 @@
 //! Where the records of a command are: in a file of lines or in a database.
 
-use crate::users::{Listed, Named};
+use crate::users::Named;
 use scram_base_lib::database::{Database, WAIT};
 use scram_base_lib::stop::Stop;
 use scram_base_lib::store::{Change, Changed, Locks};
@@ -39,11 +39,11 @@ pub fn lines_for<R: Files + AllocGlobal, D: Database<R>>(
 pub fn lines<R: Files + AllocGlobal, D: Database<R>>(
     rt: &R,
     db: &D,
-    listed: &Listed<'_>,
+    named: &Named<'_>,
 ) -> Result<String, Stop> {
-    if listed.is_db {
-        db.lines(rt, listed.file)
+    if named.is_db {
+        db.lines(rt, named.file)
     } else {
-        store::read(rt, listed.file)
+        store::read(rt, named.file)
     }
 }
