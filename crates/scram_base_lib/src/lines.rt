@@ -69,11 +69,8 @@ pub fn parse(alloc: Global, text: &str) -> Result<MultiRecordStore, Stop>
 pub fn check(alloc: Global, line: &str, number: usize) -> Result<(), Stop> {
     match MultiRecordStore::parse_lines(alloc, line) {
         Ok(_) => Ok(()),
-        Err(fault) => {
-            let fault = ReadLinesError {
-                line: number,
-                kind: fault.kind,
-            };
+        Err(ReadLinesError { kind, .. }) => {
+            let fault = ReadLinesError { line: number, kind };
             Err(stop_of(line.trim_end_matches('\n'), fault))
         }
     }
@@ -81,18 +78,14 @@ pub fn check(alloc: Global, line: &str, number: usize) -> Result<(), Stop> {
 
 /// Converts the error of a line.
 fn stop_of(line: &str, fault: ReadLinesError) -> Stop {
-    match line {
-        _ if fault.kind == ReadLinesErrorKind::OutOfMemory => Stop::OutOfMemory,
-        "" => Stop::NoRecord(fault.line, "is empty. Remove it"),
-        _ if line.ends_with('\r') => {
-            Stop::NoRecord(
-                fault.line,
-                "ends with a carriage return. Save the file with line feeds",
-            )
-        }
-        _ if line.starts_with('#') => Stop::NoRecord(fault.line, "is a comment. Remove it"),
-        _ => Stop::Line(fault),
-    }
+    let what = match line {
+        _ if fault.kind == ReadLinesErrorKind::OutOfMemory => return Stop::OutOfMemory,
+        "" => "is empty. Remove it",
+        _ if line.ends_with('\r') => "ends with a carriage return. Save the file with line feeds",
+        _ if line.starts_with('#') => "is a comment. Remove it",
+        _ => return Stop::Line(fault),
+    };
+    Stop::NoRecord(fault.line, what)
 }
 
 /// Reads the next line of a file, and returns it with its line feed, or `None` at the end of the file. Lines are counted

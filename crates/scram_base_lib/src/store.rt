@@ -4,7 +4,6 @@ ghost use Rattle.std.specs.Prelude.{◌≡◌, ◌≢◌, None, Some};
 
 use crate::stop::Stop;
 use fe2o3_scram::ScramVersion;
-use std::alloc::Global;
 use std::fs::{File, Metadata, OpenFile, OpenOptions, Permissions, TryLockError};
 use std::io::{Error, ErrorKind, Read, Write};
 use std::os::unix::fs::{MetadataExt, OpenOptionsExt, PermissionsExt, lchown};
@@ -51,7 +50,9 @@ pub trait Rewrite {
     type Done: Drop;
 
     /// Returns whether a missing file counts as an empty one.
-    fn makes_files(&self) -> bool;
+    fn makes_files(&self) -> bool {
+        true
+    }
 
     /// Returns the new text.
     fn rewrite<R: RandomSource + AllocGlobal>(
@@ -64,10 +65,14 @@ pub trait Rewrite {
 /// A change of the lines of a user.
 pub trait Change {
     /// Returns whether a missing file counts as an empty one.
-    fn makes_files(&self) -> bool;
+    fn makes_files(&self) -> bool {
+        false
+    }
 
     /// Returns whether the change makes a record for a version where a text has these lines of the user.
-    fn makes_record(&self, text: &str, version: ScramVersion) -> bool;
+    fn makes_record(&self, _text: &str, _version: ScramVersion) -> bool {
+        false
+    }
 
     /// Returns the lines of the user after the change. Another text has the first record of all users for each version
     /// for which the change makes a record.
@@ -80,11 +85,7 @@ pub trait Change {
 }
 
 /// A file's text, and its metadata if it exists.
-#[derive(Drop)]
-struct Old {
-    text: String,
-    metadata: Option<Metadata>,
-}
+type Old = (String, Option<Metadata>);
 
 /// Reads the text of a file, which may be a pipe.
 pub fn read<R: Files + AllocGlobal>(rt: &R, file: &str) -> Result<String, Stop> {
@@ -248,9 +249,9 @@ fn fill<R: Locks + RandomSource + AllocGlobal, C: Rewrite>(
     new: &mut R::File,
     change: &C,
 ) -> Result<C::Done, Stop> {
-    let old = read_old(rt, target, change.makes_files())?;
-    let (text, done) = change.rewrite(rt, &old.text)?;
-    let permissions = keep_owner(rt, beside, new, &old.metadata)?;
+    let (old, metadata) = read_old(rt, target, change.makes_files())?;
+    let (text, done) = change.rewrite(rt, &old)?;
+    let permissions = keep_owner(rt, beside, new, &metadata)?;
     new.write_all(text.as_bytes()).map_err(Stop::of_writing)?;
     new.set_permissions(permissions).map_err(Stop::of_writing)?;
     new.sync_all().map_err(Stop::of_writing)?;
@@ -258,20 +259,14 @@ fn fill<R: Locks + RandomSource + AllocGlobal, C: Rewrite>(
     Ok(done)
 }
 
-/// Reads the old file. If it is missing and `makes_files` is set, returns an empty one.
+/// Reads the old file, which has to be regular. If it is missing and `makes_files` is set, returns an empty one.
 fn read_old<R: Files + AllocGlobal>(rt: &R, file: &str, makes_files: bool) -> Result<Old, Stop> {
-    match fs::open(rt, file) {
-        Ok(mut open) => read_open(rt.alloc(), &mut open),
-        Err(error) if makes_files && error.kind() == ErrorKind::NotFound => Ok(Old {
-            text: String::new(rt.alloc()),
-            metadata: None,
-        }),
-        Err(error) => Err(Stop::of_reading(error)),
-    }
-}
-
-/// Reads the text and the metadata of an open file, which has to be regular.
-fn read_open<F: Read + OpenFile>(alloc: Global, open: &mut F) -> Result<Old, Stop> {
+    let mut open = match fs::open(rt, file) {
+        Err(error) if makes_files && error.kind() == ErrorKind::NotFound => {
+            return Ok((String::new(rt.alloc()), None));
+        }
+        opened => opened.map_err(Stop::of_reading)?,
+    };
     let metadata = open.metadata().map_err(Stop::of_reading)?;
     if !metadata.is_file() {
         return Err(Stop::NotRegular);
@@ -279,13 +274,11 @@ fn read_open<F: Read + OpenFile>(alloc: Global, open: &mut F) -> Result<Old, Sto
     if metadata.nlink() > 1 {
         return Err(Stop::HardLinks);
     }
-    let mut text = String::with_capacity(alloc, usize::try_from(metadata.len()).unwrap_or(0))?;
+    let len = usize::try_from(metadata.len()).unwrap_or(0);
+    let mut text = String::with_capacity(rt.alloc(), len)?;
     open.read_to_string(&mut text).map_err(Stop::of_reading)?;
     unmarked(&text)?;
-    Ok(Old {
-        text,
-        metadata: Some(metadata),
-    })
+    Ok((text, Some(metadata)))
 }
 
 /// Gives a new file the owner and the group of the old one, and returns the old one's permissions. If there is no old

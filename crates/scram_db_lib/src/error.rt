@@ -10,34 +10,21 @@ use std::alloc::AllocError;
 use std::io;
 use std::io::ErrorKind;
 
-/// Why a database cannot be used.
+/// Why a database cannot be used. The text of each reason is its documentation.
 #[derive(Debug, Clone, Copy, PartialEq, Eq)]
 pub enum DatabaseError {
-    /// The file does not exist, or it has no table yet.
     Missing,
-    /// The file is a link to a file that does not exist.
     DanglingLink,
-    /// The name is that of a folder, a pipe or a device.
     NotAFile,
-    /// Another program had the file open during the whole wait.
     Locked,
-    /// SQLite left a rollback journal, which only SQLite can play back.
     Journal,
-    /// The file, its folder or its log cannot be opened.
     Unopened(ErrorKind),
-    /// The file is not a SQLite database, or its header or its free list is damaged.
     NotADatabase,
-    /// The database does not have exactly the table of users.
     OtherSchema,
-    /// A page of the table is damaged.
     Damaged,
-    /// The user's row does not have the columns of a record.
     WrongRow,
-    /// The file cannot be read or written.
     Io,
-    /// The file or its disk is full.
     Full,
-    /// Out of memory.
     OutOfMemory,
 }
 

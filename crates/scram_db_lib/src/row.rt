@@ -60,7 +60,7 @@ fn blob(row: &Row, at: usize) -> Option<&[u8]>
 }
 
 /// Returns the count in a column, or `None` if it is not of 32 bits.
-fn count(row: &Row, at: usize) -> Option<u32>
+pub(crate) fn count(row: &Row, at: usize) -> Option<u32>
     ensures { result ≡ count_in (column row.now at) }
 {
     match row.get(at) {

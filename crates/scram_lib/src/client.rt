@@ -195,10 +195,10 @@ fn exchange<I: BufRead, O: Write>(
 {
     let first = client.compute_client_first_message(alloc, nonce)?;
     wire::send(alloc, output, &first)?;
-    let server_first = receive_first(alloc, client.mechanism(), input)?;
+    let server_first = accepted(wire::receive_first(alloc, client.mechanism(), input)?)?;
     let last = answer(alloc, client, &server_first)?;
     wire::send(alloc, output, &last)?;
-    let server_final = receive(alloc, input)?;
+    let server_final = accepted(wire::receive(alloc, input)?)?;
     verify(alloc, client, &server_final)
 }
 
@@ -207,20 +207,6 @@ fn verify(alloc: Global, client: &mut ScramClient, server_final: &[u8]) -> Resul
     ensures { OnOk result (VerifiesIn client.old.state client.old server_final.now (Ok tt) client.new) }
 {
     Ok(client.validate_server_final(alloc, server_final)?)
-}
-
-/// Receives the first message of the server, after a line with the name of the mechanism, if there is one.
-fn receive_first<I: BufRead>(
-    alloc: Global,
-    mechanism: &str,
-    input: &mut I,
-) -> Result<Vec<u8>, Stop> {
-    accepted(wire::receive_first(alloc, mechanism, input)?)
-}
-
-/// Receives a message of the server.
-fn receive<I: BufRead>(alloc: Global, input: &mut I) -> Result<Vec<u8>, Stop> {
-    accepted(wire::receive(alloc, input)?)
 }
 
 /// Returns a message of the server. It can be an error (RFC 5802, section 7, `server-error`).

@@ -59,10 +59,6 @@ struct Kept {
 impl Rewrite for Kept {
     type Done = ();
 
-    fn makes_files(&self) -> bool {
-        true
-    }
-
     fn rewrite<R: RandomSource + AllocGlobal>(
         &self,
         _rt: &R,

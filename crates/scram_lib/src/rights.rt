@@ -6,7 +6,8 @@ ghost use Rattle.scram_lib.specs.Acting.{words_of};
 ghost use Rattle.scram_lib.specs.Done.{HasServed, IsWithRights};
 
 use crate::done::Done;
-use crate::server::{Service, serve};
+use crate::server;
+use crate::server::Service;
 use scram_base_lib::database::Database;
 use scram_base_lib::lines::unescaped;
 use scram_base_lib::stop::Stop;
@@ -17,7 +18,7 @@ use std::random::RandomSource;
 use std::rt::Files;
 
 /// Serves a login. If clients may name identities, the rights of `FILE.rights` are added to those of the arguments.
-pub fn serve_with_rights<R, I, O, E, D>(
+pub fn serve<R: Files + RandomSource + AllocGlobal, I: BufRead, O: Write, E: Write, D: Database<R>>(
     rt: &R,
     db: &D,
     service: &Service<'_, '_>,
@@ -25,16 +26,10 @@ pub fn serve_with_rights<R, I, O, E, D>(
     output: &mut O,
     errors: &mut E,
 ) -> Result<Done, Stop>
-where
-    R: Files + RandomSource + AllocGlobal,
-    I: BufRead,
-    O: Write,
-    E: Write,
-    D: Database<R>,
     ensures { IfOk result (λ done. (full : Service) × IsWithRights service.now full × HasServed full done) }
 {
     if !service.accept_authzid {
-        return serve(rt, db, service, input, output, errors);
+        return server::serve(rt, db, service, input, output, errors);
     }
     let held = words_in(rt, service.file)?;
     let mut given = Vec::new(rt.alloc());
@@ -43,7 +38,7 @@ where
     }
     let words = all_words(rt.alloc(), service.may_act, &given)?;
     let full = with_words(service, &words);
-    serve(rt, db, &full, input, output, errors)
+    server::serve(rt, db, &full, input, output, errors)
 }
 
 /// Returns the arguments with these rights in place of theirs.

@@ -8,13 +8,12 @@ ghost use Rattle.scram_lib.specs.Done.{IsDone};
 use crate::client::{Login, log_in};
 use crate::done::Done;
 use crate::record::NewRecord;
-use crate::rights::serve_with_rights;
 use crate::server::Service;
 use crate::users::alike::{check_file, list_hashes};
 use crate::users::export::{Printed, print};
 use crate::users::import::import;
 use crate::users::{Named, check, put, remove};
-use crate::{man, record};
+use crate::{man, record, rights};
 use clap::ArgMatches;
 use fe2o3_scram::secrets::SecretText;
 use fe2o3_scram::{DEFAULT_SCRAM_ITERATIONS, ScramVersion};
@@ -184,7 +183,7 @@ impl<'a, 'm> Task<'a, 'm> {
             Task::Client(login) => log_in(rt, login, streams.input, streams.output),
             Task::Server(service) => {
                 let db = streams.db;
-                serve_with_rights(rt, db, service, streams.input, streams.output, errors)
+                rights::serve(rt, db, service, streams.input, streams.output, errors)
             }
             Task::Check(named) => {
                 let password = input::password(rt.alloc(), streams.input, Unassigned::Allowed)?;

@@ -125,7 +125,11 @@ pub fn check<R: Files + AllocGlobal, O: Write, D: Database<R>>(
 ) -> Result<Done, Stop>
     ensures { IfOk result (λ done. HasChecked named.now done) }
 {
-    let text = source::lines_for(rt, db, named)?;
+    let text = if named.is_db {
+        db.lines_of(rt, named.file, named.name, None)?
+    } else {
+        source::lines(rt, db, named)?
+    };
     check_text(rt.alloc(), &text, named, password.as_str(), output)?;
     Ok(Done::Check(text, password))
 }

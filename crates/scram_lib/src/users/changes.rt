@@ -98,9 +98,17 @@ impl<'a> Put<'a> {
         for version in &ADDED {
             let first = firsts.for_version(*version);
             let is_made = self.wants(*version, has_record(text, Some(*version)));
-            if is_made && first.first_stored_password().is_some() {
-                let first = Form::of_first(first);
-                note(alloc, *version, first, self.asked.form(first), &mut notes)?;
+            if !is_made || first.first_stored_password().is_none() {
+                continue;
+            }
+            let (mechanism, first) = (version.mechanism(), Form::of_first(first));
+            let new = self.asked.form(first);
+            if new != first {
+                notes.push_str(&format!(in alloc;
+                    "scram: the new record for {mechanism} has a salt of {} bytes and {} iterations, but the first has {} and \
+                     {}: clients see the difference\n",
+                    new.salt_len, new.iterations, first.salt_len, first.iterations
+                )?)?;
             }
         }
         Ok(notes)
@@ -148,26 +156,6 @@ impl Change for Put<'_> {
     }
 }
 
-/// Adds a line if a new record and the first one have two forms.
-fn note(
-    alloc: Global,
-    version: ScramVersion,
-    first: Form,
-    new: Form,
-    notes: &mut String,
-) -> Result<(), Stop> {
-    if new == first {
-        return Ok(());
-    }
-    let mechanism = version.mechanism();
-    let line = format!(in alloc;
-        "scram: the new record for {mechanism} has a salt of {} bytes and {} iterations, but the first has {} and {}: \
-         clients see the difference\n",
-        new.salt_len, new.iterations, first.salt_len, first.iterations
-    )?;
-    Ok(notes.push_str(&line)?)
-}
-
 /// Returns whether a line has a record for this mechanism, or for any.
 fn is_for(line: &str, version: Option<ScramVersion>) -> bool {
     version.is_none_or(|version| version.mechanism() == UserLine::of(line).mechanism)
@@ -179,14 +167,6 @@ fn has_record(text: &str, version: Option<ScramVersion>) -> bool {
 }
 
 impl Change for Taken {
-    fn makes_files(&self) -> bool {
-        false
-    }
-
-    fn makes_record(&self, _text: &str, _version: ScramVersion) -> bool {
-        false
-    }
-
     fn apply<R: RandomSource + AllocGlobal>(
         &self,
         rt: &R,

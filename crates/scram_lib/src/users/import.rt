@@ -121,10 +121,6 @@ struct Added<'a> {
 impl Rewrite for Added<'_> {
     type Done = Vec<u8>;
 
-    fn makes_files(&self) -> bool {
-        true
-    }
-
     fn rewrite<R: RandomSource + AllocGlobal>(
         &self,
         rt: &R,

@@ -22,19 +22,6 @@ where
     db.make_change(rt, named.file, wait, named.name, change)
 }
 
-/// Returns lines with all records of a user.
-pub fn lines_for<R: Files + AllocGlobal, D: Database<R>>(
-    rt: &R,
-    db: &D,
-    named: &Named<'_>,
-) -> Result<String, Stop> {
-    if named.is_db {
-        db.lines_of(rt, named.file, named.name, None)
-    } else {
-        store::read(rt, named.file)
-    }
-}
-
 /// Returns the lines of all records.
 pub fn lines<R: Files + AllocGlobal, D: Database<R>>(
     rt: &R,
