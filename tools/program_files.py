@@ -220,7 +220,7 @@ def quoted_names(folder):
     users = str(folder / "users.txt")
     names = ["alice", "a,b c=", "\x1b[31m'\\", "Müller", ""]
     for name in names:
-        assert scram("users", "add", users, name, "--mechanism", "SCRAM-SHA-256")[0] == 0
+        assert scram("users", "add", users, name, "--mechanism", "SCRAM-SHA-256", "--force")[0] == 0
     listed = scram("users", "list", users)[1]
     assert listed.isascii() and "\x1b" not in listed
     for line, name in zip(listed.splitlines(), names):
@@ -234,7 +234,7 @@ def terminals(_folder):
     """At a terminal the password is an error, or asked for on the errors."""
     for words, status, text in ((["record"], 2, b"--echo"), (["record", "--echo"], 0, b"Password: ")):
         above, below = pty.openpty()
-        os.write(above, b"pencil\n")
+        os.write(above, b"pencil\npencil\n")
         run = subprocess.run(
             [PROGRAM, *words], stdin=below, stdout=subprocess.DEVNULL, stderr=subprocess.PIPE, timeout=SECONDS
         )

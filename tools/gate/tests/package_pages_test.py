@@ -8,7 +8,8 @@ from pathlib import Path
 
 TOP = Path(__file__).resolve().parents[3]
 TOOL = TOP / "bindings/packages/pages.py"
-PAGES = ["CHANGELOG.md", "COMPATIBILITY.md", "README.md", "SECURITY.md"]
+GUIDES = ["GUIDE-c.md", "GUIDE-python.md", "GUIDE-rust.md", "GUIDE.md"]
+PAGES = ["CHANGELOG.md", "COMPATIBILITY.md", *GUIDES, "README.md", "SECURITY.md"]
 
 
 class PackagePages(unittest.TestCase):
