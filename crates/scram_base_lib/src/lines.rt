@@ -23,9 +23,7 @@ use std::rt::{Clock, Files};
 pub struct UserLine<'a> {
     /// The name, escaped.
     pub name: &'a str,
-    /// The name of the mechanism.
     pub mechanism: &'a str,
-    /// The iteration count.
     pub iterations: &'a str,
     /// The salt, in base64.
     pub salt: &'a str,

@@ -17,26 +17,18 @@ use std::alloc::{AllocError, Global};
 /// The record of a user for a mechanism (RFC 5802, section 3).
 #[derive(Debug, Drop)]
 pub struct StoredUser {
-    /// The salt.
     pub salt: Vec<u8>,
-    /// The iteration count.
     pub iterations: u32,
-    /// StoredKey.
     pub stored_key: Vec<u8>,
-    /// ServerKey.
     pub server_key: Vec<u8>,
 }
 
 /// A record that a row lends.
 #[derive(Clone, Copy, Debug)]
 pub struct Columns<'a> {
-    /// The salt.
     pub salt: &'a [u8],
-    /// The iteration count.
     pub iterations: u32,
-    /// StoredKey.
     pub stored_key: &'a [u8],
-    /// ServerKey.
     pub server_key: &'a [u8],
 }
 

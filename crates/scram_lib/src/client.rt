@@ -22,15 +22,12 @@ use std::rt::{Clock, Files};
 /// The arguments of a login.
 #[derive(Clone, Copy)]
 pub struct Login<'a> {
-    /// The mechanism.
     pub version: ScramVersion,
     /// The user name, not escaped.
     pub user: &'a str,
     /// The identity that the client asks to act for, not escaped, if any.
     pub acts_for: Option<&'a str>,
-    /// The minimum iteration count that the client accepts.
     pub min_iterations: u32,
-    /// The maximum iteration count that the client accepts.
     pub max_iterations: u32,
     /// The key file, if any.
     pub keys: Option<&'a str>,
@@ -38,7 +35,6 @@ pub struct Login<'a> {
     pub channel: Option<&'a str>,
     /// Whether the client has a channel, but was offered no mechanism with `-PLUS`. It has no effect beside `channel`.
     pub channel_not_offered: bool,
-    /// Whether the client is strict.
     pub strict: bool,
     /// The nonce in hexadecimal, or `None` for a random one.
     pub nonce: Option<&'a str>,

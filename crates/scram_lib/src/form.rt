@@ -16,7 +16,6 @@ use std::alloc::Global;
 pub struct Form {
     /// The length of the salt, in bytes.
     pub salt_len: usize,
-    /// The iteration count.
     pub iterations: u32,
 }
 

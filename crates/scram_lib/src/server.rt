@@ -41,9 +41,7 @@ use std::sync::Arc;
 /// The arguments of a server.
 #[derive(Clone, Copy)]
 pub struct Service<'a, 'm> {
-    /// The mechanism.
     pub version: ScramVersion,
-    /// The file of records.
     pub file: &'a str,
     /// Whether the file is a database.
     pub is_db: bool,
@@ -61,7 +59,6 @@ pub struct Service<'a, 'm> {
     pub accept_authzid: bool,
     /// The rights to act for identities, each `USER:IDENTITY`, if any. They have no effect without `accept_authzid`.
     pub may_act: Option<&'m [&'a str]>,
-    /// Whether the server is strict.
     pub strict: bool,
     /// The nonce in hexadecimal, or `None` for a random one.
     pub nonce: Option<&'a str>,

@@ -29,7 +29,6 @@ use std::rt::{Clock, Files};
 /// A file, and a user of it, for one mechanism or for all. A command of the whole file has no user: the name is empty.
 #[derive(Clone, Copy)]
 pub struct Named<'a> {
-    /// The file.
     pub file: &'a str,
     /// Whether the file is a database.
     pub is_db: bool,

@@ -1,57 +1,40 @@
 //! The arguments and options of the commands, with their help.
 
-/// The kind of a word.
+/// The kind of a word. A place is a positional argument, and the others are options. A kind with `Of` requires the option
+/// that it names, and one with `Without` excludes it.
 #[derive(Clone, Copy)]
 pub enum Kind {
-    /// A required positional argument.
     Place,
-    /// A positional argument that can be left out.
     OptionalPlace,
-    /// A positional argument with the name of a mechanism.
     MechanismPlace,
-    /// An option with a text.
     Text,
-    /// An option with a text that can be repeated.
     Texts,
-    /// An option with the name of a mechanism.
     Mechanism,
-    /// An option with the length of a salt.
     SaltLen,
-    /// An option with an iteration count.
     Count,
-    /// An option with an iteration count that requires another option.
     CountOf(&'static str),
-    /// An option with a number of seconds.
     Seconds,
-    /// An option without a value.
     Flag,
-    /// An option without a value that cannot be used with another option.
     FlagWithout(&'static str),
-    /// An option without a value that requires another option.
     FlagOf(&'static str),
 }
 
 /// A word of a command: an argument or an option.
 #[derive(Clone, Copy)]
 pub struct Word {
-    /// The kind.
     pub kind: Kind,
-    /// The name.
     pub name: &'static str,
     /// The placeholder for the value.
     pub value: &'static str,
-    /// The help text.
     pub help: &'static str,
 }
 
 /// A command.
 #[derive(Clone, Copy)]
 pub struct Words {
-    /// The name.
     pub name: &'static str,
     /// What the command does.
     pub about: &'static str,
-    /// The words of the command.
     pub words: &'static [Word],
 }
 

@@ -31,7 +31,6 @@ pub struct Put<'a> {
     pub version: Option<ScramVersion>,
     /// Whether the user has to have a record that the change replaces.
     pub must_exist: bool,
-    /// The password.
     pub password: &'a str,
     /// The arguments of the records.
     pub asked: NewRecord<'a>,
