@@ -38,13 +38,8 @@ use std::random::RandomSource;
 use std::rt::{Clock, Files};
 
 /// Does what the words ask, of which the first is the name of the program, and returns the exit status. An audit is
-/// done by `audit`, and a database is used by `db`. `is_terminal` says whether the input is a terminal.
-///
-/// - 0: done.
-/// - 1: the peer rejects the login or closes.
-/// - 2: wrong arguments, or a password at a terminal without `--echo`.
-/// - 3: this side rejects the login, or an audit finds no complete login.
-/// - 4: an input that cannot be read or audited, or a failure of a file, of memory, of random bytes or of an output.
+/// done by `audit`, and a database is used by `db`. `is_terminal` says whether the input is a terminal. The statuses are in
+/// [`NOTES`](crate::manual::NOTES).
 pub fn run<R, I, O, E, A, D>(
     rt: &R,
     words: &[String],
