@@ -61,16 +61,16 @@ pub fn explain<I: BufRead, O: Write>(
 ) -> Result<(), Stop> {
     let mut heard = Heard::new(alloc, "");
     heard.any_header = true;
-    for before in 0..u64::MAX {
+    for place in 0..usize::MAX {
         let Some(line) = input::next_line(alloc, input)? else {
             break;
         };
         let told = if frames {
             heard.body_in(alloc, &line, output)
         } else {
-            heard.text(alloc, before, &line, output)
+            heard.text(alloc, place, &line, output)
         };
-        told.map_err(|stop| stop.at_line(before.saturating_add(1)))?;
+        told.map_err(|stop| stop.at_line((place as u64).saturating_add(1)))?;
     }
     Ok(())
 }
@@ -133,20 +133,20 @@ impl Heard {
         }
     }
 
-    /// Prints what the message at a place says, which has at most three before it. The line has it in base64.
+    /// Prints what the message at a place says. A fifth is the error `ExtraLine`. The line has it in base64.
     fn text<O: Write>(
         &mut self,
         alloc: Global,
-        before: u64,
+        place: usize,
         line: &str,
         output: &mut O,
     ) -> Result<(), Stop> {
-        if before >= 4 {
+        if place >= 4 {
             return Err(Stop::ExtraLine);
         }
         let message = wire::bytes_of(alloc, line)?;
-        let told = self.tell(alloc, before as usize, &message);
-        self.print(NAMES[before as usize], told, output)
+        let told = self.tell(alloc, place, &message);
+        self.print(NAMES[place], told, output)
     }
 
     /// Prints what a frame body says, and the message in it. The line has it in hexadecimal.

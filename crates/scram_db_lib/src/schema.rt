@@ -3,7 +3,7 @@
 ghost use Rattle.std.specs.Prelude.{◌≡◌, ◌↔◌, ◌<◌, ◌^◌, ℕ, IsTrue, IfOk, IfSome, IsNone};
 ghost use Rattle.sqlite_value.specs.Order.{column};
 ghost use Rattle.sqlite_value.specs.declared.value.Value.TheVariants.{Text};
-ghost use Rattle.scram_db_lib.specs.Users.{table_text, table_row, count_in, IsUsers, IsRowOfUsers};
+ghost use Rattle.scram_db_lib.specs.Users.{table_text, table_row, IsUsers, IsRowOfUsers};
 
 use crate::error::DatabaseError;
 use crate::row::{count, encoded, row_of};
