@@ -41,4 +41,8 @@ impl<R> Database<R> for NoDatabase {
     ) -> Result<Changed, Stop> {
         Err(NONE)
     }
+
+    fn import(&self, _rt: &R, _file: &str, _wait: u32, _lines: &str) -> Result<Vec<u8>, Stop> {
+        Err(NONE)
+    }
 }
