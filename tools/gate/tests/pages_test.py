@@ -19,7 +19,7 @@ BUDGET = {
     "docs/WRONG_BODIES.md": (None, None),
     "CHANGELOG.md": (None, None),
 }
-SUMS = [(2700, 32000), (None, 45000), (None, 60000)]
+SUMS = [(2720, 32000), (None, 45000), (None, 60000)]
 FIT = {
     "README.md": "one two\nthree\n",
     "docs/A.md": "one\ntwo\n",
