@@ -69,7 +69,7 @@ pub enum Stop {
     HardLinks,
     #[error("The file is a link to a file that does not exist. Make that file, or remove the link.")]
     DanglingLink,
-    #[error("A change is under way in this new file, or it is another's. Wait with --wait, or remove it if no program is changing the file.")]
+    #[error("A change is under way in this new file, or it is another's. Wait with --wait, or remove it if no change runs.")]
     Busy,
     /// The old file stays.
     #[error("The file is not changed: the new one beside it cannot be written: {}. Check the folder and its space.", cause(.0))]
