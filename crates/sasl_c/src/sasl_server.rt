@@ -391,8 +391,6 @@ impl SaslServerConfig<'_> {
 struct RestoredResult<A> {
     taken: usize,
     sent: BytesMut,
-
-    /// The side then.
     side: ServerNegotiation<A>,
 }
 
