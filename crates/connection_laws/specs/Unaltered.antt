@@ -94,8 +94,9 @@ pub record BothLogIn {login : Login} {provider : Provider} {client : Side Profil
       server.state
   pub one_login : OneLogin (sides_of login client_events client_replies provider server_events server_replies) salt count
 
--- a client and a server that are joined both log in, if the server holds a record that the client's secret opens. Each
--- premise can be tested before the first byte is sent
+-- a client and a server that are joined both log in, if the server holds a record that the client's secret opens. The
+-- premises are about the options of both sides, the record, the limits of frames, the pieces and the nonces of the calls:
+-- none is about what a call returns
 abbrev pub UnalteredSidesLogIn : Type 0
 UnalteredSidesLogIn = (login : Login) (provider : Provider) (password salt : List ℕ) (count : ℕ) (client : Side Profile)
     (server : Side Acceptor) (joined : Joined login provider client server) → IsLogin login

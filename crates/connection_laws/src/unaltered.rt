@@ -3,8 +3,7 @@
 ghost use Rattle.connection_laws.specs.Unaltered.{UnalteredSidesLogIn, NegotiationsAgree};
 
 /// A SCRAM client and a SCRAM server that are joined both log in, in whatever pieces their bytes arrive, and whether or
-/// not the client accepts the server's signature in a challenge. Each premise can be tested before the first byte is
-/// sent:
+/// not the client accepts the server's signature in a challenge. No premise is about what a call returns:
 /// - the server holds a record that the client's secret opens, with a count from 1 on and within the client's limits;
 /// - the server accepts the client's GS2 header, and if the client binds a channel, it has the same data of that channel;
 /// - the escaped user name and the hostname have at most 412 bytes together, or for a client that binds a channel 396

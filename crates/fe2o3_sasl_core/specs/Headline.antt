@@ -46,7 +46,7 @@ pub record ReportsOkExactly (login : Login) (events : List Given) (replies : Lis
   -- a client that does not accept the signature in a challenge reports Ok only with data
   pub with_data : login.signature_by_challenge ≡ false → (m : ℕ) (more : Option (List ℕ))
       → slice_get replies m ≡ Some (Reported outcomes.Ok more) → (text : List ℕ) × (more ≡ Some text)
-  -- every such signature is reported, except if memory runs out
+  -- every outcome Ok with such a signature is reported, except if memory runs out
   pub wherever : (m : ℕ) (more : Option (List ℕ)) (says : ClientSays) → SignedAt login events replies m more
       → slice_get replies m ≡ Some says → says ≢ Refused OutOfMemory → says ≡ Reported outcomes.Ok more
 

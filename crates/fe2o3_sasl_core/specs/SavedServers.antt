@@ -93,8 +93,8 @@ SavesTexts stage = Unit {0}
 unfoldable pub IsRestored : ServerSettings → ServerStage → Type 0
 IsRestored settings stage = restored_stage settings (kept_stage stage) ≡ stage
 
--- a server with these settings, saved and restored between any two frames, is as before: it is so before the first frame,
--- and after each frame if it was so before
+-- a server that is saved and restored between two frames is in the stage that it was in, if its settings, with the records
+-- that they look up, are the same: this holds before the first frame, and after each frame if it held before it
 abbrev pub RestoredStagesAreEqual : Type 0
 RestoredStagesAreEqual = (settings : ServerSettings) → IsRestored settings NotStarted
     × ((stage next : ServerStage) (nonce : List ℕ) (frame reply : SaslFrame) → IsRestored settings stage
