@@ -27,10 +27,10 @@ pub use fe2o3_scram::laws::{
 /// - A SCRAM server answers Ok exactly when a response fits its open challenge and its proof meets the stored key.
 /// - A SCRAM client reports Ok exactly on the signature of its open answered challenge. That is in the outcome or, if
 ///   the client accepts that, in the challenge that it answered last.
-/// - If a SCRAM server with a history issued that signature, by a record with a salt and a count, both agree on user name
-///   and client nonce, or their own differing AuthMessages share one HMAC value. If the init had two parts, or one side
-///   received no attribute of RFC 5802 in the place of an extension, they also agree on full nonce, salt and count. In
-///   the second case they agree on the header and on the data of the channel too.
+/// - If a SCRAM server, over any list of bodies of its own, issued that signature, both agree on user name and client
+///   nonce, or their own differing AuthMessages share one HMAC value. If the init had two parts, or one side received no
+///   attribute of RFC 5802 in the place of an extension, they also agree on full nonce, salt and count. In the second
+///   case they agree on the header and on the data of the channel too.
 pub fn headline()
     ensures server { EveryServer AnswersOkExactly }
     ensures client { EveryClient ReportsOkExactly }
