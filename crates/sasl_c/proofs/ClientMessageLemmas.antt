@@ -4,7 +4,7 @@ use Rattle.std.specs.Prelude.{Option, Ok, Err}
 use Rattle.fe2o3_scram.specs.ChannelBinding.{flag_of}
 use Rattle.fe2o3_scram.specs.ClientFirst.{client_first_bare, client_first_with}
 use Rattle.fe2o3_scram.specs.ClientKeys.{ClientKeys}
-use Rattle.fe2o3_scram.specs.ScramClient.{AnswersIn, ClientSide, ClientState, ClientInitial, ClientFirstSent, ClientFinalSent, SignatureVerified, Complete, VerifiesIn, started}
+use Rattle.fe2o3_scram.specs.ScramClient.{AnswersIn, ClientSide, ClientState, ClientInitial, ClientFirstSent, ClientFinalSent, SignatureVerified, Complete, VerifiesIn, started, with_state}
 use Rattle.fe2o3_scram.specs.Texts.{base64_text}
 use Rattle.fe2o3_scram.specs.declared.scram_messages.channel_binding_flag.ChannelBindingFlag.{ChannelBindingFlag}
 use Rattle.sasl_c.specs.declared.client.ScramClient.{ScramClient as Struct}
@@ -12,7 +12,7 @@ use Rattle.sasl_c.specs.declared.login.Login.{Login}
 use Rattle.sasl_c.specs.declared.status.WriteError.TheVariants.{RoomTooSmall, Other}
 use Rattle.sasl_c.specs.Client.{AnswersByMessage, IsClientOf, IsSide, IsState, Responds, Verifies, WritesClient, complete_struct, fresh_client_struct}
 use Rattle.sasl_c.specs.ClientCalls.{SameWords}
-use Rattle.sasl_c.specs.ClientMessages.{CallsOfClient, CallsOverScram, FinalCall, FirstCall, MakesCall, MessageCall, FinalCallsReturn, FirstCallsReturn, MessagesAreOfClient, TakesCall, VerifyCall, VerifyCallsReturn}
+use Rattle.sasl_c.specs.ClientMessages.{CallsOfClient, CallsOverScram, FinalCall, FirstCall, MakesCall, MessageCall, FinalCallsReturn, FirstCallsReturn, MessagesAreOfClient, MessagesSpellClients, TakesCall, VerifyCall, VerifyCallsReturn}
 use Rattle.sasl_c.proofs.CallNumberLemmas.{status_not_zero}
 use Rattle.sasl_c.proofs.ClientAlikeLemmas.{Follows, SameChannel, answers, made, rekeyed, verifies}
 use Rattle.sasl_c.proofs.ClientCallLemmas.{nothing_sent, state_shown}
@@ -162,6 +162,15 @@ module _ (base : Login) where
 pub messages_are_of_client : MessagesAreOfClient
 messages_are_of_client base side last calls is none over = calls_took base fresh_client_struct last side calls
     (is, subst (λ (s : ClientState). IsState side.user fresh_client_struct s) (sym none) (nothing_sent side.user)) over
+
+pub messages_spell_clients : MessagesSpellClients
+unfolding Responds Verifies AnswersByMessage
+messages_spell_clients login (FirstCall nonce message) before after ((side, is, said), begins) =
+    (with_state side ClientInitial, moved_login login side ClientInitial is, refl)
+messages_spell_clients login (FinalCall text message) before after (next, (side, is, answered), shows) =
+    (with_state side ClientInitial, moved_login login side ClientInitial is.0, refl)
+messages_spell_clients login (VerifyCall text) before after (side, next, is, verified) =
+    (with_state side ClientInitial, moved_login login side ClientInitial is.0, refl)
 
 -- ---- the numbers
 

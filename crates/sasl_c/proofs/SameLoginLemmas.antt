@@ -343,8 +343,8 @@ module _ (base words : Words) (one : SameWords base words) where
     version = is.version ∙ one.version;
     user = is.user ∙ one.username;
     secret = secret_of_base side.secret is.secret;
-    least = is.least ∙ one.least;
-    most = is.most ∙ one.most;
+    least = is.least ∙ one.min_iterations;
+    most = is.most ∙ one.max_iterations;
     header = (
       channel_of_base side.channel is.header.0,
       is.header.1 ∙ ap (λ (name : List ℕ). identity_named (Some name)) one.acts_for,

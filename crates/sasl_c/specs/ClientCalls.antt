@@ -30,8 +30,8 @@ pub record SameWords (base words : Words) : Type 0 where
   pub version : words.version ≡ base.version
   pub secret : words.secret ≡ base.secret
   pub form : words.form ≡ base.form
-  pub least : words.min_iterations ≡ base.min_iterations
-  pub most : words.max_iterations ≡ base.max_iterations
+  pub min_iterations : words.min_iterations ≡ base.min_iterations
+  pub max_iterations : words.max_iterations ≡ base.max_iterations
   pub username : words.username.now ≡ base.username.now
   pub acts_for : words.acts_for.now ≡ base.acts_for.now
   pub password : words.password.now ≡ base.password.now

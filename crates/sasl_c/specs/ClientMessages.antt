@@ -38,6 +38,7 @@ CallsOverScram base before [] last = last ≡ before
 CallsOverScram base before (call ∷ calls) last = (login : Login) × (after : Struct) × SameWords base login
     × MakesCall login call before after × CallsOverScram base after calls last
 
+-- the calls of the same names of one client, from this state of it to the last
 abbrev pub CallsOfClient : ClientSide → List MessageCall → ClientSide → Type 0
 CallsOfClient side [] last = last ≡ side
 CallsOfClient side (call ∷ calls) last = (next : ClientSide) × TakesCall side call next × CallsOfClient next calls last
@@ -62,6 +63,11 @@ abbrev pub VerifyCallsReturn : Type 0
 VerifyCallsReturn = (login : Login) (text : List ℕ) (before after : Struct) (number : ℕ)
     → Answers number (λ answer. Verifies login text before after answer × AsksWhere (VerifyAsks login text before) answer)
     → (number ≡ 0 → MakesCall login (VerifyCall text) before after) × (number ≢ 0 → after ≡ before)
+
+-- a login by which a call returned FE2O3_OK spells a client that has sent nothing
+abbrev pub MessagesSpellClients : Type 0
+MessagesSpellClients = (login : Login) (call : MessageCall) (before after : Struct) → MakesCall login call before after
+    → (side : ClientSide) × IsClientOf login side × (side.state ≡ ClientInitial)
 
 -- calls over one struct of zeros that are all passed one login are calls of each client of this login that has sent nothing,
 -- and the struct after them is that of this client: it has its state, the signature that it expects, and its keys

@@ -55,6 +55,7 @@ CallsOverServer provider before (call ∷ calls) last = (kept : Kept) × (identi
     × PassesRecord provider kept identities call before × MakesMessage provider.rules kept identities call before after
     × CallsOverServer provider after calls last
 
+-- the calls of the same names of one server over this store, from this state of it to the last
 abbrev pub CallsOfServer : Provider → ServerState → List ServerMessage → ServerState → Type 0
 CallsOfServer provider state [] last = last ≡ state
 CallsOfServer provider state (call ∷ calls) last = (next : ServerState) × TakesMessage provider state call next

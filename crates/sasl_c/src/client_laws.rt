@@ -1,7 +1,7 @@
 //! What several calls over one struct of a client are together. Each function has an empty body and states only its contract.
 
 ghost use Rattle.sasl_c.specs.ClientCalls.{CallsWithOneLoginConnect, LoginsSpellClients, ReturnsAreClientCalls, ZerosAreNewClients};
-ghost use Rattle.sasl_c.specs.ClientMessages.{FinalCallsReturn, FirstCallsReturn, MessagesAreOfClient, VerifyCallsReturn};
+ghost use Rattle.sasl_c.specs.ClientMessages.{FinalCallsReturn, FirstCallsReturn, MessagesAreOfClient, MessagesSpellClients, VerifyCallsReturn};
 
 /// Any number of calls of `fe2o3_sasl_client_receive` over one struct that begins with zeros, over any stream in any pieces,
 /// are one connection of the library's `ClientNegotiation`, if each call is passed the same login (`SameLogin`). Each call
@@ -24,10 +24,11 @@ pub fn client_calls()
 /// client, the signature that it expects, and its keys.
 ///
 /// `first`, `last` and `verify` say by the number that a call returns what it has done. A call that returned an error does
-/// not change the struct.
+/// not change the struct. By `spelled` each login by which a call returned FE2O3_OK has such a client.
 pub fn client_messages()
     ensures first { FirstCallsReturn }
     ensures last { FinalCallsReturn }
     ensures verify { VerifyCallsReturn }
+    ensures spelled { MessagesSpellClients }
     ensures one_login { MessagesAreOfClient }
 {}
