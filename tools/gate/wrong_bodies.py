@@ -632,8 +632,12 @@ def used_by(lines, crate):
 
 def below(lines, crate):
     """The crates of these lines that a crate uses, and those below them, lowest first."""
-    found = {it for it in used_by(lines, crate) if it in lines}
-    return [it for it in lines if it in found or any(it in below(lines, on) for on in found)]
+    found, left = set(), [crate]
+    while left:
+        more = {it for it in used_by(lines, left.pop()) if it in lines} - found
+        found |= more
+        left += more
+    return [it for it in lines if it in found]
 
 
 def crates():
