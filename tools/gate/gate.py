@@ -94,6 +94,15 @@ def hand_over(libraries, folder, line):
         open(f"{folder}/{name}.failed", "w", encoding="utf-8").close()
 
 
+def let_others_first(pid):
+    """Gives a session less of the processors, where Linux shares them by sessions and `nice` counts within one only."""
+    try:
+        with open(f"/proc/{pid}/autogroup", "w", encoding="utf-8") as it:
+            it.write("10")
+    except OSError:
+        pass
+
+
 def long_parts(processors, memory, anew):
     """What `rt ci` and the wrong bodies counted, passed and failed, and the sample of their processes."""
     how = {"stdin": subprocess.DEVNULL, "text": True, "errors": "replace"}
@@ -104,6 +113,7 @@ def long_parts(processors, memory, anew):
         # (the gate waits for the chain of proofs, so that comes first where processors are few)
         turned = ["nice", "-n", "10", sys.executable, "tools/gate/wrong_bodies.py", "--built", built]
         bodies = subprocess.Popen(turned, stdout=told, **how)
+        let_others_first(bodies.pid)
         lanes = {"RT_JOBS": str(side_by_side(processors, memory))} | os.environ
         proofs = subprocess.Popen(["rt", "ci", *["--anew"] * anew], env=lanes, stdout=subprocess.PIPE, **how)
         try:
