@@ -167,9 +167,9 @@ pub messages_spell_clients : MessagesSpellClients
 unfolding Responds Verifies AnswersByMessage
 messages_spell_clients login (FirstCall nonce message) before after ((side, is, said), begins) =
     (with_state side ClientInitial, moved_login login side ClientInitial is, refl)
-messages_spell_clients login (FinalCall text message) before after (next, (side, is, answered), shows) =
+messages_spell_clients login (FinalCall text message) before after (next, (side, is, answered), shows, writes) =
     (with_state side ClientInitial, moved_login login side ClientInitial is.0, refl)
-messages_spell_clients login (VerifyCall text) before after (side, next, is, verified) =
+messages_spell_clients login (VerifyCall text) before after (side, next, is, verified, shows, same) =
     (with_state side ClientInitial, moved_login login side ClientInitial is.0, refl)
 
 -- ---- the numbers
