@@ -9,7 +9,7 @@
 #   make depths    measures the stack of each export, and writes bindings/wiping/depths.h
 #   make rust      tests the crate of bindings/rust, which needs cargo and no other crate, and checks its docs; with rustfmt
 #                  and clippy, where cargo has them, also its format and lints
-#   make python    tries the module of bindings/python over the shared library
+#   make python    tries the package of bindings/python over the shared library
 #   make install   PREFIX, LIBDIR, INCLUDEDIR, DOCDIR and DESTDIR as usual. DOCDIR also gets pages, examples, and NOTICES,
 #                  the notices of the kit's code that the library contains, which need the kit
 #   make dist      what `install` installs, into build/fe2o3_sasl-VERSION-CPU.tar.gz, whose bytes depend only on the files

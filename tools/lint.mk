@@ -16,10 +16,10 @@ WRITTEN_C = bindings/c/fe2o3_sasl.h bindings/wiping/depths.h bindings/wiping/exp
 C_FILES = $(filter-out $(WRITTEN_C),$(shell git ls-files '*.c' '*.h'))
 SHELL_FILES = $(shell git grep -lE -e '^$(hash)!/(usr/)?bin/(env )?(ba|da)?sh' -- ':!docs' ':!*.mk')
 # What callers of Python import is typed in full. The tests and the peers of interop/ pass wrong types on purpose.
-STRICT_FILES = bindings/python/fe2o3_sasl.py bindings/python/fe2o3_sasl_asyncio.py $(wildcard bindings/python/examples/*.py)
+STRICT_FILES = $(wildcard bindings/python/fe2o3_sasl/*.py bindings/python/examples/*.py)
 TYPED_FILES = $(shell git ls-files 'tools/*.py' 'bench/*.py' 'bindings/packages/*.py')
 hash := \#
-# (of one file; bindings/callers.mk runs those of the module, which need the library)
+# (of one file; bindings/callers.mk runs those of bindings/python, which need the library)
 PYTHON_TEST = $(if $(shell command -v pytest),pytest -q -p no:cacheprovider,python3 -B)
 
 RUN_black = black --quiet --check $(PYTHON_FILES)

@@ -217,7 +217,7 @@ c_installed() {
 in_python() {
     python3 -m venv venv >&2
     venv/bin/pip --disable-pip-version-check install --no-index "$WHEEL" >&2
-    venv/bin/python -c 'import fe2o3_sasl, sys; sys.exit(not fe2o3_sasl._library._name.startswith(sys.prefix))'
+    venv/bin/python -c 'import fe2o3_sasl.asyncio, fe2o3_sasl._native as native, sys; sys.exit(not native._library._name.startswith(sys.prefix))'
     # (the examples are where the wheel puts them)
     (cd venv/share/doc/fe2o3_sasl/examples && ../../../../bin/python -B -c 'import broker, channel, client, login')
     venv/bin/python first_login/login.py

@@ -1,13 +1,13 @@
 #!/usr/bin/env python3
-"""Makes a Python wheel of the module and the shared library.
+"""Makes a Python wheel of the package and the shared library.
 
     wheel.py LIBRARY SONAME CPU NOTICES FOLDER  writes FOLDER/fe2o3_sasl-VERSION-TAG.whl, and prints its path
 
-The wheel has the package `fe2o3_sasl`: the text of bindings/python/fe2o3_sasl.py, which loads the library beside it in
-place of the system's, and LIBRARY under the name SONAME. Beside it is the module `fe2o3_sasl_asyncio`. The file NOTICES
-goes beside the licences. Pages and examples go to share/doc/fe2o3_sasl of the environment. The tag names the newest version
+The wheel has the package bindings/python/fe2o3_sasl, and in its folder LIBRARY under the name SONAME, which the package
+loads in place of the system's. The file NOTICES goes beside the licences. Pages and examples go to share/doc/fe2o3_sasl of the environment. The tag names the newest version
 of glibc that a symbol of the library needs. Times and the order of the files are fixed.
 """
+import ast
 import base64
 import hashlib
 import re
@@ -18,7 +18,7 @@ import zipfile
 from pathlib import Path
 
 ROOT = Path(__file__).resolve().parents[2]
-MODULE = ROOT / "bindings" / "python" / "fe2o3_sasl.py"
+PACKAGE = ROOT / "bindings" / "python" / "fe2o3_sasl"
 
 METADATA = """\
 Metadata-Version: 2.1
@@ -36,7 +36,7 @@ Requires-Python: >=3.9
 Description-Content-Type: text/plain
 
 The processor has to support {cpu}. `import fe2o3_sasl` loads the library of this package, or the one that the
-environment variable FE2O3_SASL_LIB names. The module is not proved: it calls the proved library by ctypes.
+environment variable FE2O3_SASL_LIB names. The package is not proved: it calls the proved library by ctypes.
 
 {doc}
 """
@@ -49,22 +49,10 @@ Tag: {tag}
 """
 
 
-def replaced(text, pattern, by):
-    """The text with the one place of the pattern replaced. Stops if there is not exactly one."""
-    places = re.findall(pattern, text)
-    if len(places) != 1:
-        sys.exit(f"wheel.py: {MODULE.name} has {len(places)} places of {pattern}, and needs one")
-    return re.sub(pattern, lambda _: by, text)
-
-
-def module_of(soname):
-    """The module's text, which loads the library beside it."""
-    text = MODULE.read_text(encoding="utf-8")
-    text = replaced(
-        text, r"otherwise the system's\s+`libfe2o3_sasl\.so\.\d+`", f"otherwise `{soname}`\nbeside this file"
-    )
-    beside = f'or os.path.join(os.path.dirname(os.path.abspath(__file__)), "{soname}")'
-    return replaced(text, r'(?<=os\.environ\.get\("FE2O3_SASL_LIB"\) )or "libfe2o3_sasl\.so\.\d+"', beside)
+def modules():
+    """The files of the package by their places in the wheel."""
+    files = sorted([*PACKAGE.glob("*.py"), PACKAGE / "py.typed"])
+    return {f"{PACKAGE.name}/{file.name}": file.read_bytes() for file in files}
 
 
 def glibc_of(library):
@@ -102,14 +90,13 @@ def main():
     library, soname, cpu, notices, folder = sys.argv[1:]
     major, minor = glibc_of(library)[:2]
     number, tag = version(), f"py3-none-manylinux_{major}_{minor}_x86_64"
-    module = module_of(soname)
-    doc = re.match(r'"""(.*?)"""', module, re.DOTALL)[1].replace("\\\\", "\\").strip()
+    if f'_FILE = "{soname}"' not in (PACKAGE / "_native.py").read_text(encoding="utf-8"):
+        sys.exit(f"wheel.py: _native.py does not load {soname}")
+    doc = ast.get_docstring(ast.parse((PACKAGE / "__init__.py").read_text(encoding="utf-8")))
     info = f"fe2o3_sasl-{number}.dist-info"
     files = {
-        "fe2o3_sasl/__init__.py": module.encode(),
-        f"fe2o3_sasl/{soname}": Path(library).read_bytes(),
-        "fe2o3_sasl/py.typed": b"",
-        "fe2o3_sasl_asyncio.py": MODULE.with_name("fe2o3_sasl_asyncio.py").read_bytes(),
+        **modules(),
+        f"{PACKAGE.name}/{soname}": Path(library).read_bytes(),
         **documents(f"fe2o3_sasl-{number}.data/data/share/doc/fe2o3_sasl"),
         f"{info}/LICENSE-APACHE": (ROOT / "LICENSE-APACHE").read_bytes(),
         f"{info}/LICENSE-MIT": (ROOT / "LICENSE-MIT").read_bytes(),

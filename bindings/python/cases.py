@@ -8,6 +8,7 @@ from typing import Any, Callable
 from unittest import mock
 
 import fe2o3_sasl
+from fe2o3_sasl import _native, _structs
 from fe2o3_sasl import (
     SHA_1,
     SHA_256,
@@ -26,7 +27,9 @@ from fe2o3_sasl import (
 )
 from peers import OUTCOME, Broker, fields_of, fields_of_last, mechanisms_frame
 
-LIBRARY: Any = fe2o3_sasl._library
+# (test_steps.py names the structs by the package)
+vars(fe2o3_sasl).update({name: one for name, one in vars(_structs).items() if name.endswith("Struct")})
+LIBRARY: Any = _native._library
 SALT = bytes(range(16))
 NAMES = ["user", "", "a=b,c", "=2C", "J\u00fcrgen \U0001f600", "x" * 240]
 # The names of RFC 5802, section 7, in its order.

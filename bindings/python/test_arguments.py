@@ -2,6 +2,7 @@
 
 from __future__ import annotations
 
+import copy
 import ctypes
 import os
 import re
@@ -13,12 +14,15 @@ from typing import Any, Callable, Optional
 from unittest import mock
 
 import fe2o3_sasl
+from fe2o3_sasl import _exports, _native, _structs
 from cases import LIBRARY, SALT, Case, login, of
 from examples.login import log_in, serve
 from fe2o3_sasl import (
     SHA_1,
     SHA_256,
     SHA_512,
+    Channel,
+    ChannelKind,
     Client,
     ClientConnection,
     ClientSteps,
@@ -28,8 +32,10 @@ from fe2o3_sasl import (
     RecordStore,
     Refused,
     Server,
+    ServerConnection,
     ServerSteps,
     Status,
+    Wiped,
 )
 from peers import Secret, base64_of
 
@@ -54,12 +60,12 @@ class Arguments(Case):
             with self.assertRaises(ValueError):
                 Client(SHA_1, "a", "a", max_iterations=number)
             with self.assertRaises(ValueError):
-                Record.mock(SHA_1, bytes(32), "a", salt_length=number)
+                Record.mock(SHA_1, bytes(32), "a", salt_len=number)
             with self.assertRaises(ValueError):
                 Record.from_fields(SHA_1, SALT, number, bytes(20), bytes(20))
         for number in (-1, 129, 2**32):
             with self.assertRaises(ValueError):
-                Record.make(SHA_1, "a", salt_length=number)
+                Record.make(SHA_1, "a", salt_len=number)
         for unfit in (None, 5, 5.0, object()):
             for call in (
                 record.verify,
@@ -91,10 +97,15 @@ class Arguments(Case):
 
     def test_logins_that_are_none(self) -> None:
         keys = Keys.make(SHA_1, "pencil", SALT, 4096)
-        self.refused(Status.NO_SUCH_VERSION, Client(2, "user", "pencil").first)
-        self.refused(Status.NOT_UTF8, Client(SHA_1, b"\xff", "pencil").first)
-        self.refused(Status.OTHER_VERSION, Client(SHA_256, "user", keys=keys).first)
-        self.refused(Status.NO_KEYS, Client(SHA_1, "user", keys=Keys._of(fe2o3_sasl._ScramKeysStruct())).first)
+        self.refused(Status.NO_SUCH_VERSION, Client, 2, "user", "pencil")
+        self.refused(Status.NOT_UTF8, Client, SHA_1, b"\xff", "pencil")
+        for password in (None, "pencil"):
+            self.refused(Status.OTHER_VERSION, Client, SHA_256, "user", password, keys)
+        client = Client(SHA_1, "user", keys=keys)
+        client._login.version = SHA_256
+        self.refused(Status.OTHER_VERSION, client.first)
+        client._login.keys.contents.version = 0
+        self.refused(Status.NO_KEYS, client.first)
         client = Client(SHA_1, "user", "\u00e9")
         server_first = Server().first(Record.make(SHA_1, "pencil"), client.first())
         self.refused(Status.CLIENT_NORMALIZE_ERROR, client.final, server_first)
@@ -116,13 +127,71 @@ class Arguments(Case):
         shown += "".join(map(str, (client, server, record, keys)))
         for status in range(100):
             try:
-                fe2o3_sasl._done(status)
+                _native._done(status)
             except Refused as refused:
                 shown += repr(refused) + str(refused)
         for part in (secret.client_key, secret.server_key, secret.stored_key):
             for text in (repr(part), part.hex(), base64_of(part).decode()):
                 self.assertNotIn(text[4:20], shown)
         self.assertNotIn(password, shown)
+
+    def test_arguments_are_tested_when_they_are_passed(self) -> None:
+        record, keys = Record.make(SHA_256, "pencil", salt=SALT), Keys.make(SHA_256, "pencil", SALT, 4096)
+        channel = Channel(ChannelKind.TLS_EXPORTER, bytes(32))
+        select, server = ClientConnection.select, ServerConnection
+        unfit: list[tuple[type[Exception], Callable[[], object]]] = [
+            (ValueError, lambda: Client(255, "user", "pencil")),
+            (ValueError, lambda: Client(SHA_256, "user", "pencil", min_iterations=2, max_iterations=1)),
+            (ValueError, lambda: Client(SHA_256, "user", "pencil", min_iterations=-1)),
+            (ValueError, lambda: Client(SHA_256, "user", "pencil", max_iterations=1 << 32)),
+            (ValueError, lambda: Client(SHA_512, "user", keys=keys)),
+            (TypeError, lambda: Client(SHA_256, "user", keys=record)),  # type: ignore[arg-type]
+            (TypeError, lambda: Client(SHA_256, "user", "pencil", channel=b"data")),  # type: ignore[arg-type]
+            (TypeError, lambda: Client("256", "user", "pencil")),  # type: ignore[arg-type]
+            (TypeError, lambda: Client(SHA_256, 5, "pencil")),  # type: ignore[arg-type]
+            (TypeError, lambda: ClientConnection("user")),  # type: ignore[arg-type]
+            (ValueError, lambda: select("user", "pencil", ["SCRAM-SHA-256-PLUS"], channel=channel)),
+            (ValueError, lambda: select("user", "pencil", [])),
+            (ValueError, lambda: select("user", "pencil", min_iterations=2, max_iterations=1)),
+            (ValueError, lambda: select("user", "pencil", must_bind=True)),
+            (TypeError, lambda: select("user", "pencil", channel=32)),  # type: ignore[arg-type]
+            (ValueError, lambda: server(lambda name: [], mechanisms=0)),
+            (ValueError, lambda: server(lambda name: [], mechanisms=Offer.STRICT)),
+            (ValueError, lambda: server(lambda name: [], iterations=0)),
+            (TypeError, lambda: server([record])),  # type: ignore[arg-type]
+            (TypeError, lambda: server(lambda name: [], identities_of=["bob"])),  # type: ignore[arg-type]
+            (TypeError, lambda: server(lambda name: [], mechanisms="PLAIN")),  # type: ignore[arg-type]
+            (ValueError, lambda: Record.make(255, "pencil")),
+            (ValueError, lambda: Record.mock(255, bytes(32), "user")),
+            (ValueError, lambda: RecordStore(record.line("user")).record("user", 255)),
+            (ValueError, lambda: Keys(SHA_256, 0, SALT, bytes(32), bytes(32))),
+            (ValueError, lambda: Channel(ChannelKind.TLS_EXPORTER, b"")),
+        ]
+        for at, (kind, call) in enumerate(unfit):
+            with self.subTest(at=at), self.assertRaises(kind):
+                call()
+        Client(SHA_256, "user", "pencil", min_iterations=1, max_iterations=1)
+
+    def test_equal_values(self) -> None:
+        def record(version: int = SHA_256, password: str = "pencil", salt: bytes = SALT, count: int = 4096) -> Record:
+            return Record.make(version, password, salt=salt, iterations=count)
+
+        one, keys = record(), Keys.make(SHA_256, "pencil", SALT, 4096)
+        for same in (record(), Record.parse(one.text()), copy.copy(one)):
+            self.assertEqual(one, same)
+            self.assertEqual(hash(one), hash(same))
+        others = record(SHA_1), record(password="pencils"), record(salt=SALT[:-1]), record(count=4097)
+        for other in (*others, keys, one.text(), None):
+            self.assertNotEqual(one, other)
+        self.assertEqual(len({one, record(), *others}), 5)
+        self.assertEqual(keys, Keys(SHA_256, 4096, SALT, keys.client_key, keys.server_key))
+        self.assertNotEqual(keys, Keys(SHA_256, 4096, SALT, keys.client_key, bytes(32)))
+        kind = ChannelKind.TLS_EXPORTER
+        self.assertEqual(len({Channel(kind, b"a"), Channel(kind, b"a"), Channel(kind, b"b")}), 2)
+        wiped = record()
+        wiped.wipe()
+        for call in (lambda: wiped == one, lambda: one == wiped, lambda: hash(wiped)):
+            self.assertRaises(Wiped, call)
 
 
 class Refusals(Case):
@@ -178,7 +247,7 @@ class Refusals(Case):
 
     def test_a_room_that_is_too_small(self) -> None:
         client, record = Client(SHA_512, "user", "pencil"), Record.make(SHA_512, "pencil")
-        given, server = (client._login, client._struct), fe2o3_sasl._ScramServerStruct()
+        given, server = (client._login, client._struct), _structs._ScramServerStruct()
 
         def rooms(suffices: Optional[int], struct: ctypes.Structure, call: Callable[..., int]) -> bytes:
             length = ctypes.c_size_t()
@@ -269,25 +338,25 @@ class Declarations(Case):
 
     def test_exports_are_those_of_the_header(self) -> None:
         declared = set(re.findall(r"\b(fe2o3_\w+)\(\n?", HEADER.read_text(encoding="utf-8")))
-        written = set(re.findall(r'"(fe2o3_\w+)": \(', Path(fe2o3_sasl.__file__).read_text(encoding="utf-8")))
+        written = set(re.findall(r'"(fe2o3_\w+)": \(', Path(_exports.__file__).read_text(encoding="utf-8")))
         self.assertEqual(written, declared)
 
     def test_texts_of_statuses(self) -> None:
-        texts = {fe2o3_sasl._status_text(status) for status in Status}
+        texts = {_native._status_text(status) for status in Status}
         self.assertNotIn("", texts)
-        self.assertEqual(fe2o3_sasl._status_text(4_000_000_000), "Unknown status")
+        self.assertEqual(_native._status_text(4_000_000_000), "Unknown status")
 
     def test_a_library_that_does_not_fit(self) -> None:
-        fits = {which: ctypes.sizeof(struct) for which, struct in enumerate(fe2o3_sasl._SIZED)}
+        fits = {which: ctypes.sizeof(struct) for which, struct in enumerate(_structs._SIZED)}
         for which in fits:
             other = mock.MagicMock()
             other.fe2o3_size.side_effect = lambda asked: fits[asked] + (asked == which)
             with mock.patch("ctypes.CDLL", return_value=other), self.assertRaises(OSError):
-                fe2o3_sasl._load("other")
+                _native._load("other")
         with self.assertRaises(OSError):
-            fe2o3_sasl._load("libc.so.6")
+            _native._load("libc.so.6")
         with self.assertRaises(OSError):
-            fe2o3_sasl._load("there is none")
+            _native._load("there is none")
 
     def test_version(self) -> None:
         self.assertEqual(len(fe2o3_sasl.library_version()), 3)

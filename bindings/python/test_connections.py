@@ -9,7 +9,7 @@ import struct
 import unittest
 from typing import Any, Optional
 
-import fe2o3_sasl
+from fe2o3_sasl import _structs
 from cases import LIBRARY, NAMES, OFFERS, PASSWORDS, SALT, Case, connected, nobody, of, served
 from fe2o3_sasl import (
     SHA_1,
@@ -179,8 +179,12 @@ class Connections(Case):
         ):
             with self.subTest(name=name, password=password):
                 offer = SASL_HEADER + mechanisms_frame("PLAIN")
-                self.refused(status, ClientConnection.plain(name, password, strict=True).receive, offer)
-                self.refused(status, ClientSteps.plain(name, password, strict=True).on_frame, offer[12:])
+                for kind in (ClientConnection, ClientSteps):
+                    self.refused(status, lambda: kind.plain(name, password, strict=True))
+                    self.refused(status, lambda: kind.select(name, password, ["PLAIN"], strict=True))
+                strict = ClientConnection.plain(name, password)
+                strict._login[0].login.strict = 1
+                self.refused(status, strict.receive, offer)
                 sent, _ = ClientConnection.plain(name, password).receive(offer)
                 self.assertEqual(fields_of(sent), (INIT, [b"PLAIN", f"\0{name}\0{password}".encode()]))
 
@@ -202,9 +206,8 @@ class Connections(Case):
         self.closed(one, Status.REPLY_TOO_LARGE)
 
     def test_logins_that_are_none(self) -> None:
-        self.refused(Status.NOT_UTF8, ClientConnection.anonymous(hostname=b"\xff").receive, b"A")
+        self.refused(Status.NOT_UTF8, lambda: ClientConnection.anonymous(hostname=b"\xff"))
         self.refused(Status.NOT_UTF8, ClientConnection.plain("a", b"\xff").receive, b"A")
-        self.refused(Status.NO_SUCH_VERSION, ClientConnection(Client(2, "a", "b")).receive, b"A")
         one = ClientConnection.anonymous()
         one._login[0].mechanism = 6
         self.refused(Status.NO_SUCH_MECHANISM, one.receive, b"A")
@@ -256,13 +259,13 @@ class Connections(Case):
             by.begin(ask=True)
             served(side, by, 5)
             self.assertEqual(side.progress, Progress.FAILED)
-        self.refused(Status.NO_SUCH_MECHANISM, server(0).receive, b"A")
-        self.refused(Status.NO_SUCH_MECHANISM, server(64).receive, b"A")
-        self.refused(Status.NO_SUCH_MECHANISM, server(128).receive, b"A")
         both_forms = Offer.PLAIN | Offer.PLAIN_PREPARED | Offer.PLAIN_SASLPREP
-        for mechanisms in (512, 1024, 4096, both_forms, Offer.PLAIN | 8192):
-            self.refused(Status.NO_SUCH_MECHANISM, server(mechanisms).receive, b"A")
-        self.refused(Status.NOT_UTF8, ServerConnection(nobody, external_authcid=b"\xff").receive, b"A")
+        for mechanisms in (0, 64, 128, 512, 1024, 4096, both_forms, Offer.PLAIN | 8192):
+            self.refused(Status.NO_SUCH_MECHANISM, server, mechanisms)
+            side = server(Offer.PLAIN)
+            side._mechanisms = int(mechanisms)
+            self.refused(Status.NO_SUCH_MECHANISM, side.receive, b"A")
+        self.refused(Status.NOT_UTF8, lambda: ServerConnection(nobody, external_authcid=b"\xff"))
 
     def rejected(self, side: ServerConnection, status: int) -> None:
         self.assertEqual(side.progress, Progress.FAILED)
@@ -378,10 +381,10 @@ class Connections(Case):
     def test_structs_of_random_bytes(self) -> None:
         """Of whatever bits the structs are, a call is done or refused, and refused it has changed nothing."""
         bits, seen = random.Random(20261125), set()
-        keys = fe2o3_sasl._ScramKeysStruct()
+        keys = _structs._ScramKeysStruct()
         for number in range(100_000):
-            size = ctypes.sizeof(fe2o3_sasl._SaslClientStruct)
-            struct_of = fe2o3_sasl._SaslClientStruct.from_buffer_copy
+            size = ctypes.sizeof(_structs._SaslClientStruct)
+            struct_of = _structs._SaslClientStruct.from_buffer_copy
             client = struct_of(bits.getrandbits(8 * size).to_bytes(size, "little"))
             kept = client.connection
             if bits.random() < 0.9:
@@ -391,10 +394,10 @@ class Connections(Case):
                 kept.held[:4] = list(bits.choice((12, 300, 513)).to_bytes(4, "big"))
                 client.scram.state = bits.randrange(5)
                 client.scram.signature_len = bits.randrange(66)
-            login = fe2o3_sasl._SaslLoginStruct(
+            login = _structs._SaslLoginStruct(
                 mechanism=bits.choice((0, 0, 0, bits.randrange(7))),
                 hostname=b"",
-                login=fe2o3_sasl._LoginStruct(
+                login=_structs._LoginStruct(
                     version=256,
                     max_iterations=2,
                     username=b"u",

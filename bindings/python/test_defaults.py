@@ -14,14 +14,15 @@ from typing import Any, Callable, Iterator, Optional
 from unittest import mock
 
 import fe2o3_sasl
-from fe2o3_sasl import DEFAULT_ITERATIONS, DEFAULT_SALT_LENGTH, Channel, ChannelKind, Client, ClientConnection
+from fe2o3_sasl import _native
+from fe2o3_sasl import DEFAULT_ITERATIONS, DEFAULT_SALT_LEN, Channel, ChannelKind, Client, ClientConnection
 from fe2o3_sasl import ClientSteps, Offer, Progress, Record, RecordError, RecordStore, Refused, Rejection
 from fe2o3_sasl import ServerConnection, ServerSteps, Status, UnknownUser, Wiped
 from peers import INIT, MECHANISMS, OUTCOME, SASL_HEADER, SHA_1, SHA_256, SHA_512, Login, Other, Plain, Secret, Side
 from peers import base64_of, fields_of, frame_of, framed, mac, short
 
 README = Path(__file__).resolve().parents[2] / "README.md"
-LIBRARY: Any = fe2o3_sasl._library
+LIBRARY: Any = _native._library
 
 #: The secret of mock records.
 SECRET = bytes(range(32))
@@ -32,11 +33,11 @@ BOTH = Offer.SCRAM_SHA_512 | Offer.SCRAM_SHA_256
 
 
 def added(
-    name: str, password: str = "pencil", hashes: tuple[int, ...] = ADDED, salt_length: int = 16, iterations: int = 4096
+    name: str, password: str = "pencil", hashes: tuple[int, ...] = ADDED, salt_len: int = 16, iterations: int = 4096
 ) -> str:
     """The lines of a user, as `scram users add` writes them, with fresh salts."""
     escaped = name.replace("=", "=3D").replace(",", "=2C")
-    made = [Secret(hash, password, secrets.token_bytes(salt_length), iterations).record_text() for hash in hashes]
+    made = [Secret(hash, password, secrets.token_bytes(salt_len), iterations).record_text() for hash in hashes]
     return "".join(f"{escaped} {text}\n" for text in made)
 
 
@@ -147,8 +148,8 @@ class Printed(unittest.TestCase):
 
     def test_users_of_an_older_file(self) -> None:
         """Users with SHA-256 and salts of 32 bytes, as version 0.3.0 made them, and one with both hashes."""
-        older = "".join(added(name, hashes=(SHA_256,), salt_length=32) for name in ("user", "bob"))
-        store = RecordStore(older + added("carol", salt_length=32))
+        older = "".join(added(name, hashes=(SHA_256,), salt_len=32) for name in ("user", "bob"))
+        store = RecordStore(older + added("carol", salt_len=32))
         for name in ("user", "bob", "carol"):
             by = Login(SHA_256, name, "pencil")
             self.assertEqual(self.serve(store, self.asked(by))[1], (b"", name))
@@ -156,10 +157,10 @@ class Printed(unittest.TestCase):
 
     def test_names_are_not_shown(self) -> None:
         """A user with one record, one with all, and an unknown one get answers of the same kinds and lengths."""
-        for salt_length, iterations in ((16, 4096), (32, 4096), (16, 10000)):
+        for salt_len, iterations in ((16, 4096), (32, 4096), (16, 10000)):
 
             def of(name: str, *hashes: int) -> str:
-                return added(name, "pencil", hashes, salt_length, iterations)
+                return added(name, "pencil", hashes, salt_len, iterations)
 
             for lines in (
                 of("one", SHA_256) + of("all", *ADDED),
@@ -278,7 +279,7 @@ class MockRecords(unittest.TestCase):
         """Callers that return mock records get what they got before, with `mock` and without."""
 
         def records_of(name: str) -> list[Record]:
-            return self.store.records(name) or [Record.mock(hash, SECRET, name, salt_length=20) for hash in ADDED]
+            return self.store.records(name) or [Record.mock(hash, SECRET, name, salt_len=20) for hash in ADDED]
 
         for options in ({}, {"mock": bytes(32)}):
             for hash in ADDED:
@@ -313,7 +314,7 @@ class MockRecords(unittest.TestCase):
         self.assertEqual(challenge.split(b",")[1], b"s=" + base64_of(salt))
 
     def test_new_records(self) -> None:
-        self.assertEqual((DEFAULT_SALT_LENGTH, DEFAULT_ITERATIONS), (16, 4096))
+        self.assertEqual((DEFAULT_SALT_LEN, DEFAULT_ITERATIONS), (16, 4096))
         for record in (Record.make(SHA_256, "pencil"), Record.mock(SHA_256, SECRET, "user")):
             self.assertEqual((len(record.salt), record.iterations), (16, 4096))
 
@@ -452,18 +453,18 @@ class Stores(unittest.TestCase):
         self.assertEqual([record.line("user") for record in store.records("user")], [first, second])
 
     def test_forms(self) -> None:
-        lines = [added("a", salt_length=32), added("b", iterations=4097), added("c", salt_length=32, hashes=(SHA_1,))]
+        lines = [added("a", salt_len=32), added("b", iterations=4097), added("c", salt_len=32, hashes=(SHA_1,))]
         store = RecordStore("".join(lines))
         self.assertEqual(store.forms(), [(32, 4096), (16, 4097)])
         self.assertEqual(store.mock_settings(SECRET), (SECRET, 32, 4096))
         self.assertEqual(RecordStore("").forms(), [])
-        self.assertEqual(RecordStore("").mock_settings(SECRET), (SECRET, DEFAULT_SALT_LENGTH, DEFAULT_ITERATIONS))
+        self.assertEqual(RecordStore("").mock_settings(SECRET), (SECRET, DEFAULT_SALT_LEN, DEFAULT_ITERATIONS))
 
     def test_mock_records(self) -> None:
-        store = RecordStore(added("user", hashes=(SHA_256,), salt_length=20, iterations=5))
+        store = RecordStore(added("user", hashes=(SHA_256,), salt_len=20, iterations=5))
         for name, hash in (("user", SHA_512), ("nobody", SHA_256)):
             self.assertRaises(UnknownUser, store.record, name, hash)
-            mocked = Record.mock(hash, SECRET, name, salt_length=20, iterations=5)
+            mocked = Record.mock(hash, SECRET, name, salt_len=20, iterations=5)
             self.assertEqual(store.record(name, hash, SECRET).text(), mocked.text())
         self.assertTrue(store.record("user", SHA_256, SECRET).verify("pencil"))
 

@@ -10,6 +10,7 @@ import types
 import unittest
 
 import fe2o3_sasl
+from fe2o3_sasl import _errors, _native
 from fe2o3_sasl import (
     SHA_256,
     AuthenticationFailed,
@@ -86,22 +87,22 @@ class Classes(unittest.TestCase):
             kinds = [kind for kind, numbers in EXPECTED.items() if status in numbers]
             if status == Status.OK:
                 self.assertEqual(kinds, [])
-                fe2o3_sasl._done(status)
+                _native._done(status)
                 continue
             self.assertEqual(len(kinds), 1, status)
             with self.subTest(status=status), self.assertRaises(Refused) as caught:
-                fe2o3_sasl._done(status)
+                _native._done(status)
             self.assertIs(type(caught.exception), kinds[0])
             self.assertEqual(caught.exception.status, status)
-            self.assertEqual(caught.exception.text, fe2o3_sasl._status_text(status))
+            self.assertEqual(caught.exception.text, _native._status_text(status))
             self.assertIn(f"({status.value})", str(caught.exception))
-        rows = [status for row in fe2o3_sasl._STATUSES.values() for status in row]
+        rows = [status for row in _errors._STATUSES.values() for status in row]
         self.assertEqual(sorted(rows), sorted(set(Status) - {Status.OK}))
 
     def test_a_status_of_a_later_library(self) -> None:
         for status in (100, 4_000_000_000):
             with self.assertRaises(Refused) as caught:
-                fe2o3_sasl._done(status)
+                _native._done(status)
             self.assertIs(type(caught.exception), Refused)
             self.assertEqual(caught.exception.status, status)
 
@@ -113,7 +114,7 @@ class Classes(unittest.TestCase):
 
     def test_copies(self) -> None:
         for status in [*Status][1:]:
-            one = fe2o3_sasl._refusal(status)
+            one = _native._refusal(status)
             for other in (pickle.loads(pickle.dumps(one)), copy.copy(one)):
                 self.assertEqual((type(other), vars(other), str(other)), (type(one), vars(one), str(one)))
 
@@ -142,8 +143,7 @@ class Names(unittest.TestCase):
             if not name.startswith("_") and not isinstance(value, types.ModuleType)
             if getattr(value, "__module__", "fe2o3_sasl") in ("fe2o3_sasl", "typing")
         }
-        imported = {"annotations", "TYPE_CHECKING", "Any", "Callable", "Iterable", "Iterator", "NamedTuple", "Optional"}
-        self.assertEqual(names - imported - {"TypeVar", "Union"}, set(fe2o3_sasl.__all__))
+        self.assertEqual((names - {"annotations"}) | {"__version__"}, set(fe2o3_sasl.__all__))
         self.assertEqual(len(fe2o3_sasl.__all__), len(set(fe2o3_sasl.__all__)))
 
     def test_each_public_name_has_a_docstring(self) -> None:
@@ -179,7 +179,7 @@ class Raised(unittest.TestCase):
         self.assertRaises(ProtocolError, server.first, self.record, b"n,,n=user,r=" + b"x" * 1100)
         self.assertRaises(InvalidState, Client(SHA_256, "user", "pencil").keys)
         self.assertRaises(PreparationError, fe2o3_sasl.saslprep, "\0")
-        self.assertRaises(ValueError, Client(5, "user", "pencil").first)
+        self.assertRaises(ValueError, Client, 5, "user", "pencil")
 
     def test_keys(self) -> None:
         client = Client(SHA_256, "user", keys=Keys.make(SHA_256, "pencil", b"another", 4096))

@@ -23,7 +23,7 @@ from fe2o3_sasl import (
     ServerSteps,
     Status,
 )
-from peers import SASL_HEADER, VERSIONS, Secret, bare_of, mechanisms_frame
+from peers import VERSIONS, Secret, bare_of
 
 
 @unittest.skipUnless(shutil.which("openssl"), "it makes the certificates")
@@ -108,7 +108,11 @@ class Identities(Case):
             (b"\xff", Status.NOT_UTF8),
         ):
             with self.subTest(identity=identity):
-                self.refused(status, Client(SHA_256, "user", "pencil", acts_for=identity).first)
+                self.refused(status, lambda: Client(SHA_256, "user", "pencil", acts_for=identity))
+                for mechanism in ("SCRAM-SHA-256", "PLAIN", "EXTERNAL"):
+                    self.refused(
+                        status, lambda: ClientConnection.select("user", "pencil", [mechanism], acts_for=identity)
+                    )
 
     def test_a_client_that_names_an_identity_is_strict(self) -> None:
         record = Record.make(SHA_256, "pencil", salt=SALT)
@@ -200,8 +204,7 @@ class Identities(Case):
             (("user", "pencil", "bo\0b"), Status.PROHIBITED_CHARACTER),
             (("user", "pencil", "x" * 257), Status.TOO_LONG),
         ):
-            client = plain(*words[:2], acts_for=words[2])
-            self.refused(status, client.receive, SASL_HEADER + mechanisms_frame("PLAIN"))
+            self.refused(status, lambda: plain(*words[:2], acts_for=words[2]))
 
 
 if __name__ == "__main__":

@@ -12,6 +12,7 @@ import unittest
 from typing import Any
 
 import fe2o3_sasl
+from fe2o3_sasl import _native
 from cases import (
     EXTENSIONS,
     LIBRARY,
@@ -137,7 +138,7 @@ class Logins(Case):
                 client = Client(version, "u", "pencils")
                 self.refused(Status.SERVER_AUTHENTICATION_FAILED, login, client, server, record)
                 self.refused(Status.SERVER_ILLEGAL_AUTHENTICATOR_STATE, server.authenticated_user)
-                nobody = Record.mock(version, secret, "u", salt_length=20, iterations=5000)
+                nobody = Record.mock(version, secret, "u", salt_len=20, iterations=5000)
                 label = f"Salt:{MECHANISMS[version]}:u".encode()
                 salt = hmac.new(secret, label, "sha512").digest()[:20]
                 stored, server_key = mac(version, secret, b"StoredKey:u"), mac(version, secret, b"ServerKey:u")
@@ -148,7 +149,7 @@ class Logins(Case):
                 )
                 self.refused(Status.SERVER_AUTHENTICATION_FAILED, login, Client(version, "u", "pencil"), server, nobody)
                 self.assertFalse(nobody.verify("pencil"))
-        self.refused(Status.TOO_LONG, lambda: Record.mock(SHA_256, secret, "u", salt_length=65))
+        self.refused(Status.TOO_LONG, lambda: Record.mock(SHA_256, secret, "u", salt_len=65))
         with self.assertRaises(ValueError):
             Record.mock(SHA_256, secret[:31], "u")
 
@@ -180,7 +181,7 @@ class Logins(Case):
             self.assertEqual(server_error(b"e=" + name.encode()), name)
         for message in (b"", b"e", b"v=", b"x=y,e=invalid-proof", b"E=invalid-proof", b"e=\xff"):
             self.assertIsNone(server_error(message), message)
-        self.assertEqual(fe2o3_sasl._lent(LIBRARY.fe2o3_scram_server_error_text, 12), "No server error")
+        self.assertEqual(_native._lent(LIBRARY.fe2o3_scram_server_error_text, 12), "No server error")
         # A wrong proof and an unknown user have one message.
         for status, message in {
             Status.SERVER_AUTHENTICATION_FAILED: b"e=invalid-proof",

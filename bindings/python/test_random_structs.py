@@ -9,7 +9,7 @@ import random
 import unittest
 from typing import Any, Optional
 
-import fe2o3_sasl
+from fe2o3_sasl import _structs
 from cases import KIND_NAMES, LIBRARY, Case
 from fe2o3_sasl import ChannelKind, Status
 from peers import VERSIONS, Secret, bare_of, base64_of, exclusive_or, mac
@@ -56,7 +56,7 @@ class RandomStructs(Case):
         return out.raw[: length.value]
 
     def keys(self) -> Any:
-        keys = self.filled(fe2o3_sasl._ScramKeysStruct)
+        keys = self.filled(_structs._ScramKeysStruct)
         if self.chance():
             keys.version = self.random.choice(list(VERSIONS))
         if self.chance():
@@ -66,7 +66,7 @@ class RandomStructs(Case):
     def test_clients(self) -> None:
         finals = bound = 0
         for _ in range(self.COUNT):
-            client, keys, handed = self.filled(fe2o3_sasl._ScramClientStruct), self.keys(), self.keys()
+            client, keys, handed = self.filled(_structs._ScramClientStruct), self.keys(), self.keys()
             if self.chance():
                 client.state = self.random.randrange(5)
             if self.chance():
@@ -74,7 +74,7 @@ class RandomStructs(Case):
             if self.chance():
                 client.keys = self.keys()
             version = self.random.choice([*VERSIONS, 0, 2]) if self.chance() else keys.version
-            who = fe2o3_sasl._LoginStruct(
+            who = _structs._LoginStruct(
                 version=version,
                 secret=self.random.randrange(4),
                 form=self.random.randrange(3),
@@ -103,9 +103,9 @@ class RandomStructs(Case):
             signature = bytes(client.signature)[: client.signature_len]
             given = who, client
             self.ask("fe2o3_scram_client_get_keys", (client, handed), client, handed)
-            started = fe2o3_sasl._ScramClientStruct.from_buffer_copy(client)
+            started = _structs._ScramClientStruct.from_buffer_copy(client)
             self.ask("fe2o3_scram_client_first", (started,), who, started, nonce, room=self.random.randrange(120))
-            believing = fe2o3_sasl._ScramClientStruct.from_buffer_copy(client)
+            believing = _structs._ScramClientStruct.from_buffer_copy(client)
             server_final = b"v=" + base64_of(signature)
             sent = client.state
             believed = self.ask(
@@ -114,9 +114,9 @@ class RandomStructs(Case):
             if believed is not None:
                 self.assertEqual((sent, believing.state), (2, 3))
             for message in (self.marred(server_first), os.urandom(self.random.randrange(40))):
-                other = fe2o3_sasl._ScramClientStruct.from_buffer_copy(client)
+                other = _structs._ScramClientStruct.from_buffer_copy(client)
                 self.ask("fe2o3_scram_client_final", (other,), who, other, message, len(message), room=1024)
-                other = fe2o3_sasl._ScramClientStruct.from_buffer_copy(client)
+                other = _structs._ScramClientStruct.from_buffer_copy(client)
                 self.ask("fe2o3_scram_client_verify", (other,), who, other, message, len(message))
             final = self.ask("fe2o3_scram_client_final", (client,), *given, server_first, len(server_first), room=1024)
             if final is not None:
@@ -142,7 +142,7 @@ class RandomStructs(Case):
 
     def test_servers(self) -> None:
         for _ in range(self.COUNT):
-            server, record = self.filled(fe2o3_sasl._ScramServerStruct), self.filled(fe2o3_sasl._ScramRecordStruct)
+            server, record = self.filled(_structs._ScramServerStruct), self.filled(_structs._ScramRecordStruct)
             if self.chance():
                 server.state = self.random.randrange(7)
             # (3 is an open challenge to a client whose GS2 header is `y,,`)
@@ -181,7 +181,7 @@ class RandomStructs(Case):
             stands = server.state
             self.ask("fe2o3_scram_server_authenticated_user", (server,), server, room=self.random.choice((0, 256)))
             self.ask("fe2o3_scram_record_text", (record,), record, room=self.random.choice((200, 384)))
-            again = fe2o3_sasl._ScramServerStruct.from_buffer_copy(server)
+            again = _structs._ScramServerStruct.from_buffer_copy(server)
             first = self.random.choice((b"n,,", b"y,,")) + b"n=user,r=" + base64_of(os.urandom(32))
             for export in ("fe2o3_scram_server_first", "fe2o3_scram_server_first_with_cbind_flag_y"):
                 self.ask(
@@ -196,7 +196,7 @@ class RandomStructs(Case):
                 )
             for message in (self.marred(client_final), self.marred(first), os.urandom(self.random.randrange(40))):
                 for export in ("fe2o3_scram_server_first", "fe2o3_scram_server_final"):
-                    other = fe2o3_sasl._ScramServerStruct.from_buffer_copy(server)
+                    other = _structs._ScramServerStruct.from_buffer_copy(server)
                     nonce_too = [os.urandom(32)] if export == "fe2o3_scram_server_first" else []
                     self.ask(export, (other, record), record, other, *nonce_too, message, len(message), room=1024)
             final = self.ask(
@@ -229,7 +229,7 @@ class RandomStructs(Case):
     def rules(self) -> tuple[Any, dict[bytes, tuple[int, bytes]], bool]:
         """Rules of random bytes, whose lengths mostly fit. For each GS2 header the state of an open challenge and the
         data of the channel. Whether no length is too large."""
-        rules = self.filled(fe2o3_sasl._ScramRulesStruct)
+        rules = self.filled(_structs._ScramRulesStruct)
         rules.accept_authzid, rules.identities, rules.identities_len = 0, None, 0
         channels = rules.channels
         flags = (
@@ -257,7 +257,7 @@ class RandomStructs(Case):
 
     def known_record(self) -> tuple[Any, bytes, bytes]:
         """A record with a salt of a length that fits, and the ClientKey and the StoredKey of it."""
-        record = self.filled(fe2o3_sasl._ScramRecordStruct)
+        record = self.filled(_structs._ScramRecordStruct)
         record.version, record.salt_len = self.random.choice(list(VERSIONS)), self.random.randrange(129)
         key = os.urandom(hashlib.new(VERSIONS[record.version]).digest_size)
         stored = hashlib.new(VERSIONS[record.version], key).digest()
@@ -269,7 +269,7 @@ class RandomStructs(Case):
         begun = {state: 0 for state in (1, 3, 7, 8, 9)}
         for _ in range(self.COUNT):
             (rules, headers, fits), (record, _, _) = self.rules(), self.known_record()
-            server = self.filled(fe2o3_sasl._ScramServerStruct)
+            server = self.filled(_structs._ScramServerStruct)
             header, extension = self.random.choice(list(headers)), self.random.choice((b"", b",x=1", b",i=4096"))
             state, data = headers[header]
             if rules.channels.binds_channel:
@@ -295,7 +295,7 @@ class RandomStructs(Case):
         final, concluded = "fe2o3_scram_server_final_with_rules", {state: 0 for state in (1, 3, 7, 8, 9)}
         for _ in range(self.COUNT):
             (rules, headers, fits), (record, client_key, stored) = self.rules(), self.known_record()
-            server, nonce = self.filled(fe2o3_sasl._ScramServerStruct), base64_of(os.urandom(32))
+            server, nonce = self.filled(_structs._ScramServerStruct), base64_of(os.urandom(32))
             server.state = state = self.random.choice((*concluded, *concluded, 0, 2, 4, 10, server.state))
             server.user_len, server.nonce_len, server.acts_for_len = 4, len(nonce), 0
             server.bare_len, server.first_len = self.random.randrange(1025), self.random.randrange(1025)
@@ -315,7 +315,7 @@ class RandomStructs(Case):
                 is_accepted = False
             if state > 6 and not data_of_state:
                 is_accepted = False
-            other, marred = fe2o3_sasl._ScramServerStruct.from_buffer_copy(server), self.marred(message)
+            other, marred = _structs._ScramServerStruct.from_buffer_copy(server), self.marred(message)
             self.ask(final, (other, rules, record), rules, record, other, marred, len(marred), room=90)
             given = rules, record, server, message, len(message)
             answer = self.ask(final, (server, rules, record), *given, room=90)

@@ -9,6 +9,7 @@ import struct
 import unittest
 
 import fe2o3_sasl
+from fe2o3_sasl import _structs
 from cases import NAMES, PASSWORDS, SALT, Case, login
 from fe2o3_sasl import SHA_1, SHA_256, SHA_512, Client, Keys, Record, Refused, Server, Status
 from peers import NULL, VERSIONS, Secret, frame_of, mechanisms_frame, short
@@ -30,9 +31,9 @@ class Records(Case):
                         self.assertEqual((record.version, record.iterations, record.salt), (version, iterations, salt))
         self.assertNotEqual(Record.make(SHA_1, "a").salt, Record.make(SHA_1, "a").salt)
         for length in (0, 16, 28, 128):
-            self.assertEqual(len(Record.make(SHA_256, "a", salt_length=length).salt), length)
+            self.assertEqual(len(Record.make(SHA_256, "a", salt_len=length).salt), length)
         self.assertEqual(len(Record.make(SHA_256, "a").salt), 16)
-        self.assertEqual(Record.make(SHA_256, "a", salt=SALT, salt_length=28).salt, SALT)
+        self.assertEqual(Record.make(SHA_256, "a", salt=SALT, salt_len=28).salt, SALT)
 
     def test_fields(self) -> None:
         for version in VERSIONS:
@@ -246,7 +247,7 @@ class Messages(Case):
         for iterations in (0, 1, 4096):
             self.assertFalse(fe2o3_sasl.plain_verify(None, message, iterations=iterations))
         # A struct of zeros is no record, so the user is unknown.
-        self.assertFalse(fe2o3_sasl.plain_verify(Record._of(fe2o3_sasl._ScramRecordStruct()), message))
+        self.assertFalse(fe2o3_sasl.plain_verify(Record._of(_structs._ScramRecordStruct()), message))
         self.refused(Status.NO_SUCH_CHOICE, lambda: fe2o3_sasl.plain_verify(None, message, passwords=3))
         with self.assertRaises(ValueError):
             fe2o3_sasl.plain_verify(None, message, iterations=2**32)

@@ -19,13 +19,19 @@ from fe2o3_sasl import (
     Channel,
     ChannelKind,
     Client,
+    ClientConnection,
+    Offer,
+    Progress,
     Record,
     Refused,
+    Rejection,
     Server,
+    ServerConnection,
     ServerError,
     Status,
     server_error_message,
 )
+from peers import SASL_HEADER, mechanisms_frame
 
 
 class Tls(Case):
@@ -145,6 +151,36 @@ class Tls(Case):
             channel = Channel.tls_server_end_point(near.getpeercert(binary_form=True) or b"")
             self.assertEqual(channel.data, hashed)
             self.logs_in(near, channel, far, Channel.tls_server_end_point(self.certificate("server")))
+
+    def test_a_selected_mechanism(self) -> None:
+        """A client that takes the mechanism from the offer binds its channel, and a man in the middle with another
+        certificate cannot pass the login on, nor remove `-PLUS` from the offer."""
+        record = Record.make(SHA_256, "pencil")
+        for name, plus, is_allowed in (
+            ("server", True, True),
+            ("other", True, False),
+            ("server", False, False),
+        ):
+            with self.subTest(name=name, plus=plus):
+                near, _ = self.session(*self.contexts(name, ssl.TLSVersion.TLSv1_3))
+                channel = Channel.tls_server_end_point(near.getpeercert(binary_form=True) or b"")
+                bound = [Channel.tls_server_end_point(self.certificate("server"))]
+                server = ServerConnection(lambda _: [record], mechanisms=Offer.SCRAM_SHA_256, channels=bound)
+                client = ClientConnection.select("user", "pencil", channel=channel, strict=True)
+                to_server, offered = client.open(), b""
+                while to_server:
+                    to_client = server.receive(to_server)[0]
+                    if not offered:
+                        offered = to_client
+                        to_client = offered if plus else SASL_HEADER + mechanisms_frame("SCRAM-SHA-256")
+                    to_server = client.receive(to_client)[0]
+                self.assertIn(b"SCRAM-SHA-256-PLUS", offered)
+                self.assertEqual(client.mechanism(), "SCRAM-SHA-256-PLUS" if plus else "SCRAM-SHA-256")
+                wanted = Progress.AUTHENTICATED if is_allowed else Progress.FAILED
+                self.assertEqual((client.progress, server.progress), (wanted, wanted))
+                if not is_allowed:
+                    reasons = Rejection.CHANNEL, Rejection.SERVER_CANNOT_PARSE_GS2_HEADER
+                    self.assertIn(server.rejection, reasons)
 
     def test_tls_unique_above_tls_1_2(self) -> None:
         for end in self.session(*self.contexts("server", ssl.TLSVersion.TLSv1_3)):

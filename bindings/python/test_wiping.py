@@ -7,6 +7,7 @@ import copy
 import ctypes
 import os
 import pickle
+import sys
 import threading
 import time
 import unittest
@@ -15,7 +16,7 @@ from pathlib import Path
 from typing import Any, Callable, Iterable
 from unittest import mock
 
-import fe2o3_sasl
+from fe2o3_sasl import _client_sides, _native
 from fe2o3_sasl import (
     SHA_1,
     SHA_256,
@@ -99,7 +100,7 @@ class Seen:
     def __enter__(self) -> Seen:
         self.before: list[bytes] = []
         self.places: list[Memory] = []
-        wipe = fe2o3_sasl._library.fe2o3_wipe
+        wipe = _native._library.fe2o3_wipe
 
         def seen(*held: Any) -> None:
             for one in held:
@@ -107,12 +108,15 @@ class Seen:
                 self.places.append(Memory(one))
                 wipe(ctypes.byref(one), ctypes.sizeof(one))
 
-        self.patch = mock.patch("fe2o3_sasl._wipe", seen)
-        self.patch.start()
+        modules = [one for name, one in sys.modules.items() if name.startswith("fe2o3_sasl.") and hasattr(one, "_wipe")]
+        self.patches = [mock.patch.object(module, "_wipe", seen) for module in modules]
+        for patch in self.patches:
+            patch.start()
         return self
 
     def __exit__(self, *why: object) -> None:
-        self.patch.stop()
+        for patch in self.patches:
+            patch.stop()
 
     def count(self, secret: bytes) -> int:
         return sum(secret in one for one in self.before)
@@ -289,7 +293,7 @@ class Copies(unittest.TestCase):
 
     def test_mechanisms_that_are_not_selected(self) -> None:
         side = ClientSteps.select("user", PASSWORD, [*MECHANISMS.values(), "PLAIN"], prepared=True)
-        allowed = [Memory(*fe2o3_sasl._secrets_of(login)) for login in side._allowed]
+        allowed = [Memory(*_client_sides._secrets_of(login)) for login in side._allowed]
         self.assertEqual([memory.bytes().count(UTF8) for memory in allowed], [1] * 4)
         with Seen() as seen:
             ClientSteps.select("user", PASSWORD, [*MECHANISMS.values(), "PLAIN"], prepared=True)
@@ -375,16 +379,16 @@ class Calls(unittest.TestCase):
         texts = ["", "pencil", PASSWORD, "\0", "\x7f\x80\u07ff\u0800\uffff\U00010000\U0010ffff", "\ud800\udc00"]
         long = [PASSWORD[:5] * 51, "\ud83d\ude00" * 127 + "ab", "\ud83d\ude00" * 1000, PASSWORD * 10_000, "x" * 256]
         for text in texts + long:
-            buffer = fe2o3_sasl._hidden(text)
-            self.assertEqual(buffer.raw, fe2o3_sasl._text(text) + b"\0")
-            self.assertLessEqual(sum(1 for _ in fe2o3_sasl._pieces(text)), 256)
-        self.assertEqual([*fe2o3_sasl._pieces(PASSWORD)], [character.encode() for character in PASSWORD])
+            buffer = _native._hidden(text)
+            self.assertEqual(buffer.raw, _native._text(text) + b"\0")
+            self.assertLessEqual(sum(1 for _ in _native._pieces(text)), 256)
+        self.assertEqual([*_native._pieces(PASSWORD)], [character.encode() for character in PASSWORD])
         view = memoryview(b"pencil")
         for other in (b"", b"pencil", bytearray(b"pencil"), view, view[::2], view.cast("H")):
-            self.assertEqual(fe2o3_sasl._hidden(other).raw, memoryview(other).tobytes() + b"\0")
+            self.assertEqual(_native._hidden(other).raw, memoryview(other).tobytes() + b"\0")
         for wrong in (None, 5, object(), ["a"]):
-            self.assertRaises(TypeError, fe2o3_sasl._hidden, wrong)
-        self.assertRaises(TypeError, fe2o3_sasl._hidden_bytes, "text")
+            self.assertRaises(TypeError, _native._hidden, wrong)
+        self.assertRaises(TypeError, _native._hidden_bytes, "text")
 
 
 @unittest.skipUnless(Path("/proc/self/mem").exists(), "it reads the memory of the process")

@@ -29,6 +29,7 @@ SOURCES = (
     "bindings/rust/src/**/*.rs",
     "bindings/rust/tests/**/*.rs",
     "bindings/python/*.py",
+    "bindings/python/fe2o3_sasl/*.py",
     "tools/**/*.py",
 )
 

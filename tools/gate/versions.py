@@ -15,11 +15,13 @@ from pathlib import Path
 TOP = Path(__file__).resolve().parents[2]
 VERSION = r"\d+\.\d+\.\d+(?:-dev)?"
 LEADING = "bindings/rust/Cargo.toml"
-# A file, the place in it as a pattern with a group, and the form there: the text, or the number of `fe2o3_version`.
+# A file, the place in it as a pattern with a group, and the form there: the text, the number of `fe2o3_version`, or what
+# Python calls it (PEP 440).
 EXPORT = r"fn fe2o3_version\(\) -> u32\n"
 PLACES = [
     (LEADING, r'^version = "(.*)"$', "text"),
     ("interop/rust/Cargo.toml", r'^version = "(.*)"$', "text"),
+    ("bindings/python/fe2o3_sasl/__init__.py", r'^__version__ = "(.*)"$', "wheel"),
     ("README.md", rf"\bThis is version ({VERSION})\.", "text"),
     ("crates/scram_lib/src/manual.rt", r'\.version\("(.*)"\)', "text"),
     ("crates/test_driver_programs/data/words.txt", r"^\$ scram --version\n> scram (.*)$", "text"),
@@ -27,7 +29,12 @@ PLACES = [
     ("crates/sasl_c/src/texts.rt", EXPORT + r"[^\n]*\n\{\n    (\d+)\n\}$", "number"),
 ]
 SHARED = re.compile(r"libfe2o3_sasl\.so\.(\d+)")
-SHARED_FILES = ("bindings/callers.mk", "bindings/python/fe2o3_sasl.py", "CHANGELOG.md")
+SHARED_FILES = (
+    "bindings/callers.mk",
+    "bindings/python/fe2o3_sasl/__init__.py",
+    "bindings/python/fe2o3_sasl/_native.py",
+    "CHANGELOG.md",
+)
 
 
 def numbers(version):
@@ -37,7 +44,8 @@ def numbers(version):
 def in_form(version, form):
     """The version as a place of this form has it."""
     major, minor, patch = numbers(version)
-    return version if form == "text" else str(10000 * major + 100 * minor + patch)
+    forms = {"text": version, "wheel": version.replace("-dev", ".dev0")}
+    return forms.get(form) or str(10000 * major + 100 * minor + patch)
 
 
 def found_in(top, file, pattern):

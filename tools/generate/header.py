@@ -5,12 +5,12 @@
     tools/generate/header.py check [LANGUAGE..]     prints the first line that differs, and ends with status 1 if one does
 
 A language is `c`, for bindings/c/fe2o3_sasl.h, `wrappers`, for bindings/wiping/exports.c, `rust`, for
-bindings/rust/src/sys.rs, or `python`, for the marked part of bindings/python/fe2o3_sasl.py; without one, it is all. The
-script reads the structs under `#[repr(C)]`, the
-functions under `#[unsafe(no_mangle)]`, the numbers of `enum Status`, and the enums of tools/generate/header_preamble.h. The docs
-of the kinds of errors come from the libraries. It relies on the layout of `rt fmt`. It rejects, with file and line, what
-it does not know, an export or a struct that SECTIONS does not list, an export without a doc or with a condition (C would
-not see the condition), and a status without a text of its own.
+bindings/rust/src/sys.rs, or `python`, for _numbers.py, _structs.py and _exports.py of bindings/python/fe2o3_sasl; without
+one, it is all. The script reads the structs under `#[repr(C)]`, the functions under `#[unsafe(no_mangle)]`, the numbers of
+`enum Status`, and the enums of tools/generate/header_preamble.h. The docs of the kinds of errors come from the libraries.
+It relies on the layout of `rt fmt`. It rejects, with file and line, what it does not know, an export or a struct that
+SECTIONS does not list, an export without a doc or with a condition (C would not see the condition), and a status without a
+text of its own.
 
 A slice becomes a pointer and a length (`_len`; `_size` if the slice is written, `_count` if it is of structs), an array
 or a struct behind a reference becomes a pointer, and `Global` nothing.
@@ -369,7 +369,7 @@ def called(head, parts, tail, indent=""):
 DEFAULTS = [
     (
         "DEFAULT_SALT_LEN",
-        "DEFAULT_SALT_LENGTH",
+        "DEFAULT_SALT_LEN",
         "DEFAULT_SALT_LEN",
         "usize",
         "The length in bytes of the salt of a new record and of a mock record, unless you choose another one.",
@@ -485,7 +485,6 @@ def rust_block(reader):
 
 
 PYTHON_NUMBERS = {"u8": "ctypes.c_uint8", "u32": "ctypes.c_uint32", "usize": "ctypes.c_size_t"}
-PYTHON_MARKS = "# ---- written by tools/generate/header.py, from here ----\n", "# ---- to here ----\n"
 
 
 def python_part(part, written):
@@ -504,9 +503,13 @@ def python_class(base, name, doc, values):
     return f'\n\nclass {name}(enum.{base}):\n    """{doc}"""\n\n{rows}'
 
 
-def python_block(reader):
-    """The marked part of the module: the numbers, the structs, and the types of the exports."""
-    written = {part.kind for export in reader.exports for part in export.parts if part.form == "mut"}
+def python_module(doc, imports, body):
+    """A module of the package."""
+    return f'"""{doc} Written by tools/generate/header.py."""\n\nfrom __future__ import annotations\n\n{imports}{body}'
+
+
+def python_numbers(reader):
+    """The module of the numbers."""
     out = []
     enums = {one.name: one for one in reader.enums}
     out += [f"\n{one.name} = {one.number}" for one in enums["scram_version"].values] + ["\n"]
@@ -589,6 +592,13 @@ def python_block(reader):
     ]:
         values = [(one.name.replace(prefix, ""), one.number) for one in enums[name].values]
         out.append(python_class("IntEnum", title, enums[name].doc[0].split(". ")[0].rstrip(".") + ".", values))
+    return python_module("The numbers of the library.", "import enum\n", "".join(out))
+
+
+def python_structs(reader):
+    """The module of the structs."""
+    written = {part.kind for export in reader.exports for part in export.parts if part.form == "mut"}
+    out = []
     for one in reader.structs:
         rows = "".join(
             f'        ("{part.name}", {python_part(part, one.name in written)}),\n' for _, part in one.fields
@@ -596,7 +606,12 @@ def python_block(reader):
         out.append(f"\n\nclass _{one.name}Struct(ctypes.Structure):\n    _fields_ = [\n{rows}    ]\n")
     rows = "".join(f"    _{name}Struct,\n" for name in reader.sized)
     out.append(f"\n\n# The structs in the order of the numbers of `fe2o3_size`.\n_SIZED = (\n{rows})\n")
-    out.append("\n# What each export returns and takes.\n_EXPORTS: dict[str, tuple[Any, list[Any]]] = {\n")
+    return python_module("The structs of the library.", "import ctypes\n", "".join(out))
+
+
+def python_exports(reader):
+    """The module of the exports."""
+    out = ["\n# What each export returns and takes.\n_EXPORTS: dict[str, tuple[Any, list[Any]]] = {\n"]
     for _, name, parts, answer in reader.exports:
         given = [python_part(part, False) for part in parts]
         line = f'    "{name}": ({PYTHON_NUMBERS.get(answer)}, [{", ".join(given)}]),\n'
@@ -606,35 +621,21 @@ def python_block(reader):
             if len(line) <= WIDTH
             else f'    "{name}": (\n        {PYTHON_NUMBERS.get(answer)},\n        [\n{rows}        ],\n    ),\n'
         )
-    return "".join(out) + "}\n\n\n"
-
-
-def python_page(reader, page):
-    """The module with its marked part written again."""
-    text = page.read_text(encoding="utf-8")
-    start, end = (text.find(mark) for mark in PYTHON_MARKS)
-    if not 0 < start < end:
-        sys.exit(f"{page}: the marks of the written part are not there")
-    return text[:start] + PYTHON_MARKS[0] + python_block(reader) + text[end:]
-
-
-def c_page(reader, page):
-    return c_header(reader)
-
-
-def wrappers_page(reader, page):
-    return c_wrappers(reader)
-
-
-def rust_page(reader, page):
-    return rust_block(reader)
+    body = "".join(out) + "}\n"
+    structs = "".join(f"    {one},\n" for one in sorted(set(re.findall(r"_\w+Struct", body))))
+    imports = f"import ctypes\nfrom typing import Any\n\nfrom ._structs import (\n{structs})\n"
+    return python_module("The exports of the library.", imports, body)
 
 
 PAGES = {
-    "c": ("bindings/c/fe2o3_sasl.h", c_page),
-    "wrappers": ("bindings/wiping/exports.c", wrappers_page),
-    "rust": ("bindings/rust/src/sys.rs", rust_page),
-    "python": ("bindings/python/fe2o3_sasl.py", python_page),
+    "c": {"bindings/c/fe2o3_sasl.h": c_header},
+    "wrappers": {"bindings/wiping/exports.c": c_wrappers},
+    "rust": {"bindings/rust/src/sys.rs": rust_block},
+    "python": {
+        "bindings/python/fe2o3_sasl/_numbers.py": python_numbers,
+        "bindings/python/fe2o3_sasl/_structs.py": python_structs,
+        "bindings/python/fe2o3_sasl/_exports.py": python_exports,
+    },
 }
 
 
@@ -655,12 +656,12 @@ def main():
     words = words.parse_args()
     reader, stale = Reader(words.sources), []
     for language in words.languages or PAGES:
-        page, text_of = ROOT / PAGES[language][0], PAGES[language][1]
-        wanted = text_of(reader, page)
-        if words.what == "write":
-            page.write_text(wanted, encoding="utf-8")
-        elif fault := first_difference(page, wanted):
-            stale.append(fault)
+        for path, text_of in PAGES[language].items():
+            page, wanted = ROOT / path, text_of(reader)
+            if words.what == "write":
+                page.write_text(wanted, encoding="utf-8")
+            elif fault := first_difference(page, wanted):
+                stale.append(fault)
     if stale:
         sys.exit("\n".join(stale))
     if words.what == "check":

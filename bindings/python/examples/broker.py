@@ -18,7 +18,7 @@ import sys
 import time
 from pathlib import Path
 
-import fe2o3_sasl_asyncio
+import fe2o3_sasl.asyncio
 from fe2o3_sasl import CredentialsRejected, Offer, Record, RecordStore, Refused, ServerConnection
 
 #: The limits: of open connections, of seconds for a login, and of bytes and seconds for a close. A login ends by itself
@@ -87,7 +87,7 @@ class Broker:
         identity = certified_name(writer)
         with self.side(identity) as side:
             try:
-                await fe2o3_sasl_asyncio.serve(reader, writer, side, timeout=LOGIN_SECONDS)
+                await fe2o3_sasl.asyncio.serve(reader, writer, side, timeout=LOGIN_SECONDS)
             except Refused as why:
                 attempt, count = side.last_attempt(), ""
                 if isinstance(why, CredentialsRejected) and attempt is not None:
@@ -124,7 +124,12 @@ async def hang_up(reader: asyncio.StreamReader, writer: asyncio.StreamWriter) ->
         while left > 0 and (data := await asyncio.wait_for(reader.read(4096), until - time.monotonic())):
             left -= len(data)
     writer.close()
-    asyncio.get_running_loop().call_later(CLOSE_SECONDS, writer.transport.abort)  # if TLS does not end
+    try:
+        await asyncio.wait_for(writer.wait_closed(), CLOSE_SECONDS)
+    except asyncio.TimeoutError:  # TLS does not end
+        writer.transport.abort()
+    except OSError:
+        pass  # the peer has broken TLS, or the connection
 
 
 async def main(port: str, users: str, *tls: str) -> None:

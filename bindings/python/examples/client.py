@@ -16,7 +16,7 @@ import sys
 from dataclasses import dataclass, field
 from typing import Optional
 
-import fe2o3_sasl_asyncio
+import fe2o3_sasl.asyncio
 from fe2o3_sasl import ClientConnection, MechanismUnavailable, Refused
 
 LOGIN_SECONDS = 30
@@ -60,7 +60,7 @@ async def log_in(login: Login, reader: asyncio.StreamReader, writer: asyncio.Str
     """Logs in. Returns the mechanism, and the bytes that belong to AMQP. Raises unless the client is logged in."""
     with login.side() as side:
         try:
-            rest = await fe2o3_sasl_asyncio.log_in(reader, writer, side, timeout=LOGIN_SECONDS)
+            rest = await fe2o3_sasl.asyncio.log_in(reader, writer, side, timeout=LOGIN_SECONDS)
         except Refused as why:
             raise ConnectionError(reason(why, side)) from None
         return side.mechanism() or "", rest

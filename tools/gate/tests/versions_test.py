@@ -18,7 +18,8 @@ FILES = {
     "crates/test_driver_programs/data/words.txt": "$ scram --version\n> scram 0.4.0\n= 0\n",
     "crates/sasl_c/src/texts.rt": 'pub extern "C" fn fe2o3_version() -> u32\n    ensures { result ≡ 400 }\n{\n    400\n}\n',
     "bindings/callers.mk": "SONAME = libfe2o3_sasl.so.2\n",
-    "bindings/python/fe2o3_sasl.py": '"""`libfe2o3_sasl.so.2`"""\n_load("libfe2o3_sasl.so.2")\n',
+    "bindings/python/fe2o3_sasl/__init__.py": '"""`libfe2o3_sasl.so.2`"""\n__version__ = "0.4.0"\n',
+    "bindings/python/fe2o3_sasl/_native.py": '_FILE = "libfe2o3_sasl.so.2"\n',
     "CHANGELOG.md": "# Changelog\n\n## 0.4.0 (2026-11-29)\n\n- Now `libfe2o3_sasl.so.2`.\n\n## 0.3.0\n\n- `libfe2o3_sasl.so.1`\n",
 }
 
@@ -46,6 +47,7 @@ class Versions(unittest.TestCase):
     def test_each_place(self):
         for name, old in (
             ("interop/rust/Cargo.toml", "0.4.0"),
+            ("bindings/python/fe2o3_sasl/__init__.py", "0.4.0"),
             ("README.md", "0.4.0"),
             ("crates/scram_lib/src/manual.rt", "0.4.0"),
             ("crates/test_driver_programs/data/words.txt", "0.4.0"),
@@ -67,8 +69,8 @@ class Versions(unittest.TestCase):
         self.assertIn("no version like", self.faults())
 
     def test_shared_object(self):
-        self.turn("bindings/python/fe2o3_sasl.py", '_load("libfe2o3_sasl.so.2")', '_load("libfe2o3_sasl.so.1")')
-        self.assertIn("fe2o3_sasl.py names libfe2o3_sasl.so.1", self.faults())
+        self.turn("bindings/python/fe2o3_sasl/_native.py", '"libfe2o3_sasl.so.2"', '"libfe2o3_sasl.so.1"')
+        self.assertIn("_native.py names libfe2o3_sasl.so.1", self.faults())
         self.turn("CHANGELOG.md", "so.2", "so.3")
         self.assertIn("CHANGELOG.md names libfe2o3_sasl.so.3", self.faults())
 
@@ -92,6 +94,8 @@ class Versions(unittest.TestCase):
         versions.write(self.top, "0.5.0-dev")
         self.assertEqual(self.faults(), "")
         self.assertIn("result ≡ 500 }\n{\n    500\n}", (self.top / "crates/sasl_c/src/texts.rt").read_text())
+        package = (self.top / "bindings/python/fe2o3_sasl/__init__.py").read_text()
+        self.assertIn('__version__ = "0.5.0.dev0"\n', package)
 
 
 if __name__ == "__main__":

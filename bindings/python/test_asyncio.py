@@ -1,4 +1,4 @@
-"""Tries fe2o3_sasl_asyncio.py over the loopback: both sides, and each against a peer that is made here."""
+"""Tries fe2o3_sasl.asyncio over the loopback: both sides, and each against a peer that is made here."""
 
 from __future__ import annotations
 
@@ -17,6 +17,7 @@ from pathlib import Path
 from typing import Any, Awaitable, Callable, Optional
 from unittest import mock
 
+import fe2o3_sasl.asyncio
 from fe2o3_sasl import (
     SHA_256,
     SHA_512,
@@ -38,7 +39,7 @@ from fe2o3_sasl import (
     Status,
     Wiped,
 )
-from fe2o3_sasl_asyncio import log_in, serve
+from fe2o3_sasl.asyncio import log_in, serve
 from peers import OUTCOME, SASL_HEADER, Broker, Login, Plain, Secret, Side, frame_of, mechanisms_frame, short
 
 FOLDER = Path(__file__).resolve().parent
@@ -368,18 +369,15 @@ class Types(unittest.TestCase):
     @unittest.skipUnless(shutil.which("mypy"), "it tests the types")
     def test_strict(self) -> None:
         with tempfile.TemporaryDirectory() as cache:
-            files = [str(FOLDER / name) for name in ("fe2o3_sasl.py", "fe2o3_sasl_asyncio.py")]
-            words = ["mypy", "--strict", "--python-version", "3.9", "--cache-dir", cache, *files]
+            words = ["mypy", "--strict", "--python-version", "3.9", "--cache-dir", cache, "-p", "fe2o3_sasl"]
             done = subprocess.run(words, stdout=subprocess.PIPE, stderr=subprocess.STDOUT, cwd=FOLDER, text=True)
         if "No module named" in done.stdout or "Python 3.9 is not supported" in done.stdout:
             self.skipTest("mypy does not run here")
         self.assertEqual(done.returncode, 0, done.stdout)
 
     def test_names(self) -> None:
-        import fe2o3_sasl_asyncio
-
-        for name in fe2o3_sasl_asyncio.__all__:
-            self.assertTrue(getattr(fe2o3_sasl_asyncio, name).__doc__)
+        for name in fe2o3_sasl.asyncio.__all__:
+            self.assertTrue(getattr(fe2o3_sasl.asyncio, name).__doc__)
 
 
 if __name__ == "__main__":

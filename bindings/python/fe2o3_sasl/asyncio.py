@@ -32,7 +32,9 @@ from __future__ import annotations
 import asyncio
 from typing import Optional, Union
 
-from fe2o3_sasl import ClientConnection, Progress, ServerConnection
+from ._client_sides import ClientConnection
+from ._numbers import Progress
+from ._server_sides import ServerConnection
 
 __all__ = ["log_in", "serve"]
 

@@ -1,0 +1,326 @@
+"""The server's side of a connection, over bytes and over frame bodies."""
+
+from __future__ import annotations
+
+import contextlib
+import ctypes
+import secrets
+from typing import Any, Callable, Iterable, Iterator, NamedTuple, Optional
+
+from ._channels import Channel
+from ._errors import Refused
+from ._frames import view_frame
+from ._native import Bytes, Text, _bytes, _callable, _count, _library, _name, _number, _refusal, _text, _wipe, _written
+from ._numbers import DEFAULT_ITERATIONS, Offer, Progress, Rejection, Status, _ServerState
+from ._objects import _Guard
+from ._progress import _Connection, _Login, _Steps
+from ._records import MockSettings, Record, _Mock
+from ._server import _channels_of, _identity_of, _joined
+from ._stores import _OFFERED
+from ._structs import _SaslServerConfigStruct, _SaslServerStruct, _ScramRecordStruct, _ScramServerStruct
+
+
+class LoginAttempt(NamedTuple):
+    """What the last init of a client claims, also after a rejection. Nobody is authenticated by it.
+
+    - `mechanism`: the mechanism that the init names, also one that the server does not offer
+    - `claimed_user`: the user name that the initial response of SCRAM or PLAIN claims, without escapes
+    - `hostname`: the hostname that the init names
+    """
+
+    mechanism: str
+    claimed_user: Optional[str]
+    hostname: Optional[str]
+
+
+#: The kind of an init.
+_INIT = 0x41
+#: The reasons by their numbers.
+_REJECTIONS = {int(one): one for one in Rejection}
+
+
+#: The mechanisms that a server can offer.
+_MECHANISMS = (
+    Offer.SCRAM_SHA_512 | Offer.SCRAM_SHA_256 | Offer.SCRAM_SHA_1 | Offer.PLAIN | Offer.ANONYMOUS | Offer.EXTERNAL
+)
+
+
+def _offered(mechanisms: int) -> int:
+    """Returns what a server offers, a sum of `Offer` with one mechanism or more."""
+    number = _number(mechanisms)
+    both_forms = Offer.PLAIN_PREPARED | Offer.PLAIN_SASLPREP
+    if not number & _MECHANISMS or number & ~sum(Offer) or number & both_forms == both_forms:
+        raise _refusal(Status.NO_SUCH_MECHANISM)
+    return number
+
+
+class _ServerSide(_Login):
+    """A server's login: what it offers, and its records."""
+
+    __slots__ = (
+        "_attempt",
+        "_channels",
+        "_external_authcid",
+        "_identities_of",
+        "_iterations",
+        "_mechanisms",
+        "_mock",
+        "_mock_rejection",
+        "_records_of",
+        "_struct",
+    )
+
+    def __init__(
+        self,
+        records_of: Callable[[str], Iterable[Record]],
+        *,
+        mechanisms: int = Offer.SCRAM_SHA_512 | Offer.SCRAM_SHA_256,
+        mock: Optional[MockSettings] = None,
+        iterations: Optional[int] = None,
+        external_authcid: Optional[Text] = None,
+        channels: Optional[Iterable[Channel]] = None,
+        identities_of: Optional[Callable[[str], Iterable[str]]] = None,
+    ) -> None:
+        """A login by one of the mechanisms, a sum of `Offer`:
+
+            mechanisms = store.hashes() | (Offer.PLAIN if tls else 0)
+            ServerConnection(store.records, mechanisms=mechanisms, mock=store.mock_settings(secret))
+
+        `records_of` returns the records of a user, of any hashes, and none for an unknown name (`RecordStore.records`).
+        SCRAM with a hash uses the first record of that hash, and PLAIN the first record. A user cannot log in by a hash for
+        which it has no record, and many clients select the strongest. So offer only hashes for which every user has one
+        (`RecordStore.hashes`).
+
+        With `mock` the answers do not show which names exist: a name gets a mock record for each offered hash for which
+        `records_of` returns none, also the name of a known user. `mock` is a secret of 32 or more random bytes, one for
+        all names, kept as long as the records. All records need DEFAULT_SALT_LEN and DEFAULT_ITERATIONS then; for
+        others pass `(secret, salt_len, iterations)`. PLAIN hashes the password of an unknown user by the first mock
+        record: that of SHA-256, or otherwise that of SHA-512. Let the records of each user begin with that hash too, as
+        `RecordStore.records` returns them.
+
+        Without `mock` a name without a record is rejected at once, which shows that there is none. PLAIN hashes the
+        password of an unknown user with SHA-256 and `iterations`, by default DEFAULT_ITERATIONS. With `mock` the count
+        is that of the mock records, and `iterations` raises ValueError.
+
+        EXTERNAL accepts `external_authcid`, the name that the transport has authenticated. If it is None or empty, EXTERNAL
+        is not offered, and an init for it fails.
+
+        With `channels` SCRAM is also offered with `-PLUS`: pass the channel of the connection once for each kind that the
+        server accepts (`Channel`; RFC 5802, section 6). A client that supports no channel binding still logs in without
+        `-PLUS`. `Offer.ACCEPT_CBIND_FLAG_Y` then has no effect, and SCRAM tests extensions also without `-PLUS`
+        (`Offer.REJECT_MISPLACED`).
+
+        With `identities_of` a client of SCRAM or PLAIN may name an identity to act for (RFC 4422, section 2). It returns the
+        identities that a user may act for besides itself, perhaps none. A user without the right is rejected like one
+        with a wrong password. After the login `acts_for` returns the identity. Such a server tests extensions like a
+        strict one."""
+        _callable(records_of, "records_of")
+        if identities_of is not None:
+            _callable(identities_of, "identities_of")
+        if mock is not None and iterations is not None:
+            raise ValueError("the iteration count is that of the mock records")
+        self._identities_of = identities_of
+        self._records_of, self._mechanisms = records_of, _offered(mechanisms)
+        self._iterations = _count(DEFAULT_ITERATIONS if iterations is None else iterations)
+        self._struct = self._fresh()
+        self._external_authcid = _name("" if external_authcid is None else external_authcid)
+        self._channels = _channels_of(channels)
+        self._attempt: Optional[LoginAttempt] = None
+        self._mock = None if mock is None else _Mock(mock)
+        # Why the last call rejects a login whose record is a mock record; None if it is not.
+        self._mock_rejection: Optional[Rejection] = None
+        self._lock = _Guard(self)
+
+    def _fresh(self) -> Any:
+        raise NotImplementedError
+
+    def _scram(self) -> Any:
+        raise NotImplementedError
+
+    def _secrets(self) -> Iterable[Any]:
+        return [self._struct] if self._mock is None else [self._struct, self._mock._secret]
+
+    def _lacked(self, known: Iterable[_ScramRecordStruct]) -> list[int]:
+        """Returns the offered hashes of which these records have none."""
+        has = {record.version for record in known}
+        return [hash for hash, offer in _OFFERED.items() if self._mechanisms & offer and hash not in has]
+
+    @contextlib.contextmanager
+    def _config(self, name: Optional[str]) -> Iterator[_SaslServerConfigStruct]:
+        """Lends the configuration to the library, with copies of the records of this name, if there are any, and mock
+        records."""
+        known = b"" if name is None else _text(name)
+        with contextlib.ExitStack() as stack:
+            found = () if name is None else self._records_of(name)
+            copies = [stack.enter_context(record._lending()) for record in found]
+            if self._mock is not None and name is not None:
+                lacked, reason = self._lacked(copies), Rejection.UNKNOWN_USER
+                if copies:
+                    reason = Rejection.NO_RECORD_FOR_HASH
+                # (the struct has the hash of the open challenge until the call rejects the login)
+                self._mock_rejection = reason if self._scram().version in lacked else None
+                for hash in lacked:
+                    copies.append(self._mock.record(hash, known))
+                    stack.callback(_wipe, copies[-1])
+            records = (_ScramRecordStruct * len(copies))(*copies)
+            stack.callback(_wipe, records)
+            accepts = self._identities_of is not None
+            identities = _joined(
+                self._identities_of(name) if self._identities_of is not None and name is not None else ()
+            )
+            self._alive()  # (`records_of` can wipe this side)
+            yield _SaslServerConfigStruct(
+                mechanisms=self._mechanisms,
+                iterations=self._iterations if self._mock is None else self._mock.iterations,
+                username=known,
+                username_len=len(known),
+                records=records,
+                records_count=len(records),
+                external_authcid=self._external_authcid,
+                external_authcid_len=len(self._external_authcid),
+                channels=self._channels,
+                accept_authzid=accepts,
+                identities=identities,
+                identities_len=len(identities),
+            )
+
+    @staticmethod
+    def _named(call: Callable[..., int]) -> Optional[str]:
+        """Returns the user that a call says is claimed, if any."""
+        try:
+            return _written(512, call).decode("utf-8")
+        except Refused as why:
+            if why.status == Status.NAMES_NO_USER:
+                return None
+            raise
+
+    def last_attempt(self) -> Optional[LoginAttempt]:
+        """Returns what the last init claims, also after a rejection, for a log. None before the first init. Nobody is
+        authenticated by it (`authenticated_user`)."""
+        self._alive()
+        return self._attempt
+
+    @property
+    def rejection(self) -> Optional[Rejection]:
+        """Why the login was rejected by the outcome Auth, for your log only. None otherwise.
+
+        Also with `mock`, SCRAM has other reasons for an unknown user (UNKNOWN_USER) and for one without a record for
+        the hash (NO_RECORD_FOR_HASH) than for a wrong password (WRONG_PROOF). PLAIN has one for all of them,
+        WRONG_PASSWORD."""
+        with self._lock:
+            number = int(self._scram().rejection)
+            if self._mock_rejection is not None and number in (Rejection.WRONG_PROOF, Rejection.NO_RIGHT):
+                return self._mock_rejection
+            # (a later library can have more reasons)
+            return _REJECTIONS.get(number, Rejection.OTHER) if number else None
+
+    def _claims(self, body: bytes, name: Optional[str]) -> None:
+        """Stores what a frame claims: an init, or a response that is the initial response. The name is the user."""
+        try:
+            frame = view_frame(body)
+        except Refused:
+            return
+        if frame.kind == _INIT:
+            self._attempt = LoginAttempt(frame.mechanism, name, frame.hostname)
+        elif self._attempt is not None and name is not None:
+            self._attempt = self._attempt._replace(claimed_user=name)
+
+    def authenticated_user(self) -> Optional[str]:
+        """Returns the name of the authenticated user, without escapes; None for ANONYMOUS. Raises `InvalidState` if no
+        user is authenticated."""
+        with self._lock:
+            scram = self._scram()
+            if self.progress == Progress.AUTHENTICATED and scram.state == _ServerState.INITIAL:
+                return None
+            name = _written(
+                256, lambda *room: _library.fe2o3_scram_server_authenticated_user(ctypes.byref(scram), *room)
+            )
+        return name.decode("utf-8")
+
+    def acts_for(self) -> Optional[str]:
+        """Returns the identity that the authenticated user acts for, without escapes (RFC 4422, section 2), or None if the
+        user acts for itself. The connection belongs to this identity, if there is one. Raises `InvalidState` if no user is
+        authenticated."""
+        with self._lock:
+            scram = self._scram()
+            if self.progress == Progress.AUTHENTICATED and scram.state == _ServerState.INITIAL:
+                return None
+            return _identity_of(scram)
+
+
+class ServerConnection(_Connection, _ServerSide):
+    """The server's side of one AMQP 1.0 connection, from its first byte to the end of the login. It does no I/O, like
+    `ClientConnection`."""
+
+    __slots__ = ()
+
+    def _fresh(self) -> _SaslServerStruct:
+        return _SaslServerStruct()
+
+    def _scram(self) -> Any:
+        return self._struct.scram
+
+    def receive(self, data: Bytes) -> tuple[bytes, bytes]:
+        """Takes received bytes, and returns the bytes to send and the bytes that are left, like
+        `ClientConnection.receive`."""
+        rest, answers = _bytes(data), []
+        with self._lock:
+            while rest and self.progress == Progress.IN_PROGRESS:
+                answer, taken = self._step(rest)
+                answers.append(answer)
+                rest = rest[taken:]
+        return b"".join(answers), rest
+
+    def _step(self, data: bytes) -> tuple[bytes, int]:
+        name = self._named(lambda *room: _library.fe2o3_sasl_server_claimed_user(self._struct, data, len(data), *room))
+        nonce, taken, body = secrets.token_bytes(32), ctypes.c_size_t(), self._peeked(data)
+        with self._config(name) as config:
+            answer = _written(
+                520,
+                lambda *room: _library.fe2o3_sasl_server_receive(
+                    config, self._struct, data, len(data), nonce, ctypes.byref(taken), *room
+                ),
+            )
+        if body:
+            self._claims(body, name)
+        return answer, taken.value
+
+
+class ServerSteps(_Steps, _ServerSide):
+    """The server's side of one login over frame bodies, like `ClientSteps`.
+
+    A login takes two bodies of the client: its init, and for SCRAM a response. It takes one more with each of
+    `Offer.SIGNATURE_BY_CHALLENGE` and `Offer.INITIAL_RESPONSE_BY_CHALLENGE`. If you pass more of them, the client can
+    try passwords again and again.
+    """
+
+    __slots__ = ("_progress",)
+
+    def _fresh(self) -> _ScramServerStruct:
+        self._progress = 0
+        return _ScramServerStruct()
+
+    def _scram(self) -> Any:
+        return self._struct
+
+    def offer(self) -> bytes:
+        """Returns the frame body with which the server offers its mechanisms. Send it after the client's SASL
+        header."""
+        with self._lock, self._config(None) as config:
+            return _written(508, lambda *room: _library.fe2o3_sasl_server_offer(config, *room))
+
+    def on_frame(self, body: Bytes) -> bytes:
+        """Takes a received body, and returns the body to send: a challenge, or the outcome. Then `progress` says
+        how far the login is. If it raises, other than `OutOfMemory`, close the connection."""
+        came, nonce = _bytes(body), secrets.token_bytes(32)
+        with self._lock:
+            self._goes_on()
+            name = self._named(
+                lambda *room: _library.fe2o3_sasl_server_step_claimed_user(self._struct, came, len(came), *room)
+            )
+            with self._config(name) as config:
+                answer, self._progress = self._stepped(
+                    lambda *room: _library.fe2o3_sasl_server_step(config, self._struct, came, len(came), nonce, *room)
+                )
+            self._claims(came, name)
+            return answer
