@@ -4,7 +4,8 @@
 #   make dist      also makes, in build/packages, Debian packages, a Python wheel and the crate for Rust with the archive
 #                  in it, each with the notices of the kit's code that it contains. Their bytes depend only on the files,
 #                  those of the crate and the Debian packages also on SOURCE_DATE_EPOCH, the time of the last commit.
-#                  MAINTAINER='NAME <ADDRESS>' is who the Debian packages name; the address of the default is none
+#                  MAINTAINER='NAME <ADDRESS>' is who the Debian packages name; the address of the default is none.
+#                  REPOSITORY=URL is what the crate names as its repository, as docs.rs shows it; none by default
 #   make packages  makes all of them twice and compares the bytes, and makes a first login with each, outside the
 #                  repository and without the kit; then runs what others run over the archive of a release,
 #                  bindings/packages/ci.sh. INSTALL=yes also installs the Debian packages, as root, and removes them.
@@ -15,6 +16,7 @@ PACKED = build/packages
 DEB_VERSION = $(VERSION:-dev=~dev)-1
 CRATE_NAME = fe2o3-sasl-proved-$(VERSION)
 CRATE = $(PACKED)/$(CRATE_NAME).tar.gz
+REPOSITORY ?=
 MAINTAINER ?= the authors of fe2o3_sasl <nobody@fe2o3-sasl.invalid>
 INSTALL ?= no
 # (1980 where there is no repository of git)
@@ -45,7 +47,8 @@ crate: build/libfe2o3_sasl.a build/notices/sasl_c
 	rm -rf build/crate
 	mkdir -p $(PACKED) build/crate/$(CRATE_NAME)/lib
 	cd bindings/rust && cp -r build.rs rustfmt.toml src tests examples $(abspath build/crate/$(CRATE_NAME))
-	sed '/^\[workspace\]$$/d' bindings/rust/Cargo.toml > build/crate/$(CRATE_NAME)/Cargo.toml
+	sed -e '/^\[workspace\]$$/d' $(if $(REPOSITORY),-e 's|^documentation = .*|repository = "$(REPOSITORY)"\n&|') \
+	    bindings/rust/Cargo.toml > build/crate/$(CRATE_NAME)/Cargo.toml
 	cp LICENSE-APACHE LICENSE-MIT build/crate/$(CRATE_NAME)
 	cp build/notices/sasl_c build/crate/$(CRATE_NAME)/NOTICES
 	bindings/packages/pages.py pages build/crate/$(CRATE_NAME)/doc bindings/rust/README.md=../README.md

@@ -472,7 +472,7 @@ def rust_block(reader):
     for one in reader.structs:
         out.append(f"\n{rust_doc(in_rust(one.doc))}#[repr(C)]\n#[derive(Clone, Copy)]\npub struct {one.name} {{\n")
         out += [f"{rust_doc(in_rust(doc), '    ')}    pub {rust_part(part)},\n" for doc, part in one.fields] + ["}\n"]
-    rows = "".join(f"    size_of::<{name}>(),\n" for name in reader.sized)
+    rows = "".join(f"    core::mem::size_of::<{name}>(),\n" for name in reader.sized)
     out.append(
         f"\n/// The sizes of the structs here, in the order of the numbers of `fe2o3_size`.\n"
         f"pub const SIZES: [usize; {len(reader.sized)}] = [\n{rows}];\n"

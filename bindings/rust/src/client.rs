@@ -199,6 +199,11 @@ impl ScramClient {
         self
     }
 
+    /// Returns whether the client binds a channel.
+    pub(crate) fn binds_channel(&self) -> bool {
+        self.who.channel.is_bound()
+    }
+
     /// Makes the client say that it has a channel, but was offered no mechanism with `-PLUS`: its GS2 header is `y,,`. A
     /// server that offers one has to reject this header, as the servers here do (RFC 5802, section 6). The client also tests
     /// extensions: nobody on the way can move text between the messages. Removing the mechanism from the offer then ends the

@@ -164,6 +164,9 @@ kinds! {
         KeyLengthMismatch = RECORD_KEY_LENGTH_MISMATCH,
         /// The iteration count of the record is 0.
         ZeroIterations = ZERO_ITERATIONS,
+        /// The store of users has failed ([`ScramAuthenticator::store_error`](crate::ScramAuthenticator::store_error)).
+        /// Nothing has changed, and you can repeat the call.
+        StoreUnavailable = REFUSED_SYS_TEMP,
         /// An allocation failed. Nothing has changed, and you can repeat the call.
         OutOfMemory = OUT_OF_MEMORY,
     }
@@ -257,7 +260,7 @@ kinds! {
     }
 }
 
-/// A line of records that cannot be parsed.
+/// A line of records that cannot be parsed. Its kind is the [`source`](Error::source).
 #[derive(Clone, Copy, Debug, PartialEq, Eq)]
 pub struct ReadLinesError {
     /// The number of the line, counted from 1; 0 if an allocation failed.
@@ -269,11 +272,15 @@ pub struct ReadLinesError {
 
 impl fmt::Display for ReadLinesError {
     fn fmt(&self, f: &mut fmt::Formatter<'_>) -> fmt::Result {
-        write!(f, "Line {}: {}", self.line, self.kind)
+        write!(f, "Line {} cannot be parsed", self.line)
     }
 }
 
-impl Error for ReadLinesError {}
+impl Error for ReadLinesError {
+    fn source(&self) -> Option<&(dyn Error + 'static)> {
+        Some(&self.kind)
+    }
+}
 
 kinds! {
     /// Why SASLprep rejects a text.

@@ -35,7 +35,7 @@
 //! such as [`TcpStream::set_read_timeout`](std::net::TcpStream::set_read_timeout). The stream has to block: at
 //! [`WouldBlock`](std::io::ErrorKind::WouldBlock) the login fails.
 
-use crate::{ClientNegotiation, ConnectionError, Progress, Received, ServerNegotiation, UserRecords};
+use crate::{ClientNegotiation, ConnectionError, Progress, Received, ServerNegotiation, StoreError, UserRecords};
 use std::error::Error;
 use std::fmt;
 use std::io::{self, ErrorKind, Read, Write};
@@ -56,6 +56,9 @@ pub enum LoginError {
     /// The outcome rejected the login, such as by [`ConnectionError::RefusedAuth`] for wrong credentials. The client has
     /// received that outcome; the server has sent it, if the stream still took it.
     Rejected(ConnectionError),
+
+    /// The server could not look the user up. It has sent the outcome sys-temp, if the stream still took it.
+    Store(StoreError),
 
     /// The other side broke the protocol, could not be authenticated, or supports no mechanism of this side; or an
     /// allocation failed. It is [`ConnectionError::Ended`] if the negotiation had ended before.
@@ -85,6 +88,7 @@ impl fmt::Display for LoginError {
             LoginError::Io(_) => "the stream failed during the login",
             LoginError::Ended => "the other side ended the stream before the login was complete",
             LoginError::Rejected(_) => "the login was rejected",
+            LoginError::Store(_) => "the login was rejected for a time",
             LoginError::Connection(_) => "the login failed",
         })
     }
@@ -95,6 +99,7 @@ impl Error for LoginError {
         match self {
             LoginError::Io(why) => Some(why),
             LoginError::Ended => None,
+            LoginError::Store(why) => Some(why),
             LoginError::Rejected(why) | LoginError::Connection(why) => Some(why),
         }
     }
@@ -149,7 +154,10 @@ pub fn serve<R: UserRecords + Clone>(
     side: &mut ServerNegotiation<R>,
 ) -> Result<Served, LoginError> {
     in_progress(side)?;
-    let rest = carry(&mut stream, side)?;
+    let rest = carry(&mut stream, side).map_err(|why| match (why, side.store_error()) {
+        (LoginError::Rejected(_), Some(why)) => LoginError::Store(why.clone()),
+        (why, _) => why,
+    })?;
     Ok(Served { user: side.authenticated_user(), rest })
 }
 

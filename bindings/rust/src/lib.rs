@@ -53,6 +53,7 @@ mod stores;
 #[allow(dead_code, missing_docs)]
 #[rustfmt::skip]
 mod sys;
+mod users;
 mod version;
 
 pub use attempts::LoginAttempt;
@@ -72,11 +73,15 @@ pub use policies::ClientPolicy;
 pub use preparation::{saslprep, Unassigned};
 pub use records::{ScramRecord, StoredPassword};
 pub use rejection::Rejection;
-pub use server::{ScramAuthenticator, ScramCredentialProvider, SingleScramCredential};
+pub use server::{ScramAuthenticator, SingleScramCredential};
 pub use server_error::ServerError;
-pub use serving::{PasswordServer, PlainPasswords, ServerNegotiation, UserRecords};
+pub use serving::{PasswordServer, PlainPasswords, ServerNegotiation};
 pub use steps::{Answered, ClientSteps, ServerSteps};
 pub use stores::RecordStore;
+/// [`UserRecords`] under the name of the crate fe2o3-amqp.
+#[doc(no_inline)]
+pub use users::UserRecords as ScramCredentialProvider;
+pub use users::{StoreError, UserRecords};
 pub use version::ScramVersion;
 
 /// The iteration count of new records and of mock records, unless you choose another one.

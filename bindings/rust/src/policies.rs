@@ -2,7 +2,8 @@
 
 use crate::connection::{LentLogin, Login};
 use crate::frames::{offers, view_frame, Frame};
-use crate::{ConnectionError, Password, Progress, SaslProfile, ScramClient, ScramVersion};
+use crate::{Channel, ConnectionError, Password, Progress, SaslProfile, ScramClient, ScramVersion};
+use std::iter::once;
 
 /// The profiles by which a client may log in, from the strongest to the weakest. It selects the first one whose mechanism
 /// the server offers ([`ClientNegotiation::select`](crate::ClientNegotiation::select),
@@ -24,12 +25,15 @@ use crate::{ConnectionError, Password, Progress, SaslProfile, ScramClient, Scram
 pub struct ClientPolicy {
     strongest: SaslProfile,
     others: Vec<SaslProfile>,
+    channel: Option<Channel>,
+    must_bind: bool,
+    strict: bool,
 }
 
 impl ClientPolicy {
     /// Allows this profile only.
     pub fn new(profile: impl Into<SaslProfile>) -> Self {
-        Self { strongest: profile.into(), others: Vec::new() }
+        Self { strongest: profile.into(), others: Vec::new(), channel: None, must_bind: false, strict: false }
     }
 
     /// Allows SCRAM-SHA-512, SCRAM-SHA-256 and SCRAM-SHA-1 with a password. A text is a typed password. To change the
@@ -46,6 +50,67 @@ impl ClientPolicy {
     pub fn or(mut self, profile: impl Into<SaslProfile>) -> Self {
         self.others.push(profile.into());
         self
+    }
+
+    /// Binds this channel (RFC 5802, section 6): SCRAM with `-PLUS` is allowed too, by each SCRAM client of the policy, and
+    /// preferred to SCRAM without it. If the server offers none of these, the client says so by SCRAM (`y,,`,
+    /// [`ScramClient::channel_not_offered`]), and a server that did offer one has to reject it. Against a server that
+    /// accepts `y,,` all the same, only [`Self::must_bind`] protects. A client that binds a channel of its own
+    /// ([`ScramClient::with_channel`]) stays as it is.
+    ///
+    /// ```
+    /// use fe2o3_sasl_proved::*;
+    ///
+    /// # fn main() -> Result<(), Box<dyn std::error::Error>> {
+    /// # let exported = [7; 32];
+    /// let channel = Channel::new(ChannelKind::TlsExporter, &exported)?;
+    /// let policy = ClientPolicy::scram("user", "pencil").bind_channel(channel).strict(true);
+    /// # drop(ClientNegotiation::select(policy, None));
+    /// # Ok(())
+    /// # }
+    /// ```
+    pub fn bind_channel(self, channel: Channel) -> Self {
+        Self { channel: Some(channel), must_bind: false, ..self }
+    }
+
+    /// Binds this channel like [`Self::bind_channel`], and allows SCRAM only if it does.
+    pub fn must_bind(self, channel: Channel) -> Self {
+        Self { channel: Some(channel), must_bind: true, ..self }
+    }
+
+    /// With `is_strict`, makes each SCRAM client of the policy strict ([`ScramClient::strict`]).
+    pub fn strict(self, is_strict: bool) -> Self {
+        Self { strict: is_strict, ..self }
+    }
+
+    /// Returns the allowed profiles in their order. Those that bind the channel of the policy come before the first other
+    /// one of SCRAM.
+    fn profiles(self) -> Vec<SaslProfile> {
+        let (mut before, mut bound, mut after) = (Vec::new(), Vec::new(), Vec::new());
+        for profile in once(self.strongest).chain(self.others) {
+            let client = match profile {
+                SaslProfile::Scram(client) if self.strict => client.strict(true),
+                SaslProfile::Scram(client) => client,
+                other if bound.is_empty() && after.is_empty() => {
+                    before.push(other);
+                    continue;
+                }
+                other => {
+                    after.push(other);
+                    continue;
+                }
+            };
+            match self.channel {
+                Some(channel) if !client.binds_channel() => {
+                    bound.push(client.clone().with_channel(channel).into());
+                    if !self.must_bind {
+                        after.push(client.channel_not_offered().into());
+                    }
+                }
+                _ => after.push(client.into()),
+            }
+        }
+        before.into_iter().chain(bound).chain(after).collect()
     }
 }
 
@@ -64,10 +129,9 @@ impl Choice {
 
     /// A client that selects.
     pub(crate) fn among(policy: ClientPolicy, hostname: Option<&str>) -> Self {
-        let login = Login::new(policy.strongest, hostname);
-        let mut allowed = vec![login.clone()];
-        allowed.extend(policy.others.into_iter().map(|profile| Login::new(profile, hostname)));
-        Self { login, allowed }
+        let profiles = policy.profiles().into_iter();
+        let allowed: Vec<Login> = profiles.map(|profile| Login::new(profile, hostname)).collect();
+        Self { login: allowed[0].clone(), allowed }
     }
 
     pub(crate) fn lend(&self) -> LentLogin<'_> {

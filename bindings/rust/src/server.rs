@@ -3,12 +3,11 @@
 use crate::calls::filled;
 use crate::channels::{bound, NO_CHANNELS};
 use crate::{
-    generate_nonce, sys, Channel, ScramRecord, ScramVersion, ServerScramErrorKind, StoredPassword, UserRecords,
+    generate_nonce, sys, Channel, ScramRecord, ScramVersion, ServerScramErrorKind, StoreError, UserRecords,
     DEFAULT_SCRAM_ITERATIONS,
 };
 use std::fmt;
 use std::marker::PhantomData;
-use std::sync::Arc;
 
 pub(crate) const NO_CHALLENGE: sys::ScramServer = sys::ScramServer {
     state: 0,
@@ -38,37 +37,6 @@ const CHALLENGE_IS_OPEN: [u32; 5] = [
 /// The beginning of the GS2 header of a client that supports channel binding, and was offered no mechanism with it (RFC
 /// 5802, section 6).
 const CBIND_FLAG_Y: &[u8] = b"y,";
-
-/// A store of credentials.
-pub trait ScramCredentialProvider {
-    /// Returns the version of the credentials.
-    fn scram_version(&self) -> &ScramVersion;
-
-    /// Returns what is stored of the password of a user, whose name has no escapes; `None` if there is no such user.
-    /// The server calls it at both messages of an exchange.
-    fn get_stored_password<'a>(&'a self, username: &str) -> Option<StoredPassword<'a>>;
-
-    /// Returns the identities that a user may act for besides itself (RFC 4422, section 2), without escapes and without
-    /// NUL. The server calls it at the client-final message if it accepts identities
-    /// ([`ScramAuthenticator::accept_authzid`]).
-    fn identities(&self, _username: &str) -> Vec<String> {
-        Vec::new()
-    }
-}
-
-impl<T: ScramCredentialProvider> ScramCredentialProvider for Arc<T> {
-    fn scram_version(&self) -> &ScramVersion {
-        self.as_ref().scram_version()
-    }
-
-    fn get_stored_password<'a>(&'a self, username: &str) -> Option<StoredPassword<'a>> {
-        self.as_ref().get_stored_password(username)
-    }
-
-    fn identities(&self, username: &str) -> Vec<String> {
-        self.as_ref().identities(username)
-    }
-}
 
 /// The credential of one user.
 #[derive(Clone)]
@@ -100,27 +68,17 @@ impl SingleScramCredential {
     }
 }
 
-impl ScramCredentialProvider for SingleScramCredential {
+impl UserRecords for SingleScramCredential {
+    fn records(&self, username: &str) -> Result<Vec<ScramRecord>, StoreError> {
+        if username == self.username {
+            Ok(vec![self.record.clone()])
+        } else {
+            Ok(Vec::new())
+        }
+    }
+
     fn scram_version(&self) -> &ScramVersion {
         &self.scram_version
-    }
-
-    fn get_stored_password<'a>(&'a self, username: &str) -> Option<StoredPassword<'a>> {
-        if username == self.username {
-            Some(self.record.as_stored_password())
-        } else {
-            None
-        }
-    }
-}
-
-impl UserRecords for SingleScramCredential {
-    fn records(&self, username: &str) -> Vec<ScramRecord> {
-        if username == self.username {
-            vec![self.record.clone()]
-        } else {
-            Vec::new()
-        }
     }
 }
 
@@ -171,18 +129,21 @@ impl MockSettings {
 /// # }
 /// ```
 #[derive(Clone)]
-pub struct ScramAuthenticator<C: ScramCredentialProvider + Clone> {
+pub struct ScramAuthenticator<C: UserRecords + Clone> {
     credentials: C,
     mock: Option<MockSettings>,
     rules: Rules,
     challenged: String,
     state: sys::ScramServer,
+    store_error: Option<StoreError>,
 }
 
-impl<C: ScramCredentialProvider + Clone> ScramAuthenticator<C> {
-    /// Returns a server without an open challenge, which answers an unknown user with `None`.
+impl<C: UserRecords + Clone> ScramAuthenticator<C> {
+    /// Returns a server without an open challenge, which answers an unknown user with `None`. Its hash is
+    /// [`UserRecords::scram_version`].
     pub fn new(credentials: C) -> Self {
-        Self { credentials, mock: None, rules: Rules::NONE, challenged: String::new(), state: NO_CHALLENGE }
+        let (rules, challenged, state) = (Rules::NONE, String::new(), NO_CHALLENGE);
+        Self { credentials, mock: None, rules, challenged, state, store_error: None }
     }
 
     /// Makes the server answer an unknown user with a mock record ([`ScramRecord::mock`]), by 32 random bytes that are kept as
@@ -201,8 +162,8 @@ impl<C: ScramCredentialProvider + Clone> ScramAuthenticator<C> {
     }
 
     /// With `accept`, makes the server accept a client that names an identity to act for (RFC 5802, section 5.1). A user may
-    /// act for itself and for the identities that the store returns ([`ScramCredentialProvider::identities`]). A user
-    /// without the right gets [`ServerScramErrorKind::AuthenticationFailed`], like one with a wrong password. Such a
+    /// act for itself and for the identities that the store returns ([`UserRecords::identities`]). A user without
+    /// the right gets [`ServerScramErrorKind::AuthenticationFailed`], like one with a wrong password. Such a
     /// server tests extensions like a strict one.
     pub fn accept_authzid(mut self, accept: bool) -> Self {
         self.rules.accept_authzid = accept.into();
@@ -302,13 +263,14 @@ impl<C: ScramCredentialProvider + Clone> ScramAuthenticator<C> {
         if !CHALLENGE_IS_OPEN.contains(&self.state.state) {
             return Err(ServerScramErrorKind::IllegalAuthenticatorState);
         }
-        let record = match self.record(&self.challenged)? {
+        let challenged = self.challenged.clone();
+        let record = match self.record(&challenged)? {
             Some(record) => record,
             None => return Ok(None),
         };
         let identities = match self.rules.accept_authzid {
             0 => Vec::new(),
-            _ => self.credentials.identities(&self.challenged),
+            _ => self.credentials.identities(&self.challenged).map_err(|why| self.failed(why))?,
         };
         let identities = joined(&identities);
         let (lent, state) = (self.rules.lend(&identities), &mut self.state);
@@ -332,6 +294,12 @@ impl<C: ScramCredentialProvider + Clone> ScramAuthenticator<C> {
         .map_err(ServerScramErrorKind::of)
     }
 
+    /// Returns why the user could not be looked up, if the last call returned
+    /// [`ServerScramErrorKind::StoreUnavailable`]. You can repeat that call.
+    pub fn store_error(&self) -> Option<&StoreError> {
+        self.store_error.as_ref()
+    }
+
     /// Returns the authenticated user; `None` if no user is authenticated.
     pub fn authenticated_user(&self) -> Option<String> {
         authenticated_user(&self.state)
@@ -344,15 +312,20 @@ impl<C: ScramCredentialProvider + Clone> ScramAuthenticator<C> {
     }
 
     /// Returns the record of a user, or a mock record; `None` if there is neither.
-    fn record(&self, username: &str) -> Result<Option<ScramRecord>, ServerScramErrorKind> {
+    fn record(&mut self, username: &str) -> Result<Option<ScramRecord>, ServerScramErrorKind> {
+        self.store_error = None;
         let version = *self.credentials.scram_version();
-        if let Some(stored) = self.credentials.get_stored_password(username) {
-            return Ok(Some(ScramRecord::from_parts(version, &stored)?));
+        let records = self.credentials.records(username).map_err(|why| self.failed(why))?;
+        match (records.into_iter().find(|record| record.version() == version), &self.mock) {
+            (None, Some(settings)) => settings.record(version, username).map(Some),
+            (found, _) => Ok(found),
         }
-        match &self.mock {
-            Some(settings) => Ok(Some(settings.record(version, username)?)),
-            None => Ok(None),
-        }
+    }
+
+    /// Keeps why the store has failed.
+    fn failed(&mut self, why: StoreError) -> ServerScramErrorKind {
+        self.store_error = Some(why);
+        ServerScramErrorKind::StoreUnavailable
     }
 }
 
@@ -437,7 +410,7 @@ fn claimed_user(rules: &sys::ScramRules, client_first: &[u8]) -> Result<String, 
     String::from_utf8(name).map_err(|_| ServerScramErrorKind::Utf8Error)
 }
 
-impl<C: ScramCredentialProvider + Clone> fmt::Debug for ScramAuthenticator<C> {
+impl<C: UserRecords + Clone> fmt::Debug for ScramAuthenticator<C> {
     fn fmt(&self, f: &mut fmt::Formatter<'_>) -> fmt::Result {
         f.debug_struct("ScramAuthenticator")
             .field("scram_version", self.credentials.scram_version())

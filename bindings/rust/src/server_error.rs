@@ -2,6 +2,7 @@
 
 use crate::calls::{filled, text_of_error};
 use crate::{sys, ServerScramErrorKind};
+use std::error::Error;
 use std::fmt;
 
 /// Why a server ends an exchange, as it reports it in the place of a message (RFC 5802, section 7). The report is not
@@ -114,3 +115,5 @@ impl fmt::Display for ServerError {
         f.write_str(self.name())
     }
 }
+
+impl Error for ServerError {}

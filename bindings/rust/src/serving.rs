@@ -1,58 +1,27 @@
 //! The server's side of a connection.
 
 use crate::attempts::claim;
-use crate::calls::filled;
+use crate::calls::{filled, head};
 use crate::channels::{bound, NO_CHANNELS};
 use crate::connection::{progress_of, Progress, Received, FRESH};
 use crate::frames::view_frame;
 use crate::peeks::{end_of_input, foreign_header, peek_body, wants_nonce};
 use crate::records::ScramRecord;
 use crate::server::{acts_for, authenticated_user, joined, MockSettings, NO_CHALLENGE};
+pub(crate) use crate::users::UserRecords;
+use crate::users::{NotFound, StoreError};
 use crate::{
     generate_nonce, sys, Channel, ConnectionError, Frame, LoginAttempt, Rejection, ScramVersion,
     DEFAULT_SCRAM_ITERATIONS,
 };
-use std::collections::HashMap;
 use std::fmt;
 use std::marker::PhantomData;
-use std::sync::Arc;
 
 /// The most bytes that are sent at once: a header, and after it a frame (AMQP 1.0, part 5, section 5.3.1).
 const SENT_MOST: usize = 520;
 
-/// The records of users, of any hashes. A [`ScramCredentialProvider`](crate::ScramCredentialProvider) is another trait, for
-/// the one hash of a [`ScramAuthenticator`](crate::ScramAuthenticator): a store for both implements both.
-///
-/// The calls return no error. If your store can fail, read the records before the call of the library, and close the
-/// connection on a failure: without records the client reads that its credentials are wrong.
-pub trait UserRecords {
-    /// Returns the records of a user, whose name has no escapes; none if there is no such user. SCRAM with a hash uses
-    /// the first record of that hash, and PLAIN the first record. Do not add mock records: see
-    /// [`PasswordServer::mock_unknown_users`].
-    fn records(&self, username: &str) -> Vec<ScramRecord>;
-
-    /// Returns the identities that a user may act for besides itself, in SCRAM and PLAIN (RFC 4422, section 2), without
-    /// escapes and without NUL. It is called only for a server that accepts identities ([`PasswordServer::accept_authzid`]).
-    fn identities(&self, _username: &str) -> Vec<String> {
-        Vec::new()
-    }
-}
-
-impl<T: UserRecords + ?Sized> UserRecords for Arc<T> {
-    fn records(&self, username: &str) -> Vec<ScramRecord> {
-        self.as_ref().records(username)
-    }
-
-    fn identities(&self, username: &str) -> Vec<String> {
-        self.as_ref().identities(username)
-    }
-}
-
-impl UserRecords for HashMap<String, Vec<ScramRecord>> {
-    fn records(&self, username: &str) -> Vec<ScramRecord> {
-        self.get(username).cloned().unwrap_or_default()
-    }
-}
+/// The frame of the outcome sys-temp (AMQP 1.0, part 5, section 5.3.3.6).
+const TRY_AGAIN_LATER: [u8; 16] = [0, 0, 0, 16, 2, 1, 0, 0, 0, 0x53, 0x44, 0xc0, 3, 1, 0x50, 4];
 
 /// Returns the value of the library for SCRAM with this hash.
 fn offer_of(version: ScramVersion) -> u32 {
@@ -116,11 +85,13 @@ pub struct PasswordServer<R: UserRecords + Clone> {
     accept_authzid: u32,
 }
 
-/// The records of a name: those of the store, and after them mock records.
+/// The records of a name: those of the store, and after them mock records. Also the identities that the user may act for,
+/// joined.
 #[derive(Default)]
 pub(crate) struct FoundRecords {
     pub(crate) all: Vec<sys::ScramRecord>,
     own: usize,
+    identities: Vec<u8>,
 }
 
 impl FoundRecords {
@@ -256,27 +227,33 @@ impl<R: UserRecords + Clone> PasswordServer<R> {
     }
 
     /// Returns the records of the claimed user, and after them a mock record for each other offered hash.
-    pub(crate) fn records(&self, name: Option<&str>) -> Result<FoundRecords, ConnectionError> {
+    pub(crate) fn records(&self, name: Option<&str>) -> Result<FoundRecords, NotFound> {
         let Some(name) = name else { return Ok(FoundRecords::default()) };
-        let mut records = self.records.records(name);
+        let mut records = self.records.records(name)?;
         let own = records.len();
-        let Some(mock) = &self.mock else { return Ok(FoundRecords { all: structs(&records), own }) };
-        for version in HASHES {
-            let is_offered = self.mechanisms & offer_of(version) != 0;
-            if is_offered && records.iter().all(|record| record.version() != version) {
-                let record = mock.record(version, name);
-                records.push(record.map_err(|why| ConnectionError::of(why.number()))?);
+        let identities = self.identities_of(name)?;
+        if let Some(mock) = &self.mock {
+            for version in HASHES {
+                let is_offered = self.mechanisms & offer_of(version) != 0;
+                if is_offered && records.iter().all(|record| record.version() != version) {
+                    records.push(mock.record(version, name)?);
+                }
             }
         }
-        Ok(FoundRecords { all: structs(&records), own })
+        Ok(FoundRecords { all: structs(&records), own, identities })
     }
 
-    /// Returns the identities that the claimed user may act for, joined; none if the server accepts no identity.
-    pub(crate) fn identities(&self, name: Option<&str>) -> Vec<u8> {
-        match name {
-            Some(name) if self.accept_authzid != 0 => joined(&self.records.identities(name)),
-            _ => Vec::new(),
+    /// Returns the identities that a user may act for, joined; none if the server accepts no identity.
+    fn identities_of(&self, name: &str) -> Result<Vec<u8>, StoreError> {
+        match self.accept_authzid {
+            0 => Ok(Vec::new()),
+            _ => self.records.identities(name).map(|identities| joined(&identities)),
         }
+    }
+
+    /// Returns the identities of the claimed user, whom [`Self::records`] has found.
+    pub(crate) fn identities(&self, name: Option<&str>) -> Vec<u8> {
+        name.and_then(|name| self.identities_of(name).ok()).unwrap_or_default()
     }
 
     /// Returns the configuration with the records of a user, and the identities that the user may act for.
@@ -343,13 +320,14 @@ pub struct ServerNegotiation<R: UserRecords + Clone> {
     state: sys::SaslServer,
     attempt: Option<LoginAttempt>,
     rejection: Option<Rejection>,
+    store_error: Option<StoreError>,
 }
 
 impl<R: UserRecords + Clone> ServerNegotiation<R> {
     /// Returns a new connection to this server.
     pub fn new(server: PasswordServer<R>) -> Self {
         let state = sys::SaslServer { connection: FRESH, scram: NO_CHALLENGE };
-        Self { config: server, state, attempt: None, rejection: None }
+        Self { config: server, state, attempt: None, rejection: None, store_error: None }
     }
 
     /// Sets whether the server accepts frames with an extended header, like
@@ -359,7 +337,8 @@ impl<R: UserRecords + Clone> ServerNegotiation<R> {
     }
 
     /// Takes received bytes, until all are used or the login ends. After an error the frames before the one that failed
-    /// have been answered.
+    /// have been answered. If the store of users fails, the login ends with the outcome sys-temp
+    /// ([`Self::store_error`]).
     ///
     /// # Panics
     ///
@@ -369,11 +348,12 @@ impl<R: UserRecords + Clone> ServerNegotiation<R> {
         while received.taken < bytes.len() && self.progress() == Progress::InProgress {
             let rest = &bytes[received.taken..];
             let name = self.named(rest)?;
-            let records = self.config.records(name.as_deref())?;
-            let of_mock = records.mock_rejection(self.state.scram.version);
             let body = peek_body(&self.state.connection, rest)?;
-            let (taken, sent) = self.step(rest, name.as_deref(), &records.all)?;
-            self.rejection = Rejection::of(self.state.scram.rejection, of_mock);
+            let (taken, sent) = match self.config.records(name.as_deref()) {
+                Ok(found) => self.step(rest, name.as_deref(), &found)?,
+                Err(NotFound::Store(why)) => self.reject_for_now(rest, why),
+                Err(NotFound::Library(why)) => return Err(why),
+            };
             if let Some(body) = body {
                 claim(&mut self.attempt, &body, name.as_deref());
             }
@@ -381,6 +361,19 @@ impl<R: UserRecords + Clone> ServerNegotiation<R> {
             received.sent.extend(sent);
         }
         Ok(received)
+    }
+
+    /// Ends the login by the outcome sys-temp. Returns how many bytes the frame took that names the user.
+    fn reject_for_now(&mut self, bytes: &[u8], why: StoreError) -> (usize, Vec<u8>) {
+        let held = head(&self.state.connection.held, self.state.connection.held_len as usize);
+        let size = held.iter().chain(bytes).take(4).fold(0, |size, byte| size << 8 | usize::from(*byte));
+        let taken = size.saturating_sub(held.len()).min(bytes.len());
+        let extended_headers = self.state.connection.extended_headers;
+        let (progress, reason) = (sys::FAILED, sys::REFUSED_SYS_TEMP);
+        let connection = sys::Connection { progress, why: reason, extended_headers, ..FRESH };
+        self.state = sys::SaslServer { connection, scram: NO_CHALLENGE };
+        self.store_error = Some(why);
+        (taken, TRY_AGAIN_LATER.to_vec())
     }
 
     /// Returns the user that the next frame claims, if these bytes complete one that does.
@@ -406,11 +399,11 @@ impl<R: UserRecords + Clone> ServerNegotiation<R> {
         &mut self,
         bytes: &[u8],
         name: Option<&str>,
-        records: &[sys::ScramRecord],
+        found: &FoundRecords,
     ) -> Result<(usize, Vec<u8>), ConnectionError> {
         let nonce = generate_nonce();
-        let identities = self.config.identities(name);
-        let lent = self.config.lend(name, records, &identities);
+        let of_mock = found.mock_rejection(self.state.scram.version);
+        let lent = self.config.lend(name, &found.all, &found.identities);
         let state = &mut self.state;
         let mut taken = 0;
         let sent = filled(SENT_MOST, |out, len| {
@@ -432,6 +425,7 @@ impl<R: UserRecords + Clone> ServerNegotiation<R> {
             }
         })
         .map_err(ConnectionError::of)?;
+        self.rejection = Rejection::of(self.state.scram.rejection, of_mock);
         Ok((taken, sent))
     }
 
@@ -476,6 +470,12 @@ impl<R: UserRecords + Clone> ServerNegotiation<R> {
         self.rejection
     }
 
+    /// Returns why the user could not be looked up, if the login has ended for that reason: its progress is then
+    /// [`ConnectionError::RefusedSysTemp`], and the client was sent that outcome.
+    pub fn store_error(&self) -> Option<&StoreError> {
+        self.store_error.as_ref()
+    }
+
     /// Returns the authenticated user; `None` before the login is complete, and for ANONYMOUS.
     pub fn authenticated_user(&self) -> Option<String> {
         authenticated_user(&self.state.scram)
@@ -502,7 +502,7 @@ mod tests {
     /// What a server lends to the library for a name: the iteration count of the configuration, and the hash, the salt
     /// length and the iteration count of each record. PLAIN takes the first.
     fn lent(server: &PasswordServer<RecordStore>, name: &str) -> (u32, Vec<(u32, u32, u32)>) {
-        let records = server.records(Some(name)).unwrap().all;
+        let records = server.records(Some(name)).map_err(ConnectionError::from).unwrap().all;
         let forms = records.iter().map(|record| (record.version, record.salt_len, record.iterations)).collect();
         (server.lend(Some(name), &records, &[]).config.iterations, forms)
     }

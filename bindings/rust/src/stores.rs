@@ -2,8 +2,8 @@
 
 use crate::records::NO_RECORD;
 use crate::{
-    sys, ReadLinesError, ReadLinesErrorKind, RecordError, ScramRecord, ScramVersion, UserRecords, DEFAULT_SALT_LEN,
-    DEFAULT_SCRAM_ITERATIONS,
+    sys, ReadLinesError, ReadLinesErrorKind, RecordError, ScramRecord, ScramVersion, StoreError, UserRecords,
+    DEFAULT_SALT_LEN, DEFAULT_SCRAM_ITERATIONS,
 };
 use std::collections::HashMap;
 use std::fmt;
@@ -100,8 +100,8 @@ impl RecordStore {
 
 /// The records of a user, those of SHA-256 first, of which PLAIN takes the first.
 impl UserRecords for RecordStore {
-    fn records(&self, username: &str) -> Vec<ScramRecord> {
-        self.users.get(username).cloned().unwrap_or_default()
+    fn records(&self, username: &str) -> Result<Vec<ScramRecord>, StoreError> {
+        Ok(self.users.get(username).cloned().unwrap_or_default())
     }
 }
 

@@ -937,18 +937,18 @@ pub struct SaslFrameView {
 
 /// The sizes of the structs here, in the order of the numbers of `fe2o3_size`.
 pub const SIZES: [usize; 12] = [
-    size_of::<Login>(),
-    size_of::<ScramClient>(),
-    size_of::<ScramKeys>(),
-    size_of::<ScramServer>(),
-    size_of::<ScramRecord>(),
-    size_of::<Connection>(),
-    size_of::<SaslLogin>(),
-    size_of::<SaslClient>(),
-    size_of::<SaslFrameView>(),
-    size_of::<SaslServerConfig>(),
-    size_of::<SaslServer>(),
-    size_of::<ScramRules>(),
+    core::mem::size_of::<Login>(),
+    core::mem::size_of::<ScramClient>(),
+    core::mem::size_of::<ScramKeys>(),
+    core::mem::size_of::<ScramServer>(),
+    core::mem::size_of::<ScramRecord>(),
+    core::mem::size_of::<Connection>(),
+    core::mem::size_of::<SaslLogin>(),
+    core::mem::size_of::<SaslClient>(),
+    core::mem::size_of::<SaslFrameView>(),
+    core::mem::size_of::<SaslServerConfig>(),
+    core::mem::size_of::<SaslServer>(),
+    core::mem::size_of::<ScramRules>(),
 ];
 
 extern "C" {

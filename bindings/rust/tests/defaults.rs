@@ -266,8 +266,8 @@ fn hashes_of_a_store() {
     }
     let versions = |records: Vec<ScramRecord>| records.iter().map(ScramRecord::version).collect::<Vec<_>>();
     let store = parse(&of("user", &[Sha1, Sha512, Sha256]));
-    assert_eq!(versions(store.records("user")), [Sha256, Sha512, Sha1]);
-    assert!(store.records("nobody").is_empty());
+    assert_eq!(versions(store.records("user").unwrap()), [Sha256, Sha512, Sha1]);
+    assert!(store.records("nobody").unwrap().is_empty());
     assert_eq!(format!("{store:?}"), "RecordStore { users: 1, .. }");
 }
 
@@ -310,7 +310,7 @@ fn lines_that_are_rejected() {
     ] {
         let why = RecordStore::parse_lines(&lines).unwrap_err();
         assert_eq!((why.line, why.kind), (line, kind));
-        assert_eq!(why.to_string(), format!("Line {line}: {kind}"));
+        assert_eq!(why.to_string(), format!("Line {line} cannot be parsed"));
     }
 }
 

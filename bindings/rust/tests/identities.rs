@@ -77,27 +77,17 @@ const VECTORS: [Vector; 6] = [
 #[derive(Clone)]
 struct Store(SingleScramCredential, Vec<String>);
 
-impl ScramCredentialProvider for Store {
-    fn scram_version(&self) -> &ScramVersion {
-        self.0.scram_version()
-    }
-
-    fn get_stored_password<'a>(&'a self, username: &str) -> Option<StoredPassword<'a>> {
-        self.0.get_stored_password(username)
-    }
-
-    fn identities(&self, _username: &str) -> Vec<String> {
-        self.1.clone()
-    }
-}
-
 impl UserRecords for Store {
-    fn records(&self, username: &str) -> Vec<ScramRecord> {
+    fn records(&self, username: &str) -> Result<Vec<ScramRecord>, StoreError> {
         self.0.records(username)
     }
 
-    fn identities(&self, _username: &str) -> Vec<String> {
-        self.1.clone()
+    fn identities(&self, _username: &str) -> Result<Vec<String>, StoreError> {
+        Ok(self.1.clone())
+    }
+
+    fn scram_version(&self) -> &ScramVersion {
+        self.0.scram_version()
     }
 }
 

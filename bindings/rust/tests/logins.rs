@@ -506,29 +506,17 @@ fn what_a_server_refuses_last() {
     assert_eq!(client.validate_server_final(&server_final), Err(ScramErrorKind::IllegalClientState));
 }
 
-/// A store that lends what is no record of its version.
-#[derive(Clone)]
-struct BadStore(u32, usize, usize);
-
-impl ScramCredentialProvider for BadStore {
-    fn scram_version(&self) -> &ScramVersion {
-        &ScramVersion::Sha256
-    }
-
-    fn get_stored_password<'a>(&'a self, _username: &str) -> Option<StoredPassword<'a>> {
-        let BadStore(iterations, salt_len, key_len) = *self;
-        let (salt, key) = (&[0; 200][..salt_len], &[0; 64][..key_len]);
-        Some(StoredPassword { salt, iterations, stored_key: key, server_key: key })
-    }
-}
-
 #[test]
-fn what_a_store_may_not_lend() {
-    let first = |store| ScramAuthenticator::new(store).compute_server_first_message(b"n,,n=user,r=x");
-    assert_eq!(first(BadStore(0, 16, 32)), Err(ServerScramErrorKind::ZeroIterations));
-    assert_eq!(first(BadStore(1, 129, 32)), Err(ServerScramErrorKind::TooLong));
-    assert_eq!(first(BadStore(1, 16, 20)), Err(ServerScramErrorKind::KeyLengthMismatch));
-    assert!(matches!(first(BadStore(1, 16, 32)), Ok(Some(_))));
+fn parts_that_are_no_record() {
+    let made = |iterations, salt_len, key_len| {
+        let (salt, key) = (&[0; 200][..salt_len], &[0; 64][..key_len]);
+        let parts = StoredPassword { salt, iterations, stored_key: key, server_key: key };
+        ScramRecord::from_parts(ScramVersion::Sha256, &parts).map(drop).map_err(ServerScramErrorKind::from)
+    };
+    assert_eq!(made(0, 16, 32), Err(ServerScramErrorKind::ZeroIterations));
+    assert_eq!(made(1, 129, 32), Err(ServerScramErrorKind::TooLong));
+    assert_eq!(made(1, 16, 20), Err(ServerScramErrorKind::KeyLengthMismatch));
+    assert_eq!(made(1, 16, 32), Ok(()));
 }
 
 #[test]

@@ -1,9 +1,9 @@
 //! What the two programs share: base64, users' lines, and how a login is told.
 
 use fe2o3_sasl_proved::{
-    generate_nonce, Channel, ChannelKind, ScramAuthenticator, ScramCredentialProvider, ScramRecord, ScramVersion,
+    generate_nonce, Channel, ChannelKind, ScramAuthenticator, ScramRecord, ScramVersion,
 };
-use fe2o3_sasl_proved::{PasswordServer, StoredPassword, UserRecords};
+use fe2o3_sasl_proved::{PasswordServer, StoreError, UserRecords};
 use std::io::BufRead;
 use std::sync::Arc;
 
@@ -124,27 +124,17 @@ impl Users {
 }
 
 impl UserRecords for Users {
-    fn records(&self, username: &str) -> Vec<ScramRecord> {
-        self.records.iter().filter(|(name, _)| name == username).map(|(_, record)| record.clone()).collect()
+    fn records(&self, username: &str) -> Result<Vec<ScramRecord>, StoreError> {
+        let of_user = self.records.iter().filter(|(name, _)| name == username);
+        Ok(of_user.map(|(_, record)| record.clone()).collect())
     }
 
-    fn identities(&self, _username: &str) -> Vec<String> {
-        self.identities.clone()
+    fn identities(&self, _username: &str) -> Result<Vec<String>, StoreError> {
+        Ok(self.identities.clone())
     }
-}
 
-impl ScramCredentialProvider for Users {
     fn scram_version(&self) -> &ScramVersion {
         &self.version
-    }
-
-    fn get_stored_password<'a>(&'a self, username: &str) -> Option<StoredPassword<'a>> {
-        let (_, record) = self.records.iter().find(|(name, _)| name == username)?;
-        Some(record.as_stored_password())
-    }
-
-    fn identities(&self, _username: &str) -> Vec<String> {
-        self.identities.clone()
     }
 }
 

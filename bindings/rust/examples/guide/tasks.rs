@@ -45,8 +45,9 @@ impl Users {
 }
 
 impl UserRecords for Users {
-    fn records(&self, username: &str) -> Vec<ScramRecord> {
-        self.0.read().unwrap().get(username).cloned().unwrap_or_default()
+    fn records(&self, username: &str) -> Result<Vec<ScramRecord>, StoreError> {
+        let users = self.0.read().map_err(|why| StoreError::new(why.to_string()))?;
+        Ok(users.get(username).cloned().unwrap_or_default())
     }
 }
 
@@ -91,12 +92,12 @@ pub struct Acting {
 }
 
 impl UserRecords for Acting {
-    fn records(&self, username: &str) -> Vec<ScramRecord> {
+    fn records(&self, username: &str) -> Result<Vec<ScramRecord>, StoreError> {
         self.users.records(username)
     }
 
-    fn identities(&self, username: &str) -> Vec<String> {
-        self.rights.get(username).cloned().unwrap_or_default()
+    fn identities(&self, username: &str) -> Result<Vec<String>, StoreError> {
+        Ok(self.rights.get(username).cloned().unwrap_or_default())
     }
 }
 

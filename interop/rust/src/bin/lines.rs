@@ -150,7 +150,7 @@ fn serve_scram(lines: &mut Lines, first: &[u8], users: Users, options: &[&str]) 
 /// Tests a message of PLAIN, and returns the name of its user, and the identity that it acts for if the server accepts one.
 fn serve_plain(message: &[u8], users: &Users, options: &[&str]) -> Result<String, ServerScramErrorKind> {
     let name = plain_claimed_user(message).unwrap_or_default();
-    let record = users.records(&name).pop();
+    let record = users.records(&name)?.pop();
     let identities: Vec<String> = identities(options).into_iter().map(String::from).collect();
     let allowed = accepts_identities(options).then_some(&identities[..]);
     plain_verify(record.as_ref(), passwords(options), 4096, allowed, message)?;
