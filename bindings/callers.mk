@@ -39,7 +39,8 @@ $(if $(HEAP_$(HEAP)),,$(error HEAP is wiping or plain))
 
 WARNINGS = -Wall -Wextra -Wpedantic
 SANITIZERS = -g -O1 -fsanitize=address,undefined -fno-sanitize-recover=all
-PROGRAMS = fits guide_logins scram steps connections channels threads random $(SALTED)
+PROGRAMS = fits inits nulls guide_logins scram steps connections channels threads random $(SALTED)
+CXX_STANDARDS = c++11 c++17 c++20
 # salted.c salts with OpenSSL, and is left out where there is none to compile with.
 SALTED := $(shell printf '\043include <openssl/evp.h>\n' | $(CC) -E -x c - > /dev/null 2>&1 && echo salted)
 KINDS = plain shared sanitized
@@ -127,17 +128,24 @@ header-check:
 
 build/callers/%_plain: bindings/c/%.c $(HEADER) build/libfe2o3_sasl.a
 	@mkdir -p $(@D)
-	$(CC) -std=c99 $(WARNINGS) -O2 -pthread -o $@ $< build/libfe2o3_sasl.a $(LDLIBS)
+	$(CC) -std=c99 $(WARNINGS) $(CPPFLAGS) -O2 -pthread -o $@ $< build/libfe2o3_sasl.a $(LDLIBS)
 
 build/callers/%_shared: bindings/c/%.c $(HEADER) build/libfe2o3_sasl.so
 	@mkdir -p $(@D)
-	$(CC) -std=c99 $(WARNINGS) -O2 -pthread -o $@ $< -Lbuild -lfe2o3_sasl $(LDLIBS)
+	$(CC) -std=c99 $(WARNINGS) $(CPPFLAGS) -O2 -pthread -o $@ $< -Lbuild -lfe2o3_sasl $(LDLIBS)
 
 build/callers/%_sanitized: bindings/c/%.c $(HEADER) build/libfe2o3_sasl.a
 	@mkdir -p $(@D)
-	$(CC) -std=c99 $(WARNINGS) $(SANITIZERS) -pthread -o $@ $< build/libfe2o3_sasl.a $(LDLIBS)
+	$(CC) -std=c99 $(WARNINGS) $(CPPFLAGS) $(SANITIZERS) -pthread -o $@ $< build/libfe2o3_sasl.a $(LDLIBS)
 
 $(KINDS:%=build/callers/guide_logins_%): bindings/c/guide.c
+
+# `INIT(NAME, STRUCT)` for each struct of the header.
+build/callers/inits.h: $(HEADER)
+	@mkdir -p $(@D)
+	sed -n 's/^struct fe2o3_\(.*\) {$$/INIT(\U\1\E, struct fe2o3_\1)/p' $< > $@
+$(KINDS:%=build/callers/inits_%): build/callers/inits.h
+$(KINDS:%=build/callers/inits_%): CPPFLAGS += -Ibuild/callers
 
 build/callers/salted_plain build/callers/salted_shared build/callers/salted_sanitized: LDLIBS += -lcrypto
 
@@ -188,8 +196,11 @@ callers: header-check $(foreach kind,$(KINDS),$(PROGRAMS:%=build/callers/%_$(kin
     build/callers/memory_plain build/callers/memory_sanitized \
     $(foreach kind,plain shared unwiped,build/callers/secrets_$(kind)) build/callers/frames build/callers/frames_unwiped \
     build/callers/depths build/callers/constant_time
-	$(CC) -std=c99 $(WARNINGS) -fsyntax-only -x c $(HEADER)
-	$(CXX) $(WARNINGS) -fsyntax-only -x c++ $(HEADER)
+	$(CC) -std=c99 $(WARNINGS) -Werror -fsyntax-only -x c $(HEADER)
+	@for standard in $(CXX_STANDARDS); do \
+	    echo "the header and its initializers as $$standard"; \
+	    $(CXX) -std=$$standard $(WARNINGS) -Werror -fsyntax-only -Ibuild/callers -x c++ bindings/c/inits.c || exit 1; \
+	done
 	sed -n 's/^[a-z0-9_]* \(fe2o3_[a-z0-9_]*\)(.*/\1/p' $(HEADER) | LC_ALL=C sort > build/callers/declared
 	nm -D --defined-only build/libfe2o3_sasl.so | sed 's/.* //' | LC_ALL=C sort | diff build/callers/declared -
 	@for program in $(PROGRAMS); do for kind in $(KINDS); do \

@@ -117,9 +117,8 @@ int main(int count, char **words)
 {
     char password[1024];
     uint8_t out[512];
-    struct fe2o3_scram_keys no_keys = {0};
-    struct fe2o3_sasl_client client = {0};
-    struct fe2o3_sasl_login login = {0};
+    struct fe2o3_sasl_client client = FE2O3_SASL_CLIENT_INIT;
+    struct fe2o3_sasl_login login = FE2O3_SASL_LOGIN_INIT;
     const char *acts_for = count > 5 && strncmp(words[count - 1], "for:", 4) == 0 ? words[--count] + 4 : "";
     int by_challenge = count == 6 && strcmp(words[5], "challenge") == 0;
     size_t which = count == 5 || by_challenge ? known(words[3]) : known("");
@@ -146,7 +145,6 @@ int main(int count, char **words)
     login.login.acts_for_len = strlen(acts_for);
     login.login.password = (const uint8_t *)password;
     login.login.password_len = strlen(password);
-    login.login.keys = &no_keys;
     channel = connected(words[1], words[2]);
     answer = channel < 0 ? -1 : negotiate(channel, &login, &client, out);
     if (channel >= 0)

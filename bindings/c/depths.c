@@ -19,11 +19,11 @@
 #define MOST (96 * 1024)
 #define ROUND 1024
 #define PAINT 0xb7
-/* (the frames of the functions here, and what is left of the stack at its end) */
-#define OWN 256
+/* (the frames of the functions here and of a wrapper with a copy of a struct, and what is left of the stack at its end) */
+#define OWN 896
 #define END 65536
-/* (what is left of a pad below OWN and the frame of a wrapper) */
-#define FREE (PAD / 4)
+/* (what is left of a pad below OWN, of a wrapper with a small frame) */
+#define FREE (PAD / 8)
 
 #define DEPTH(name, bytes) {#name, bytes, 0, PAD},
 static struct measured {

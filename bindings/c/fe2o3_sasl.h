@@ -10,13 +10,13 @@
  * What you have to ensure, since no call can test it:
  *
  * - Each pointer is valid for as many bytes as its type, or the length after it, says, and for no more than
- *   PTRDIFF_MAX. No pointer is null, even if its length is 0 (FE2O3_NONE is an address and the length 0), and none in a
- *   struct: `keys` of a login by password points to a struct of zeros.
+ *   PTRDIFF_MAX. It may be null, or any value, if the length after it is 0, also in a struct. `keys` of a login may be null:
+ *   there are none. No other pointer is null.
  * - What a call writes to (`out`, its length, each struct that is not const) does not overlap its other arguments. What
  *   a call only reads may overlap, and other threads may read it meanwhile.
  * - A struct that a call writes to is used by one call at a time. Any thread may call, but no signal handler.
- * - A struct is set to zeros before its first use, or to its FE2O3_.._INIT if it has pointers. All zeros is a client
- *   that has sent nothing, a server without an open challenge, a connection that has received nothing, or no keys.
+ * - A struct is set to zeros before its first use: by its FE2O3_.._INIT, or by `memset`. All zeros is a client that has
+ *   sent nothing, a server without an open challenge, a connection that has received nothing, no keys, or no options.
  * - malloc, realloc and free are those of C, and there is enough stack. A call uses and clears at most 96 KiB of it.
  *
  * Numbers, bytes, and lengths inside structs may have any value. So any bit pattern of a struct without pointers is
@@ -546,8 +546,8 @@ struct fe2o3_text {
     const uint8_t *bytes;
     size_t bytes_len;
 };
-/* Its value before its first use. */
-#define FE2O3_TEXT_INIT { (const uint8_t *)"", 0 }
+/* All zeros. */
+#define FE2O3_TEXT_INIT { NULL, 0 }
 
 /* Returns the version of the library: 10000 times the major, 100 times the minor, and the patch number. */
 uint32_t fe2o3_version(void);
@@ -601,6 +601,8 @@ struct fe2o3_scram_record {
     /* The ServerKey, with as many bytes as a digest of the hash. */
     uint8_t server_key[64];
 };
+/* All zeros. */
+#define FE2O3_SCRAM_RECORD_INIT { 0, 0, 0, { 0 }, { 0 }, { 0 } }
 
 /* Computes the record of a password. `form` is one of enum fe2o3_password_form. A client logs in with exactly the text
  * of which the record was made.
@@ -751,6 +753,8 @@ struct fe2o3_scram_keys {
     /* The ServerKey, with as many bytes as a digest of the hash. */
     uint8_t server_key[64];
 };
+/* All zeros. */
+#define FE2O3_SCRAM_KEYS_INIT { 0, 0, 0, { 0 }, { 0 }, { 0 } }
 
 /* Derives the keys of a password, for a server that uses this salt and iteration count. `form` is one of enum
  * fe2o3_password_form. */
@@ -839,6 +843,8 @@ struct fe2o3_login {
      */
     uint8_t channel_data[64];
 };
+/* All zeros. */
+#define FE2O3_LOGIN_INIT { 0, 0, 0, 0, 0, NULL, 0, NULL, 0, NULL, 0, NULL, 0, 0, 0, 0, 0, { 0 } }
 
 /* The state of a SCRAM client between calls. All zeros is a client that has sent nothing.
  *
@@ -856,6 +862,8 @@ struct fe2o3_scram_client {
     /* The keys with which the client-final message was computed. */
     struct fe2o3_scram_keys keys;
 };
+/* All zeros. */
+#define FE2O3_SCRAM_CLIENT_INIT { 0, 0, { 0 }, { 0 }, { 0, 0, 0, { 0 }, { 0 }, { 0 } } }
 
 /* Writes the client-first message. This starts a new exchange, whatever the state of the client is. `nonce` is 32
  * fresh random bytes. With FE2O3_CHANNEL_BOUND name the mechanism with `-PLUS` to the server, such as
@@ -940,6 +948,8 @@ struct fe2o3_scram_server {
      * only names it; afterwards the user may act for it. */
     uint8_t acts_for[256];
 };
+/* All zeros. */
+#define FE2O3_SCRAM_SERVER_INIT { 0, 0, 0, 0, 0, 0, 0, 0, { 0 }, { 0 }, { 0 }, { 0 }, { 0 } }
 
 /* What identifies the channel of a server (RFC 5802, section 6). All zeros is a server that binds no channel. */
 struct fe2o3_server_channels {
@@ -963,6 +973,8 @@ struct fe2o3_server_channels {
      * the extended master secret. */
     uint8_t tls_exporter[64];
 };
+/* All zeros. */
+#define FE2O3_SERVER_CHANNELS_INIT { 0, 0, { 0 }, 0, { 0 }, 0, { 0 } }
 
 /* What a SCRAM server accepts, where RFC 5802 leaves it a choice. You lend the struct to each call of an exchange,
  * always with the same values. */
@@ -997,8 +1009,8 @@ struct fe2o3_scram_rules {
     const uint8_t *identities;
     size_t identities_len;
 };
-/* Its value without options. */
-#define FE2O3_SCRAM_RULES_INIT { 0, 0, { 0 }, 0, 0, (const uint8_t *)"", 0 }
+/* All zeros. */
+#define FE2O3_SCRAM_RULES_INIT { 0, 0, { 0, 0, { 0 }, 0, { 0 }, 0, { 0 } }, 0, 0, NULL, 0 }
 
 /* Writes the user name that a client-first message claims, without escapes. Nobody is authenticated yet: use it only
  * to look up the record. */
@@ -1288,6 +1300,8 @@ struct fe2o3_connection {
      * as one below 2 or after the end of the frame does in any case. A call that receives bytes writes 0 or 1. */
     uint32_t extended_headers;
 };
+/* All zeros. */
+#define FE2O3_CONNECTION_INIT { 0, 0, 0, 0, { 0 }, 0 }
 
 /* How a client logs in on a connection. You lend the struct to each call, always with the same values. */
 struct fe2o3_sasl_login {
@@ -1300,6 +1314,8 @@ struct fe2o3_sasl_login {
      * name, which may be empty. ANONYMOUS and EXTERNAL use nothing of it. */
     struct fe2o3_login login;
 };
+/* All zeros. */
+#define FE2O3_SASL_LOGIN_INIT { 0, NULL, 0, { 0, 0, 0, 0, 0, NULL, 0, NULL, 0, NULL, 0, NULL, 0, 0, 0, 0, 0, { 0 } } }
 
 /* The client's side of a connection between calls. All zeros is a connection that has received nothing. */
 struct fe2o3_sasl_client {
@@ -1309,6 +1325,8 @@ struct fe2o3_sasl_client {
      * FE2O3_EXTERNAL_AS its `state` is FE2O3_SCRAM_CLIENT_FIRST_SENT after the init, until the response. */
     struct fe2o3_scram_client scram;
 };
+/* All zeros. */
+#define FE2O3_SASL_CLIENT_INIT { { 0, 0, 0, 0, { 0 }, 0 }, { 0, 0, { 0 }, { 0 }, { 0, 0, 0, { 0 }, { 0 }, { 0 } } } }
 
 /* Writes the SASL protocol header, with which a client begins a connection. */
 uint32_t fe2o3_sasl_client_open(uint8_t *out, size_t out_size, size_t *out_len);
@@ -1378,6 +1396,9 @@ struct fe2o3_sasl_server_config {
     const uint8_t *identities;
     size_t identities_len;
 };
+/* All zeros. */
+#define FE2O3_SASL_SERVER_CONFIG_INIT { 0, 0, NULL, 0, NULL, 0, NULL, 0, { 0, 0, { 0 }, 0, { 0 }, 0, { 0 } }, 0, NULL, \
+    0 }
 
 /* The server's side of a connection between calls. All zeros is a connection that has received nothing. */
 struct fe2o3_sasl_server {
@@ -1388,6 +1409,9 @@ struct fe2o3_sasl_server {
      * (`fe2o3_scram_server_acts_for`). ANONYMOUS has no user. */
     struct fe2o3_scram_server scram;
 };
+/* All zeros. */
+#define FE2O3_SASL_SERVER_INIT { { 0, 0, 0, 0, { 0 }, 0 }, { 0, 0, 0, 0, 0, 0, 0, 0, { 0 }, { 0 }, { 0 }, { 0 }, { 0 } \
+    } }
 
 /* Writes the user name that the next frame claims, if `bytes` complete it: that of an init for SCRAM or PLAIN, for a
  * response that of the open challenge of SCRAM, and for the response to an empty challenge that of the initial
@@ -1477,8 +1501,8 @@ struct fe2o3_sasl_frame_view {
     const uint8_t *hostname;
     size_t hostname_len;
 };
-/* Its value before its first use. */
-#define FE2O3_SASL_FRAME_VIEW_INIT { 0, 0, 0, 0, 0, 0, (const uint8_t *)"", 0, (const uint8_t *)"", 0, (const uint8_t *)"", 0 }
+/* All zeros. */
+#define FE2O3_SASL_FRAME_VIEW_INIT { 0, 0, 0, 0, 0, 0, NULL, 0, NULL, 0, NULL, 0 }
 
 /* Takes a frame body that the server sent, without the four bytes of the frame's size, and writes the body to send:
  * the init for the mechanisms, the response for a challenge, and nothing (`out_len` is 0) for the outcome. `out`

@@ -41,8 +41,8 @@ static int send_all(int sock, const uint8_t *bytes, size_t len)
 /* The texts have to live as long as the login. */
 static struct fe2o3_sasl_login new_login(const char *host, const char *user, const char *password)
 {
-    static const struct fe2o3_scram_keys no_keys = {0};
-    struct fe2o3_sasl_login login = {.mechanism = FE2O3_SCRAM};
+    struct fe2o3_sasl_login login = FE2O3_SASL_LOGIN_INIT;
+    login.mechanism = FE2O3_SCRAM;
     login.hostname = (const uint8_t *)host;
     login.hostname_len = strlen(host);
     login.login.version = FE2O3_SHA_256;
@@ -51,10 +51,8 @@ static struct fe2o3_sasl_login new_login(const char *host, const char *user, con
     login.login.strict = 1;
     login.login.username = (const uint8_t *)user;
     login.login.username_len = strlen(user);
-    login.login.acts_for = (const uint8_t *)"";
     login.login.password = (const uint8_t *)password;
     login.login.password_len = strlen(password);
-    login.login.keys = &no_keys;
     return login;
 }
 
@@ -148,11 +146,11 @@ static void log_failure(uint32_t status, uint32_t rejection, const struct user *
 
 static struct fe2o3_sasl_server_config new_config(int is_tls)
 {
-    struct fe2o3_sasl_server_config config = {.iterations = FE2O3_DEFAULT_ITERATIONS};
+    struct fe2o3_sasl_server_config config = FE2O3_SASL_SERVER_CONFIG_INIT;
+    config.iterations = FE2O3_DEFAULT_ITERATIONS;
     config.mechanisms = FE2O3_OFFER_SCRAM_SHA_512 | FE2O3_OFFER_SCRAM_SHA_256 | FE2O3_REJECT_MISPLACED;
     if (is_tls)
         config.mechanisms |= FE2O3_OFFER_PLAIN;
-    config.external_authcid = (const uint8_t *)"";
     return config;
 }
 

@@ -4,8 +4,9 @@
     wheel.py LIBRARY SONAME CPU NOTICES FOLDER  writes FOLDER/fe2o3_sasl-VERSION-TAG.whl, and prints its path
 
 The wheel has the package bindings/python/fe2o3_sasl, and in its folder LIBRARY under the name SONAME, which the package
-loads in place of the system's. The file NOTICES goes beside the licences. Pages and examples go to share/doc/fe2o3_sasl of the environment. The tag names the newest version
-of glibc that a symbol of the library needs. Times and the order of the files are fixed.
+loads in place of the system's. The file NOTICES goes beside the licences. Pages and examples go to share/doc/fe2o3_sasl of
+the environment. The tag names the newest version of glibc that a symbol of the library needs. Times and the order of the
+files are fixed.
 """
 import ast
 import base64

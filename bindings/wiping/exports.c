@@ -1,9 +1,52 @@
 /* The exports of the library. Each calls the proved function below a pad, and then clears the stack that it used. Written
  * by tools/generate/header.py.
  *
- * The linker gives each proved function its name with `proved_` (bindings/callers.mk). */
+ * The linker gives each proved function its name with `proved_` (bindings/callers.mk). These take no null pointers: a
+ * wrapper passes the address of something empty where a length is 0, or keys are null. */
 #include "../c/fe2o3_sasl.h"
 #include "wipe.h"
+
+static uint8_t nothing[1];
+static const struct fe2o3_scram_record no_record;
+static const struct fe2o3_scram_keys no_keys;
+#define BYTES(bytes, len) ((len) != 0 ? (bytes) : nothing)
+#define RECORDS(records, count) ((count) != 0 ? (records) : &no_record)
+#define KEYS(keys) ((keys) != NULL ? (keys) : &no_keys)
+
+static struct fe2o3_login lent_login(const struct fe2o3_login *given)
+{
+    struct fe2o3_login lent = *given;
+    lent.username = BYTES(lent.username, lent.username_len);
+    lent.acts_for = BYTES(lent.acts_for, lent.acts_for_len);
+    lent.password = BYTES(lent.password, lent.password_len);
+    lent.keys = KEYS(lent.keys);
+    return lent;
+}
+
+static struct fe2o3_scram_rules lent_scram_rules(const struct fe2o3_scram_rules *given)
+{
+    struct fe2o3_scram_rules lent = *given;
+    lent.identities = BYTES(lent.identities, lent.identities_len);
+    return lent;
+}
+
+static struct fe2o3_sasl_login lent_sasl_login(const struct fe2o3_sasl_login *given)
+{
+    struct fe2o3_sasl_login lent = *given;
+    lent.hostname = BYTES(lent.hostname, lent.hostname_len);
+    lent.login = lent_login(&lent.login);
+    return lent;
+}
+
+static struct fe2o3_sasl_server_config lent_sasl_server_config(const struct fe2o3_sasl_server_config *given)
+{
+    struct fe2o3_sasl_server_config lent = *given;
+    lent.username = BYTES(lent.username, lent.username_len);
+    lent.records = RECORDS(lent.records, lent.records_count);
+    lent.external_authcid = BYTES(lent.external_authcid, lent.external_authcid_len);
+    lent.identities = BYTES(lent.identities, lent.identities_len);
+    return lent;
+}
 
 uint32_t proved_fe2o3_version(void);
 uint32_t fe2o3_version(void)
@@ -26,7 +69,10 @@ size_t fe2o3_size(uint32_t which)
 void proved_fe2o3_status_text(uint32_t status, struct fe2o3_text *text);
 void fe2o3_status_text(uint32_t status, struct fe2o3_text *text)
 {
-    BELOW_PAD(proved_fe2o3_status_text(status, text));
+    struct fe2o3_text own_text = FE2O3_TEXT_INIT;
+    own_text.bytes = nothing;
+    BELOW_PAD(proved_fe2o3_status_text(status, &own_text));
+    *text = own_text;
     clear_stack(depth_status_text);
 }
 
@@ -36,7 +82,8 @@ uint32_t fe2o3_saslprep(const uint8_t *text, size_t text_len, uint32_t unassigne
     size_t *out_len)
 {
     uint32_t answer;
-    BELOW_PAD(answer = proved_fe2o3_saslprep(text, text_len, unassigned, out, out_size, out_len));
+    BELOW_PAD(answer = proved_fe2o3_saslprep(BYTES(text, text_len), text_len, unassigned, BYTES(out, out_size),
+        out_size, out_len));
     clear_stack(depth_saslprep);
     return answer;
 }
@@ -47,8 +94,8 @@ uint32_t fe2o3_scram_record_make(uint32_t version, uint32_t form, const uint8_t 
     const uint8_t *salt, size_t salt_len, uint32_t iterations, struct fe2o3_scram_record *kept)
 {
     uint32_t answer;
-    BELOW_PAD(answer = proved_fe2o3_scram_record_make(version, form, password, password_len, salt, salt_len, iterations,
-        kept));
+    BELOW_PAD(answer = proved_fe2o3_scram_record_make(version, form, BYTES(password, password_len), password_len,
+        BYTES(salt, salt_len), salt_len, iterations, kept));
     clear_stack(depth_scram_record_make);
     return answer;
 }
@@ -61,8 +108,8 @@ uint32_t fe2o3_scram_record_from_fields(uint32_t version, const uint8_t *salt, s
     struct fe2o3_scram_record *kept)
 {
     uint32_t answer;
-    BELOW_PAD(answer = proved_fe2o3_scram_record_from_fields(version, salt, salt_len, iterations, stored_key,
-        stored_key_len, server_key, server_key_len, kept));
+    BELOW_PAD(answer = proved_fe2o3_scram_record_from_fields(version, BYTES(salt, salt_len), salt_len, iterations,
+        BYTES(stored_key, stored_key_len), stored_key_len, BYTES(server_key, server_key_len), server_key_len, kept));
     clear_stack(depth_scram_record_from_fields);
     return answer;
 }
@@ -74,8 +121,8 @@ uint32_t fe2o3_scram_record_mock(uint32_t version, const uint8_t *secret, size_t
     size_t username_len, size_t salt_len, uint32_t iterations, struct fe2o3_scram_record *kept)
 {
     uint32_t answer;
-    BELOW_PAD(answer = proved_fe2o3_scram_record_mock(version, secret, secret_len, username, username_len, salt_len,
-        iterations, kept));
+    BELOW_PAD(answer = proved_fe2o3_scram_record_mock(version, BYTES(secret, secret_len), secret_len,
+        BYTES(username, username_len), username_len, salt_len, iterations, kept));
     clear_stack(depth_scram_record_mock);
     return answer;
 }
@@ -84,7 +131,7 @@ uint32_t proved_fe2o3_scram_record_parse(const uint8_t *text, size_t text_len, s
 uint32_t fe2o3_scram_record_parse(const uint8_t *text, size_t text_len, struct fe2o3_scram_record *kept)
 {
     uint32_t answer;
-    BELOW_PAD(answer = proved_fe2o3_scram_record_parse(text, text_len, kept));
+    BELOW_PAD(answer = proved_fe2o3_scram_record_parse(BYTES(text, text_len), text_len, kept));
     clear_stack(depth_scram_record_parse);
     return answer;
 }
@@ -94,7 +141,7 @@ uint32_t proved_fe2o3_scram_record_text(const struct fe2o3_scram_record *kept, u
 uint32_t fe2o3_scram_record_text(const struct fe2o3_scram_record *kept, uint8_t *out, size_t out_size, size_t *out_len)
 {
     uint32_t answer;
-    BELOW_PAD(answer = proved_fe2o3_scram_record_text(kept, out, out_size, out_len));
+    BELOW_PAD(answer = proved_fe2o3_scram_record_text(kept, BYTES(out, out_size), out_size, out_len));
     clear_stack(depth_scram_record_text);
     return answer;
 }
@@ -105,7 +152,7 @@ uint32_t fe2o3_scram_record_verify(const struct fe2o3_scram_record *kept, uint32
     size_t password_len)
 {
     uint32_t answer;
-    BELOW_PAD(answer = proved_fe2o3_scram_record_verify(kept, form, password, password_len));
+    BELOW_PAD(answer = proved_fe2o3_scram_record_verify(kept, form, BYTES(password, password_len), password_len));
     clear_stack(depth_scram_record_verify);
     return answer;
 }
@@ -116,8 +163,8 @@ uint32_t fe2o3_scram_record_of_salted(uint32_t version, const uint8_t *salted, s
     size_t salt_len, uint32_t iterations, struct fe2o3_scram_record *kept)
 {
     uint32_t answer;
-    BELOW_PAD(answer = proved_fe2o3_scram_record_of_salted(version, salted, salted_len, salt, salt_len, iterations,
-        kept));
+    BELOW_PAD(answer = proved_fe2o3_scram_record_of_salted(version, BYTES(salted, salted_len), salted_len,
+        BYTES(salt, salt_len), salt_len, iterations, kept));
     clear_stack(depth_scram_record_of_salted);
     return answer;
 }
@@ -128,7 +175,7 @@ uint32_t fe2o3_scram_record_verify_salted(const struct fe2o3_scram_record *kept,
     size_t salted_len)
 {
     uint32_t answer;
-    BELOW_PAD(answer = proved_fe2o3_scram_record_verify_salted(kept, salted, salted_len));
+    BELOW_PAD(answer = proved_fe2o3_scram_record_verify_salted(kept, BYTES(salted, salted_len), salted_len));
     clear_stack(depth_scram_record_verify_salted);
     return answer;
 }
@@ -139,7 +186,8 @@ uint32_t fe2o3_scram_lines_find(const uint8_t *lines, size_t lines_len, const ui
     uint32_t version, size_t *line, struct fe2o3_scram_record *kept)
 {
     uint32_t answer;
-    BELOW_PAD(answer = proved_fe2o3_scram_lines_find(lines, lines_len, username, username_len, version, line, kept));
+    BELOW_PAD(answer = proved_fe2o3_scram_lines_find(BYTES(lines, lines_len), lines_len, BYTES(username, username_len),
+        username_len, version, line, kept));
     clear_stack(depth_scram_lines_find);
     return answer;
 }
@@ -150,7 +198,7 @@ uint32_t fe2o3_scram_lines_all_have(const uint8_t *lines, size_t lines_len, uint
     uint32_t *all)
 {
     uint32_t answer;
-    BELOW_PAD(answer = proved_fe2o3_scram_lines_all_have(lines, lines_len, version, line, all));
+    BELOW_PAD(answer = proved_fe2o3_scram_lines_all_have(BYTES(lines, lines_len), lines_len, version, line, all));
     clear_stack(depth_scram_lines_all_have);
     return answer;
 }
@@ -161,7 +209,8 @@ uint32_t fe2o3_scram_line(const uint8_t *username, size_t username_len, const st
     uint8_t *out, size_t out_size, size_t *out_len)
 {
     uint32_t answer;
-    BELOW_PAD(answer = proved_fe2o3_scram_line(username, username_len, kept, out, out_size, out_len));
+    BELOW_PAD(answer = proved_fe2o3_scram_line(BYTES(username, username_len), username_len, kept, BYTES(out, out_size),
+        out_size, out_len));
     clear_stack(depth_scram_line);
     return answer;
 }
@@ -172,8 +221,8 @@ uint32_t fe2o3_scram_keys_make(uint32_t version, uint32_t form, const uint8_t *p
     const uint8_t *salt, size_t salt_len, uint32_t iterations, struct fe2o3_scram_keys *keys)
 {
     uint32_t answer;
-    BELOW_PAD(answer = proved_fe2o3_scram_keys_make(version, form, password, password_len, salt, salt_len, iterations,
-        keys));
+    BELOW_PAD(answer = proved_fe2o3_scram_keys_make(version, form, BYTES(password, password_len), password_len,
+        BYTES(salt, salt_len), salt_len, iterations, keys));
     clear_stack(depth_scram_keys_make);
     return answer;
 }
@@ -184,8 +233,8 @@ uint32_t fe2o3_scram_keys_of_salted(uint32_t version, const uint8_t *salted, siz
     size_t salt_len, uint32_t iterations, struct fe2o3_scram_keys *keys)
 {
     uint32_t answer;
-    BELOW_PAD(answer = proved_fe2o3_scram_keys_of_salted(version, salted, salted_len, salt, salt_len, iterations,
-        keys));
+    BELOW_PAD(answer = proved_fe2o3_scram_keys_of_salted(version, BYTES(salted, salted_len), salted_len,
+        BYTES(salt, salt_len), salt_len, iterations, keys));
     clear_stack(depth_scram_keys_of_salted);
     return answer;
 }
@@ -196,7 +245,10 @@ uint32_t fe2o3_scram_client_first(const struct fe2o3_login *login, struct fe2o3_
     const uint8_t nonce[32], uint8_t *out, size_t out_size, size_t *out_len)
 {
     uint32_t answer;
-    BELOW_PAD(answer = proved_fe2o3_scram_client_first(login, client, nonce, out, out_size, out_len));
+    struct fe2o3_login own_login = lent_login(login);
+    BELOW_PAD(answer = proved_fe2o3_scram_client_first(&own_login, client, nonce, BYTES(out, out_size), out_size,
+        out_len));
+    fe2o3_wipe(&own_login, sizeof own_login);
     clear_stack(depth_scram_client_first);
     return answer;
 }
@@ -207,8 +259,10 @@ uint32_t fe2o3_scram_client_final(const struct fe2o3_login *login, struct fe2o3_
     const uint8_t *server_first, size_t server_first_len, uint8_t *out, size_t out_size, size_t *out_len)
 {
     uint32_t answer;
-    BELOW_PAD(answer = proved_fe2o3_scram_client_final(login, client, server_first, server_first_len, out, out_size,
-        out_len));
+    struct fe2o3_login own_login = lent_login(login);
+    BELOW_PAD(answer = proved_fe2o3_scram_client_final(&own_login, client, BYTES(server_first, server_first_len),
+        server_first_len, BYTES(out, out_size), out_size, out_len));
+    fe2o3_wipe(&own_login, sizeof own_login);
     clear_stack(depth_scram_client_final);
     return answer;
 }
@@ -219,7 +273,10 @@ uint32_t fe2o3_scram_client_verify(const struct fe2o3_login *login, struct fe2o3
     const uint8_t *server_final, size_t server_final_len)
 {
     uint32_t answer;
-    BELOW_PAD(answer = proved_fe2o3_scram_client_verify(login, client, server_final, server_final_len));
+    struct fe2o3_login own_login = lent_login(login);
+    BELOW_PAD(answer = proved_fe2o3_scram_client_verify(&own_login, client, BYTES(server_final, server_final_len),
+        server_final_len));
+    fe2o3_wipe(&own_login, sizeof own_login);
     clear_stack(depth_scram_client_verify);
     return answer;
 }
@@ -239,7 +296,8 @@ uint32_t fe2o3_scram_server_claimed_user(const uint8_t *client_first, size_t cli
     size_t out_size, size_t *out_len)
 {
     uint32_t answer;
-    BELOW_PAD(answer = proved_fe2o3_scram_server_claimed_user(client_first, client_first_len, out, out_size, out_len));
+    BELOW_PAD(answer = proved_fe2o3_scram_server_claimed_user(BYTES(client_first, client_first_len), client_first_len,
+        BYTES(out, out_size), out_size, out_len));
     clear_stack(depth_scram_server_claimed_user);
     return answer;
 }
@@ -252,8 +310,8 @@ uint32_t fe2o3_scram_server_first(const struct fe2o3_scram_record *kept, struct 
     size_t *out_len)
 {
     uint32_t answer;
-    BELOW_PAD(answer = proved_fe2o3_scram_server_first(kept, server, nonce, client_first, client_first_len, out,
-        out_size, out_len));
+    BELOW_PAD(answer = proved_fe2o3_scram_server_first(kept, server, nonce, BYTES(client_first, client_first_len),
+        client_first_len, BYTES(out, out_size), out_size, out_len));
     clear_stack(depth_scram_server_first);
     return answer;
 }
@@ -266,8 +324,8 @@ uint32_t fe2o3_scram_server_first_with_cbind_flag_y(const struct fe2o3_scram_rec
     uint8_t *out, size_t out_size, size_t *out_len)
 {
     uint32_t answer;
-    BELOW_PAD(answer = proved_fe2o3_scram_server_first_with_cbind_flag_y(kept, server, nonce, client_first,
-        client_first_len, out, out_size, out_len));
+    BELOW_PAD(answer = proved_fe2o3_scram_server_first_with_cbind_flag_y(kept, server, nonce,
+        BYTES(client_first, client_first_len), client_first_len, BYTES(out, out_size), out_size, out_len));
     clear_stack(depth_scram_server_first_with_cbind_flag_y);
     return answer;
 }
@@ -278,8 +336,8 @@ uint32_t fe2o3_scram_server_final(const struct fe2o3_scram_record *kept, struct 
     const uint8_t *client_final, size_t client_final_len, uint8_t *out, size_t out_size, size_t *out_len)
 {
     uint32_t answer;
-    BELOW_PAD(answer = proved_fe2o3_scram_server_final(kept, server, client_final, client_final_len, out, out_size,
-        out_len));
+    BELOW_PAD(answer = proved_fe2o3_scram_server_final(kept, server, BYTES(client_final, client_final_len),
+        client_final_len, BYTES(out, out_size), out_size, out_len));
     clear_stack(depth_scram_server_final);
     return answer;
 }
@@ -290,8 +348,10 @@ uint32_t fe2o3_scram_server_claimed_user_with_rules(const struct fe2o3_scram_rul
     size_t client_first_len, uint8_t *out, size_t out_size, size_t *out_len)
 {
     uint32_t answer;
-    BELOW_PAD(answer = proved_fe2o3_scram_server_claimed_user_with_rules(rules, client_first, client_first_len, out,
-        out_size, out_len));
+    struct fe2o3_scram_rules own_rules = lent_scram_rules(rules);
+    BELOW_PAD(answer = proved_fe2o3_scram_server_claimed_user_with_rules(&own_rules,
+        BYTES(client_first, client_first_len), client_first_len, BYTES(out, out_size), out_size, out_len));
+    fe2o3_wipe(&own_rules, sizeof own_rules);
     clear_stack(depth_scram_server_claimed_user_with_rules);
     return answer;
 }
@@ -304,8 +364,10 @@ uint32_t fe2o3_scram_server_first_with_rules(const struct fe2o3_scram_rules *rul
     const uint8_t *client_first, size_t client_first_len, uint8_t *out, size_t out_size, size_t *out_len)
 {
     uint32_t answer;
-    BELOW_PAD(answer = proved_fe2o3_scram_server_first_with_rules(rules, kept, server, nonce, client_first,
-        client_first_len, out, out_size, out_len));
+    struct fe2o3_scram_rules own_rules = lent_scram_rules(rules);
+    BELOW_PAD(answer = proved_fe2o3_scram_server_first_with_rules(&own_rules, kept, server, nonce,
+        BYTES(client_first, client_first_len), client_first_len, BYTES(out, out_size), out_size, out_len));
+    fe2o3_wipe(&own_rules, sizeof own_rules);
     clear_stack(depth_scram_server_first_with_rules);
     return answer;
 }
@@ -318,8 +380,10 @@ uint32_t fe2o3_scram_server_final_with_rules(const struct fe2o3_scram_rules *rul
     size_t client_final_len, uint8_t *out, size_t out_size, size_t *out_len)
 {
     uint32_t answer;
-    BELOW_PAD(answer = proved_fe2o3_scram_server_final_with_rules(rules, kept, server, client_final, client_final_len,
-        out, out_size, out_len));
+    struct fe2o3_scram_rules own_rules = lent_scram_rules(rules);
+    BELOW_PAD(answer = proved_fe2o3_scram_server_final_with_rules(&own_rules, kept, server,
+        BYTES(client_final, client_final_len), client_final_len, BYTES(out, out_size), out_size, out_len));
+    fe2o3_wipe(&own_rules, sizeof own_rules);
     clear_stack(depth_scram_server_final_with_rules);
     return answer;
 }
@@ -330,7 +394,7 @@ uint32_t fe2o3_scram_server_authenticated_user(const struct fe2o3_scram_server *
     size_t *out_len)
 {
     uint32_t answer;
-    BELOW_PAD(answer = proved_fe2o3_scram_server_authenticated_user(server, out, out_size, out_len));
+    BELOW_PAD(answer = proved_fe2o3_scram_server_authenticated_user(server, BYTES(out, out_size), out_size, out_len));
     clear_stack(depth_scram_server_authenticated_user);
     return answer;
 }
@@ -341,8 +405,10 @@ uint32_t fe2o3_scram_server_claimed_identity(const struct fe2o3_scram_rules *rul
     size_t client_first_len, uint8_t *out, size_t out_size, size_t *out_len)
 {
     uint32_t answer;
-    BELOW_PAD(answer = proved_fe2o3_scram_server_claimed_identity(rules, client_first, client_first_len, out, out_size,
-        out_len));
+    struct fe2o3_scram_rules own_rules = lent_scram_rules(rules);
+    BELOW_PAD(answer = proved_fe2o3_scram_server_claimed_identity(&own_rules, BYTES(client_first, client_first_len),
+        client_first_len, BYTES(out, out_size), out_size, out_len));
+    fe2o3_wipe(&own_rules, sizeof own_rules);
     clear_stack(depth_scram_server_claimed_identity);
     return answer;
 }
@@ -353,7 +419,7 @@ uint32_t fe2o3_scram_server_acts_for(const struct fe2o3_scram_server *server, ui
     size_t *out_len)
 {
     uint32_t answer;
-    BELOW_PAD(answer = proved_fe2o3_scram_server_acts_for(server, out, out_size, out_len));
+    BELOW_PAD(answer = proved_fe2o3_scram_server_acts_for(server, BYTES(out, out_size), out_size, out_len));
     clear_stack(depth_scram_server_acts_for);
     return answer;
 }
@@ -362,7 +428,7 @@ uint32_t proved_fe2o3_scram_server_error(const uint8_t *message, size_t message_
 uint32_t fe2o3_scram_server_error(const uint8_t *message, size_t message_len)
 {
     uint32_t answer;
-    BELOW_PAD(answer = proved_fe2o3_scram_server_error(message, message_len));
+    BELOW_PAD(answer = proved_fe2o3_scram_server_error(BYTES(message, message_len), message_len));
     clear_stack(depth_scram_server_error);
     return answer;
 }
@@ -370,7 +436,10 @@ uint32_t fe2o3_scram_server_error(const uint8_t *message, size_t message_len)
 void proved_fe2o3_scram_server_error_text(uint32_t error, struct fe2o3_text *text);
 void fe2o3_scram_server_error_text(uint32_t error, struct fe2o3_text *text)
 {
-    BELOW_PAD(proved_fe2o3_scram_server_error_text(error, text));
+    struct fe2o3_text own_text = FE2O3_TEXT_INIT;
+    own_text.bytes = nothing;
+    BELOW_PAD(proved_fe2o3_scram_server_error_text(error, &own_text));
+    *text = own_text;
     clear_stack(depth_scram_server_error_text);
 }
 
@@ -378,7 +447,7 @@ uint32_t proved_fe2o3_scram_server_error_message(uint32_t status, uint8_t *out, 
 uint32_t fe2o3_scram_server_error_message(uint32_t status, uint8_t *out, size_t out_size, size_t *out_len)
 {
     uint32_t answer;
-    BELOW_PAD(answer = proved_fe2o3_scram_server_error_message(status, out, out_size, out_len));
+    BELOW_PAD(answer = proved_fe2o3_scram_server_error_message(status, BYTES(out, out_size), out_size, out_len));
     clear_stack(depth_scram_server_error_message);
     return answer;
 }
@@ -389,8 +458,9 @@ uint32_t fe2o3_plain_message(const uint8_t *acts_for, size_t acts_for_len, const
     const uint8_t *password, size_t password_len, uint8_t *out, size_t out_size, size_t *out_len)
 {
     uint32_t answer;
-    BELOW_PAD(answer = proved_fe2o3_plain_message(acts_for, acts_for_len, username, username_len, password,
-        password_len, out, out_size, out_len));
+    BELOW_PAD(answer = proved_fe2o3_plain_message(BYTES(acts_for, acts_for_len), acts_for_len,
+        BYTES(username, username_len), username_len, BYTES(password, password_len), password_len, BYTES(out, out_size),
+        out_size, out_len));
     clear_stack(depth_plain_message);
     return answer;
 }
@@ -401,7 +471,8 @@ uint32_t fe2o3_plain_claimed_user(const uint8_t *message, size_t message_len, ui
     size_t *out_len)
 {
     uint32_t answer;
-    BELOW_PAD(answer = proved_fe2o3_plain_claimed_user(message, message_len, out, out_size, out_len));
+    BELOW_PAD(answer = proved_fe2o3_plain_claimed_user(BYTES(message, message_len), message_len, BYTES(out, out_size),
+        out_size, out_len));
     clear_stack(depth_plain_claimed_user);
     return answer;
 }
@@ -412,7 +483,8 @@ uint32_t fe2o3_plain_claimed_identity(const uint8_t *message, size_t message_len
     size_t *out_len)
 {
     uint32_t answer;
-    BELOW_PAD(answer = proved_fe2o3_plain_claimed_identity(message, message_len, out, out_size, out_len));
+    BELOW_PAD(answer = proved_fe2o3_plain_claimed_identity(BYTES(message, message_len), message_len,
+        BYTES(out, out_size), out_size, out_len));
     clear_stack(depth_plain_claimed_identity);
     return answer;
 }
@@ -425,8 +497,8 @@ uint32_t fe2o3_plain_verify(const struct fe2o3_scram_record *records, size_t rec
     const uint8_t *message, size_t message_len)
 {
     uint32_t answer;
-    BELOW_PAD(answer = proved_fe2o3_plain_verify(records, records_count, passwords, iterations, accept_authzid,
-        identities, identities_len, message, message_len));
+    BELOW_PAD(answer = proved_fe2o3_plain_verify(RECORDS(records, records_count), records_count, passwords, iterations,
+        accept_authzid, BYTES(identities, identities_len), identities_len, BYTES(message, message_len), message_len));
     clear_stack(depth_plain_verify);
     return answer;
 }
@@ -436,7 +508,8 @@ uint32_t proved_fe2o3_external_verify(const uint8_t *authcid, size_t authcid_len
 uint32_t fe2o3_external_verify(const uint8_t *authcid, size_t authcid_len, const uint8_t *message, size_t message_len)
 {
     uint32_t answer;
-    BELOW_PAD(answer = proved_fe2o3_external_verify(authcid, authcid_len, message, message_len));
+    BELOW_PAD(answer = proved_fe2o3_external_verify(BYTES(authcid, authcid_len), authcid_len,
+        BYTES(message, message_len), message_len));
     clear_stack(depth_external_verify);
     return answer;
 }
@@ -445,7 +518,7 @@ uint32_t proved_fe2o3_sasl_client_open(uint8_t *out, size_t out_size, size_t *ou
 uint32_t fe2o3_sasl_client_open(uint8_t *out, size_t out_size, size_t *out_len)
 {
     uint32_t answer;
-    BELOW_PAD(answer = proved_fe2o3_sasl_client_open(out, out_size, out_len));
+    BELOW_PAD(answer = proved_fe2o3_sasl_client_open(BYTES(out, out_size), out_size, out_len));
     clear_stack(depth_sasl_client_open);
     return answer;
 }
@@ -458,8 +531,10 @@ uint32_t fe2o3_sasl_client_receive(const struct fe2o3_sasl_login *login, struct 
     size_t *out_len)
 {
     uint32_t answer;
-    BELOW_PAD(answer = proved_fe2o3_sasl_client_receive(login, client, bytes, bytes_len, nonce, taken, out, out_size,
-        out_len));
+    struct fe2o3_sasl_login own_login = lent_sasl_login(login);
+    BELOW_PAD(answer = proved_fe2o3_sasl_client_receive(&own_login, client, BYTES(bytes, bytes_len), bytes_len, nonce,
+        taken, BYTES(out, out_size), out_size, out_len));
+    fe2o3_wipe(&own_login, sizeof own_login);
     clear_stack(depth_sasl_client_receive);
     return answer;
 }
@@ -470,7 +545,8 @@ uint32_t fe2o3_sasl_server_claimed_user(const struct fe2o3_sasl_server *server, 
     uint8_t *out, size_t out_size, size_t *out_len)
 {
     uint32_t answer;
-    BELOW_PAD(answer = proved_fe2o3_sasl_server_claimed_user(server, bytes, bytes_len, out, out_size, out_len));
+    BELOW_PAD(answer = proved_fe2o3_sasl_server_claimed_user(server, BYTES(bytes, bytes_len), bytes_len,
+        BYTES(out, out_size), out_size, out_len));
     clear_stack(depth_sasl_server_claimed_user);
     return answer;
 }
@@ -483,8 +559,10 @@ uint32_t fe2o3_sasl_server_receive(const struct fe2o3_sasl_server_config *config
     size_t *out_len)
 {
     uint32_t answer;
-    BELOW_PAD(answer = proved_fe2o3_sasl_server_receive(config, server, bytes, bytes_len, nonce, taken, out, out_size,
-        out_len));
+    struct fe2o3_sasl_server_config own_config = lent_sasl_server_config(config);
+    BELOW_PAD(answer = proved_fe2o3_sasl_server_receive(&own_config, server, BYTES(bytes, bytes_len), bytes_len, nonce,
+        taken, BYTES(out, out_size), out_size, out_len));
+    fe2o3_wipe(&own_config, sizeof own_config);
     clear_stack(depth_sasl_server_receive);
     return answer;
 }
@@ -504,7 +582,8 @@ uint32_t fe2o3_sasl_peek_frame(const struct fe2o3_connection *connection, const 
     uint8_t *out, size_t out_size, size_t *out_len)
 {
     uint32_t answer;
-    BELOW_PAD(answer = proved_fe2o3_sasl_peek_frame(connection, bytes, bytes_len, out, out_size, out_len));
+    BELOW_PAD(answer = proved_fe2o3_sasl_peek_frame(connection, BYTES(bytes, bytes_len), bytes_len,
+        BYTES(out, out_size), out_size, out_len));
     clear_stack(depth_sasl_peek_frame);
     return answer;
 }
@@ -524,8 +603,10 @@ uint32_t fe2o3_sasl_client_step(const struct fe2o3_sasl_login *login, struct fe2
     size_t *out_len)
 {
     uint32_t answer;
-    BELOW_PAD(answer = proved_fe2o3_sasl_client_step(login, client, body, body_len, nonce, progress, out, out_size,
-        out_len));
+    struct fe2o3_sasl_login own_login = lent_sasl_login(login);
+    BELOW_PAD(answer = proved_fe2o3_sasl_client_step(&own_login, client, BYTES(body, body_len), body_len, nonce,
+        progress, BYTES(out, out_size), out_size, out_len));
+    fe2o3_wipe(&own_login, sizeof own_login);
     clear_stack(depth_sasl_client_step);
     return answer;
 }
@@ -536,7 +617,9 @@ uint32_t fe2o3_sasl_server_offer(const struct fe2o3_sasl_server_config *config, 
     size_t *out_len)
 {
     uint32_t answer;
-    BELOW_PAD(answer = proved_fe2o3_sasl_server_offer(config, out, out_size, out_len));
+    struct fe2o3_sasl_server_config own_config = lent_sasl_server_config(config);
+    BELOW_PAD(answer = proved_fe2o3_sasl_server_offer(&own_config, BYTES(out, out_size), out_size, out_len));
+    fe2o3_wipe(&own_config, sizeof own_config);
     clear_stack(depth_sasl_server_offer);
     return answer;
 }
@@ -547,7 +630,8 @@ uint32_t fe2o3_sasl_server_step_claimed_user(const struct fe2o3_scram_server *se
     size_t body_len, uint8_t *out, size_t out_size, size_t *out_len)
 {
     uint32_t answer;
-    BELOW_PAD(answer = proved_fe2o3_sasl_server_step_claimed_user(server, body, body_len, out, out_size, out_len));
+    BELOW_PAD(answer = proved_fe2o3_sasl_server_step_claimed_user(server, BYTES(body, body_len), body_len,
+        BYTES(out, out_size), out_size, out_len));
     clear_stack(depth_sasl_server_step_claimed_user);
     return answer;
 }
@@ -560,8 +644,10 @@ uint32_t fe2o3_sasl_server_step(const struct fe2o3_sasl_server_config *config, s
     size_t *out_len)
 {
     uint32_t answer;
-    BELOW_PAD(answer = proved_fe2o3_sasl_server_step(config, server, body, body_len, nonce, progress, out, out_size,
-        out_len));
+    struct fe2o3_sasl_server_config own_config = lent_sasl_server_config(config);
+    BELOW_PAD(answer = proved_fe2o3_sasl_server_step(&own_config, server, BYTES(body, body_len), body_len, nonce,
+        progress, BYTES(out, out_size), out_size, out_len));
+    fe2o3_wipe(&own_config, sizeof own_config);
     clear_stack(depth_sasl_server_step);
     return answer;
 }
@@ -570,7 +656,12 @@ uint32_t proved_fe2o3_sasl_view_frame(const uint8_t *body, size_t body_len, stru
 uint32_t fe2o3_sasl_view_frame(const uint8_t *body, size_t body_len, struct fe2o3_sasl_frame_view *view)
 {
     uint32_t answer;
-    BELOW_PAD(answer = proved_fe2o3_sasl_view_frame(body, body_len, view));
+    struct fe2o3_sasl_frame_view own_view = FE2O3_SASL_FRAME_VIEW_INIT;
+    own_view.mechanism = nothing;
+    own_view.message = nothing;
+    own_view.hostname = nothing;
+    BELOW_PAD(answer = proved_fe2o3_sasl_view_frame(BYTES(body, body_len), body_len, &own_view));
+    if (answer == FE2O3_OK) *view = own_view;
     clear_stack(depth_sasl_view_frame);
     return answer;
 }
@@ -579,7 +670,8 @@ uint32_t proved_fe2o3_sasl_offers(const uint8_t *body, size_t body_len, const ui
 uint32_t fe2o3_sasl_offers(const uint8_t *body, size_t body_len, const uint8_t *mechanism, size_t mechanism_len)
 {
     uint32_t answer;
-    BELOW_PAD(answer = proved_fe2o3_sasl_offers(body, body_len, mechanism, mechanism_len));
+    BELOW_PAD(answer = proved_fe2o3_sasl_offers(BYTES(body, body_len), body_len, BYTES(mechanism, mechanism_len),
+        mechanism_len));
     clear_stack(depth_sasl_offers);
     return answer;
 }

@@ -7,7 +7,11 @@
 /* (a compiler cannot know what a volatile pointer points to, so it keeps the call) */
 static void *(*const volatile set)(void *, int, size_t) = memset;
 
-void fe2o3_wipe(void *memory, size_t len) { set(memory, 0, len); }
+void fe2o3_wipe(void *memory, size_t len)
+{
+    if (len != 0)
+        set(memory, 0, len);
+}
 
 const volatile size_t pad_len = PAD;
 

@@ -16,7 +16,7 @@ void clear_stack(size_t depth);
 
 /* How many bytes a wrapper leaves free between its own frame and the function that it calls. (volatile, so that a compiler
  * cannot know the size, and allocates and frees the pad where it is declared) */
-enum { PAD = 512 };
+enum { PAD = 1024 };
 extern const volatile size_t pad_len;
 
 /* Makes a call below a pad. The pad is free again when `clear_stack` is called, whose own frame then lies in it. That

@@ -80,7 +80,6 @@ SECTIONS = [  # in the order of use: a title, the structs, and the functions aft
     ),
 ]
 WIPED = "Secrets"  # the section of WIPE
-LENT = {"ScramRules": "Its value without options."}  # structs with pointers that no call writes, but that have an INIT
 KIND_NAMES = {"ScramErrorKind": "CLIENT_", "ServerScramErrorKind": "SERVER_", "RecordTextError": "RECORD_"}
 
 STRUCT = re.compile(r"#\[repr\(C\)\]\n#\[derive\(Drop\)\]\npub struct (\w+)(?:<'a>)? \{\n(.*?)^\}$", re.M | re.S)
@@ -345,10 +344,21 @@ def c_part(part):
     return f"{kind} {part.name}[{part.count}]" if part.count else f"{kind} {'*' * (part.form != 'value')}{part.name}"
 
 
-def c_empty(part):
+def c_empty(part, structs):
+    """The initializer of a field: zeros, with one for each field of a struct, as C++ wants it."""
     if part.form == "const":
-        return '(const uint8_t *)""'
-    return "{ 0 }" if part.count or part.kind not in C_NUMBERS else "0"
+        return "NULL"
+    if part.kind in structs:
+        return "{ " + ", ".join(c_empty(one, structs) for _, one in structs[part.kind].fields) + " }"
+    return "{ 0 }" if part.count else "0"
+
+
+def c_init(struct, structs):
+    """The macro that initializes a struct."""
+    head = f"#define FE2O3_{snake(struct.name).upper()}_INIT "
+    text = c_empty(Part("", "value", struct.name, None), structs).replace("{ 0 }", "{~0~}")
+    lines = textwrap.wrap(head.replace(" ", "~") + text, WIDTH - 2, subsequent_indent="    ", break_long_words=False)
+    return "/* All zeros. */\n" + " \\\n".join(lines).replace("~", " ") + "\n"
 
 
 def rust_part(part):
@@ -398,18 +408,13 @@ def c_header(reader):
     out.append(f"\n/* The structs, for fe2o3_size. */\nenum fe2o3_size_of {{\n{rows}\n}};\n")
     rows = ",\n".join(f"{comment(doc, '    ')}    FE2O3_{name} = {number}" for doc, name, number in reader.statuses)
     out.append(f"\n/* What a call returns. */\nenum fe2o3_status {{\n{rows}\n}};\n")
-    written = {part.kind for export in reader.exports for part in export.parts if part.form == "mut"}
+    all_structs = {one.name: one for one in reader.structs}
     for title, structs, exports in reader.sections:
         out.append(f"\n/* ---- {title} ---- */\n")
         for one in structs:
             out.append(f"\n{comment(one.doc)}struct fe2o3_{snake(one.name)} {{\n")
             out += [f"{comment(doc, '    ')}    {c_part(part)};\n" for doc, part in one.fields] + ["};\n"]
-            if (one.name in written or one.name in LENT) and "const" in [part.form for _, part in one.fields]:
-                empty = ", ".join(map(c_empty, (part for _, part in one.fields)))
-                out.append(
-                    f"/* {LENT.get(one.name, 'Its value before its first use.')} */\n"
-                    f"#define FE2O3_{snake(one.name).upper()}_INIT {{ {empty} }}\n"
-                )
+            out.append(c_init(one, all_structs))
         for doc, name, parts, answer in exports:
             given = [c_part(part) for part in parts] or ["void"]
             out.append(f"\n{comment(doc)}" + called(f"{C_NUMBERS.get(answer, 'void')} {name}", given, ";"))
@@ -420,10 +425,61 @@ WRAPPERS = """\
 /* The exports of the library. Each calls the proved function below a pad, and then clears the stack that it used. Written
  * by tools/generate/header.py.
  *
- * The linker gives each proved function its name with `proved_` (bindings/callers.mk). */
+ * The linker gives each proved function its name with `proved_` (bindings/callers.mk). These take no null pointers: a
+ * wrapper passes the address of something empty where a length is 0, or keys are null. */
 #include "../c/fe2o3_sasl.h"
 #include "wipe.h"
+
+static uint8_t nothing[1];
+static const struct fe2o3_scram_record no_record;
+static const struct fe2o3_scram_keys no_keys;
+#define BYTES(bytes, len) ((len) != 0 ? (bytes) : nothing)
+#define RECORDS(records, count) ((count) != 0 ? (records) : &no_record)
+#define KEYS(keys) ((keys) != NULL ? (keys) : &no_keys)
 """
+EMPTY = {"u8": "BYTES", "ScramRecord": "RECORDS", "ScramKeys": "KEYS"}
+
+
+def addresses(parts, before=""):
+    """The pointers among parameters or fields that can be null, each with an expression that never is."""
+    names = {part.name for part in parts}
+    found = {}
+    for part in parts:
+        length = part.name + ("_size" if part.form == "mut" else "_len" if part.kind == "u8" else "_count")
+        if length in names and part.form in ("const", "mut"):
+            found[part.name] = f"{EMPTY[part.kind]}({before}{part.name}, {before}{length})"
+        elif before and part.form == "const":
+            found[part.name] = f"{EMPTY[part.kind]}({before}{part.name})"
+    return found
+
+
+def with_pointers(reader):
+    """The structs with pointers, each after those that it holds."""
+    found = {}
+    for one in reader.structs:
+        if any(part.form == "const" or part.kind in found for _, part in one.fields):
+            found[one.name] = one
+    return found
+
+
+def c_copies(reader):
+    """Functions that return structs without null pointers."""
+    lent = {part.kind for export in reader.exports for part in export.parts if part.form == "const"}
+    out, holding = [], with_pointers(reader)
+    held = {part.kind for name in lent if name in holding for _, part in holding[name].fields}
+    for name, one in holding.items():
+        if name not in lent and name not in held:
+            continue
+        kind, parts = f"struct fe2o3_{snake(name)}", [part for _, part in one.fields]
+        rows = [f"    lent.{field} = {address};\n" for field, address in addresses(parts, "lent.").items()]
+        rows += [
+            f"    lent.{part.name} = lent_{snake(part.kind)}(&lent.{part.name});\n"
+            for part in parts
+            if part.kind in holding
+        ]
+        body = f"    {kind} lent = *given;\n" + "".join(rows) + "    return lent;\n"
+        out.append(f"\nstatic {kind} lent_{snake(name)}(const {kind} *given)\n{{\n{body}}}\n")
+    return "".join(out)
 
 
 def c_wrappers(reader):
@@ -431,7 +487,7 @@ def c_wrappers(reader):
         line = textwrap.fill(line, WIDTH, initial_indent=indent, subsequent_indent=indent + "    ")
         return line.replace("~", " ") + "\n"
 
-    out = [WRAPPERS]
+    out, holding = [WRAPPERS, c_copies(reader)], with_pointers(reader)
     for _, name, parts, answer in reader.exports:
         if name == WIPE.name:
             continue
@@ -439,14 +495,30 @@ def c_wrappers(reader):
             C_NUMBERS.get(answer, "void"),
             ", ".join(c_part(part).replace(" ", "~") for part in parts) or "void",
         )
-        passed = f"BELOW_PAD({'answer = ' if answer else ''}proved_{name}({', '.join(part.name for part in parts)}));"
+        copied, not_null = [part for part in parts if part.kind in holding], addresses(parts)
+        copies, ends = [], []
+        for part in copied:
+            kind_of, copy = f"struct fe2o3_{snake(part.kind)}", f"own_{part.name}"
+            not_null[part.name] = f"&{copy}"
+            if part.form == "const":
+                copies.append(f"    {kind_of} {copy} = lent_{snake(part.kind)}({part.name});\n")
+                ends.append(f"    fe2o3_wipe(&{copy}, sizeof {copy});\n")
+                continue
+            pointers = (one for _, one in holding[part.kind].fields if one.form == "const")
+            copies.append(f"    {kind_of} {copy} = FE2O3_{snake(part.kind).upper()}_INIT;\n")
+            copies += [f"    {copy}.{one.name} = nothing;\n" for one in pointers]
+            ends.append(f"    {'if (answer == FE2O3_OK) ' if answer else ''}*{part.name} = {copy};\n")
+        values = ", ".join(not_null.get(part.name, part.name).replace(", ", ",~") for part in parts)
+        passed = f"BELOW_PAD({'answer = ' if answer else ''}proved_{name}({values}));"
         out += [
             "\n",
             fill(f"{kind} proved_{name}({given});"),
             fill(f"{kind} {name}({given})"),
             "{\n",
             f"    {kind} answer;\n" if answer else "",
+            *copies,
             fill(passed, "    "),
+            *ends,
             f"    clear_stack(depth_{name.removeprefix('fe2o3_')});\n",
             "    return answer;\n" if answer else "",
             "}\n",

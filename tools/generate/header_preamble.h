@@ -10,13 +10,13 @@
  * What you have to ensure, since no call can test it:
  *
  * - Each pointer is valid for as many bytes as its type, or the length after it, says, and for no more than
- *   PTRDIFF_MAX. No pointer is null, even if its length is 0 (FE2O3_NONE is an address and the length 0), and none in a
- *   struct: `keys` of a login by password points to a struct of zeros.
+ *   PTRDIFF_MAX. It may be null, or any value, if the length after it is 0, also in a struct. `keys` of a login may be null:
+ *   there are none. No other pointer is null.
  * - What a call writes to (`out`, its length, each struct that is not const) does not overlap its other arguments. What
  *   a call only reads may overlap, and other threads may read it meanwhile.
  * - A struct that a call writes to is used by one call at a time. Any thread may call, but no signal handler.
- * - A struct is set to zeros before its first use, or to its FE2O3_.._INIT if it has pointers. All zeros is a client
- *   that has sent nothing, a server without an open challenge, a connection that has received nothing, or no keys.
+ * - A struct is set to zeros before its first use: by its FE2O3_.._INIT, or by `memset`. All zeros is a client that has
+ *   sent nothing, a server without an open challenge, a connection that has received nothing, no keys, or no options.
  * - malloc, realloc and free are those of C, and there is enough stack. A call uses and clears at most 96 KiB of it.
  *
  * Numbers, bytes, and lengths inside structs may have any value. So any bit pattern of a struct without pointers is

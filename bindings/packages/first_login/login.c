@@ -34,14 +34,11 @@ static void fill(uint8_t *bytes, size_t len)
 
 int main(void)
 {
-    struct fe2o3_scram_keys no_keys = {0};
     struct fe2o3_login login = {.version = FE2O3_SHA_256,
         .min_iterations = 4096,
         .max_iterations = 100000,
         .username = TEXT("user"),
-        .acts_for = FE2O3_NONE,
-        .password = TEXT("pencil"),
-        .keys = &no_keys};
+        .password = TEXT("pencil")};
     struct fe2o3_scram_client client = {0};
     struct fe2o3_scram_server server = {0};
     struct fe2o3_scram_record record = {0};
