@@ -134,6 +134,7 @@ outside() {
     fi
     [ "$install" = no ] || timed 'C, Debian packages installed by dpkg -i' c_installed
     timed 'Python, wheel in a fresh venv' in_python
+    typed
     timed 'Rust, crate with its archive' in_rust packed
     timed 'Rust, crate with the archive that pkg-config finds' in_rust pkg-config
     rust_without_archive
@@ -223,6 +224,19 @@ in_python() {
     venv/bin/python first_login/login.py
 }
 
+# A program in Python with types, of which those of the wheel have to be known.
+typed() {
+    if ! command -v mypy > /dev/null; then
+        echo 'not tried, since mypy is not installed: the types of the wheel'
+    elif mypy --strict --python-version 3.11 --python-executable venv/bin/python --cache-dir typed first_login/typed.py \
+        > log 2>&1; then
+        echo 'Python, a program over the wheel passes mypy --strict'
+    else
+        cat log >&2
+        fail 'mypy finds a fault in a program over the wheel'
+    fi
+}
+
 # A program in the folder $1 that depends on the unpacked crate.
 rust_program() {
     mkdir -p "$1/src"
@@ -243,7 +257,7 @@ in_rust() {
     "$folder/target/debug/login"
 }
 
-# What build.rs says if there is no archive.
+# What build.rs says if there is no archive. The documentation is made without one, as docs.rs makes it.
 rust_without_archive() {
     local way
     rust_program rust_without
@@ -252,7 +266,9 @@ rust_without_archive() {
     for way in 'FE2O3_SASL_LIB: not set' 'packed with this crate: ' 'pkg-config: ' 'the repository: '; do
         grep -qF -e "- $way" log || { cat log >&2; fail "the error of build.rs does not say: $way"; }
     done
-    echo 'Rust, crate without an archive: the error names the four places'
+    (cd rust_without && DOCS_RS=1 PKG_CONFIG_LIBDIR=$PWD cargo doc --offline --no-deps -p fe2o3-sasl-proved) > log 2>&1 ||
+        { cat log >&2; fail 'the documentation of the crate needs an archive'; }
+    echo 'Rust, crate without an archive: the error names the four places, and the documentation is made'
 }
 
 ci() {

@@ -1,8 +1,6 @@
 //! What the two programs share: base64, users' lines, and how a login is told.
 
-use fe2o3_sasl_proved::{
-    generate_nonce, Channel, ChannelKind, ScramAuthenticator, ScramRecord, ScramVersion,
-};
+use fe2o3_sasl_proved::{generate_nonce, Channel, ChannelKind, ScramAuthenticator, ScramRecord, ScramVersion};
 use fe2o3_sasl_proved::{PasswordServer, StoreError, UserRecords};
 use std::io::BufRead;
 use std::sync::Arc;

@@ -103,7 +103,7 @@ fn run_client(words: &[&str], options: &[&str]) -> Result<i32, Failure> {
     let mut client =
         client_of(user, version, options.contains(&"prepared"))?.with_min_iterations(least).with_iteration_limit(most);
     let channel = options.iter().find_map(|word| channel_of(word));
-    if let Some(channel) = channel.clone() {
+    if let Some(channel) = channel {
         client = with_channel(client, channel, words[1]);
     }
     if let Some(identity) = identities(options).pop() {
