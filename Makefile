@@ -44,9 +44,11 @@ lint: kit
 check-models:
 	@$(SIDE_BY_SIDE) $(QUICK_MODELS:%=tried/%) $(SLOW_MODELS:%=tried/%)
 
-# The signatures of the libraries, in build/docs. Packages have them too, and no page of them is committed. `make lint`
-# writes them as well, so that a source that their tool cannot read is found.
+# The signatures of the libraries, and the last results of `make interop` and of the bench, in build/docs. Packages have them
+# too, and no page of them is committed. `make lint` writes the signatures as well, so that a source that their tool cannot
+# read is found.
 docs: tried/generate/signatures
+	@bindings/packages/pages.py results build/docs/results
 
 # Runs a tool, and prints its time and its last line, or all that it says if it fails.
 SIDE_BY_SIDE = $(MAKE) --no-print-directory --keep-going --output-sync --jobs=$(shell nproc)
@@ -89,7 +91,7 @@ make prove           proves, builds and runs the programs of the demo           
 make lint            the quick checks of the pages, the sources and the tools       about 10 s
 make lint-all        also black, flake8, mypy, pytest, clang-format and shellcheck  about 1 min
 make format          formats the Python and the C                                   30 s
-make docs            writes the signatures of the libraries, in build/docs          1 s
+make docs            writes signatures and the last results of runs, in build/docs  1 s
 make check-models    compares the rows of the tests with the models that wrote them about 2 min
 tools/prove_at.py FILE:LINE  proves the function at that line, with --only          10 s or more
 make test            the gate: lint, quick models, every proof, test and program    about 100 min from nothing

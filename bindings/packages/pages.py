@@ -3,9 +3,11 @@
 
     pages.py write FOLDER                   copies them into FOLDER
     pages.py pages FOLDER [PAGE=PLACE ..]   copies the pages only, and other pages of the repository to their places
+    pages.py results FOLDER                 copies the last results of `make interop` and of the bench's tables, if any
     pages.py check FOLDER..                 tests the links of all Markdown pages below each of these folders
 
-The signatures of the libraries, which `tools/generate/signatures.py` writes, are pages too, in the folder `signatures`.
+The signatures of the libraries, which `tools/generate/signatures.py` writes, are pages too, in the folder `signatures`,
+and so are those results, in the folder `results`.
 A link to a file that the package has leads to its place there. Of any other link into the repository the text is left.
 """
 import os
@@ -27,6 +29,7 @@ EXAMPLES = {
         for name in ("login", "client", "broker", "channel", "guide", "shared_users")
     },
 }
+RESULTS = {"interop": TOP / "build/interop/results", "bench": TOP / "bench/build/results"}
 LINK = re.compile(r"(?<!!)\[((?:[^\[\]`]|`[^`]*`)*)\]\(([^()\s]+)\)")
 
 
@@ -79,6 +82,16 @@ def write_signatures(folder):
         page.chmod(0o644)
 
 
+def write_results(folder, results):
+    """Copies the last file of results from each of these folders, which are named after the time."""
+    for name, runs in results.items():
+        last = max(runs.glob("*.md"), default=None)
+        if last is not None:
+            folder.mkdir(parents=True, exist_ok=True)
+            (folder / f"{name}.md").write_bytes(last.read_bytes())
+            (folder / f"{name}.md").chmod(0o644)
+
+
 def check(folder):
     """Prints the links of a folder's pages that have no target, as `tools/gate/links.py` finds them."""
     sys.path.insert(0, str(TOP / "tools" / "gate"))
@@ -93,14 +106,17 @@ def check(folder):
 
 
 def main():
-    if len(sys.argv) < 3 or sys.argv[1] not in ("write", "pages", "check"):
+    if len(sys.argv) < 3 or sys.argv[1] not in ("write", "pages", "results", "check"):
         sys.exit(__doc__)
     how, folder, *more = sys.argv[1:]
     if how == "check":
         sys.exit(any([check(Path(folder)) for folder in (folder, *more)]))
+    if how == "results":
+        return write_results(Path(folder), RESULTS)
     more = dict(words.split("=", 1) for words in more)
     write(Path(folder), {**PAGES, **more, **(EXAMPLES if how == "write" else {})})
     write_signatures(Path(folder) / "signatures")
+    write_results(Path(folder) / "results", RESULTS)
 
 
 if __name__ == "__main__":

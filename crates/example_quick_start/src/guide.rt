@@ -142,27 +142,6 @@ fn by_profile<T: RandomSource>(
     Ok(client)
 }
 
-/// Logs in by a password and then by its keys, and with a wrong password. Prints who has logged in, and the log.
-fn by_password_and_keys<T: RandomSource, W: Write>(
-    rt: &T,
-    alloc: Global,
-    users: &MultiRecordStore,
-    options: &ServerOptions,
-    output: &mut W,
-) -> Result<()> {
-    let mut server = new_side(alloc, users, options, Transport::plaintext())?;
-    let client = by_profile(rt, alloc, new_client(alloc, "user", "pencil")?, &mut server)?;
-    let keys = client.profile().keys().context("no keys")?;
-    let mut server = new_side(alloc, users, options, Transport::plaintext())?;
-    by_profile(rt, alloc, keyed_client(alloc, "user", keys)?, &mut server)?;
-    let server = moved(alloc, &server, users, options, Transport::plaintext())?;
-    let user = server.authenticated_user().context("no user")?;
-    writeln!(output, "{user} logged in by keys")?;
-    let mut server = new_side(alloc, users, options, Transport::plaintext())?;
-    by_profile(rt, alloc, new_client(alloc, "user", "crayon")?, &mut server)?;
-    log(server.acceptor(), output)
-}
-
 /// A server's side of a new connection.
 fn new_side<'a>(
     alloc: Global,
@@ -172,6 +151,59 @@ fn new_side<'a>(
 ) -> Result<Box<ServerNegotiation<Server<'a>>>> {
     let server = Server::new(users, options, transport);
     Ok(Box::new(alloc, ServerNegotiation::new(alloc, server))?)
+}
+
+/// Logs in at a new server by a password. Returns the client's side, with the keys of the login.
+fn by_password<T: RandomSource>(
+    rt: &T,
+    alloc: Global,
+    users: &MultiRecordStore,
+    options: &ServerOptions,
+) -> Result<Box<ClientNegotiation>> {
+    let mut server = new_side(alloc, users, options, Transport::plaintext())?;
+    by_profile(rt, alloc, new_client(alloc, "user", "pencil")?, &mut server)
+}
+
+/// Logs in at a new server by the keys of an earlier login.
+fn by_keys<T: RandomSource, W: Write>(
+    rt: &T,
+    alloc: Global,
+    users: &MultiRecordStore,
+    options: &ServerOptions,
+    earlier: &ClientNegotiation,
+    output: &mut W,
+) -> Result<()> {
+    let keys = earlier.profile().keys().context("no keys")?;
+    let mut server = new_side(alloc, users, options, Transport::plaintext())?;
+    by_profile(rt, alloc, keyed_client(alloc, "user", keys)?, &mut server)?;
+    print_moved(alloc, &server, users, options, output)
+}
+
+/// Restores a side, and prints who has logged in.
+fn print_moved<W: Write>(
+    alloc: Global,
+    side: &ServerNegotiation<Server<'_>>,
+    users: &MultiRecordStore,
+    options: &ServerOptions,
+    output: &mut W,
+) -> Result<()> {
+    let server = moved(alloc, side, users, options, Transport::plaintext())?;
+    let user = server.authenticated_user().context("no user")?;
+    writeln!(output, "{user} logged in by keys")?;
+    Ok(())
+}
+
+/// Logs in at a new server with a wrong password, and prints the log.
+fn by_wrong_password<T: RandomSource, W: Write>(
+    rt: &T,
+    alloc: Global,
+    users: &MultiRecordStore,
+    options: &ServerOptions,
+    output: &mut W,
+) -> Result<()> {
+    let mut server = new_side(alloc, users, options, Transport::plaintext())?;
+    by_profile(rt, alloc, new_client(alloc, "user", "crayon")?, &mut server)?;
+    log(server.acceptor(), output)
 }
 
 /// Logs in for an identity over a connection with a channel, and prints who acts for whom.
@@ -201,6 +233,30 @@ pub fn report<T: RandomSource, W: Write>(rt: &T, alloc: Global, output: &mut W) 
     let users = new_users(rt, alloc)?;
     let mut options = new_options(alloc, fresh(rt)?.to_vec(alloc)?)?;
     let_act(alloc, &mut options, "user", "alice")?;
-    by_password_and_keys(rt, alloc, &users, &options, output)?;
-    bound_and_acting(rt, alloc, &users, &options, output)
+    with_users(rt, alloc, &users, &options, output)
+}
+
+/// Makes the logins of these users.
+fn with_users<T: RandomSource, W: Write>(
+    rt: &T,
+    alloc: Global,
+    users: &MultiRecordStore,
+    options: &ServerOptions,
+    output: &mut W,
+) -> Result<()> {
+    with_keys(rt, alloc, users, options, output)?;
+    by_wrong_password(rt, alloc, users, options, output)?;
+    bound_and_acting(rt, alloc, users, options, output)
+}
+
+/// Logs in by a password, and then by the keys of that login.
+fn with_keys<T: RandomSource, W: Write>(
+    rt: &T,
+    alloc: Global,
+    users: &MultiRecordStore,
+    options: &ServerOptions,
+    output: &mut W,
+) -> Result<()> {
+    let client = by_password(rt, alloc, users, options)?;
+    by_keys(rt, alloc, users, options, &client, output)
 }

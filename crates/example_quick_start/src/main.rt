@@ -17,6 +17,7 @@ use crate::login::{Transcript, fresh};
 use crate::scram_client::Connection;
 use anyhow::{Context, Result, ensure};
 use bytes::BytesMut;
+use fe2o3_sasl_negotiation::{MultiRecordStore, Server, ServerNegotiation, ServerOptions};
 use std::alloc::Global;
 use std::io;
 use std::io::Write;
@@ -121,10 +122,26 @@ fn over_connection<R: RandomSource, W: Write>(rt: &R, alloc: Global, output: &mu
     let users = connection::new_users(rt, alloc)?;
     let secret = fresh(rt)?.to_vec(alloc)?;
     let options = connection::new_options(alloc, secret)?;
-    let server = connection::new_server(alloc, &users, &options, false);
+    meet_server(rt, alloc, &users, &options, output)
+}
+
+/// Logs in at a new server of these users, and prints who has logged in.
+fn meet_server<R: RandomSource, W: Write>(
+    rt: &R,
+    alloc: Global,
+    users: &MultiRecordStore,
+    options: &ServerOptions,
+    output: &mut W,
+) -> Result<()> {
+    let server = connection::new_server(alloc, users, options, false);
     let mut server = Box::new(alloc, server)?;
     connection::meet(rt, alloc, &mut server)?;
-    let user = server.authenticated_user().context("no user")?;
+    print_user(&server, output)
+}
+
+/// Prints who has logged in.
+fn print_user<W: Write>(side: &ServerNegotiation<Server<'_>>, output: &mut W) -> Result<()> {
+    let user = side.authenticated_user().context("no user")?;
     writeln!(output, "{user} logged in over a connection")?;
     Ok(())
 }

@@ -1,5 +1,6 @@
 #!/usr/bin/env python3
 """What `bindings/packages/pages.py` has to put into a package: pages, examples and signatures, with links that lead there."""
+import importlib.util
 import subprocess
 import sys
 import tempfile
@@ -31,6 +32,18 @@ class PackagePages(unittest.TestCase):
         self.assertEqual([file for file in made if "/" not in file], PAGES)
         self.assertIn("signatures/fe2o3_scram.md", made)
         self.assertIn("rust/README.md", made)
+
+    def test_results_of_runs(self):
+        found = importlib.util.spec_from_file_location("package_pages", TOOL)
+        tool = importlib.util.module_from_spec(found)
+        found.loader.exec_module(tool)
+        with tempfile.TemporaryDirectory() as folder:
+            runs, none, out = Path(folder, "runs"), Path(folder, "none"), Path(folder, "out")
+            runs.mkdir()
+            for day, text in (("2026-01-02", "new"), ("2025-12-31", "old")):
+                (runs / f"{day}.md").write_text(text, encoding="utf-8")
+            tool.write_results(out, {"interop": runs, "bench": none})
+            self.assertEqual({it.name: it.read_text(encoding="utf-8") for it in out.iterdir()}, {"interop.md": "new"})
 
 
 if __name__ == "__main__":
