@@ -194,7 +194,7 @@ impl Choice {
 
 /// What a server of a configuration borrows.
 #[derive(Drop)]
-pub struct Prepared<'a> {
+struct Prepared<'a> {
     records: MultiRecordStore,
     options: ServerOptions,
     transport: Transport<'a>,
@@ -318,7 +318,7 @@ impl SaslServerConfig<'_> {
 
     /// What a server of the configuration borrows, if that offers a mechanism.
     #[tactic(auto, using(crate::proofs::SaslServerLemmas::no_offer))]
-    pub fn prepared(&self, alloc: Global) -> Result<Prepared<'_>, Status>
+    fn prepared(&self, alloc: Global) -> Result<Prepared<'_>, Status>
         ensures ok { IfOk result (λ prepared. IsPrepared self.now prepared) }
         ensures tests { IfOk result (λ _. NoneHolds (config_tests self.now)) }
         ensures err { IfErr result (λ status. status ≢ StatusOutOfMemory → IsNoConfig self.now status) }
