@@ -1,6 +1,6 @@
 //! The calls of a SCRAM server whose state is a struct between them.
 
-ghost use Rattle.std.specs.Prelude.{◌≡◌, ◌≢◌, ◌≤◌, ◌^◌, [], List, ℕ, Option, None, length, Ok, Err, IfOk, IfErr, OnErr};
+ghost use Rattle.std.specs.Prelude.{◌≡◌, ◌≢◌, ◌≤◌, ◌^◌, List, ℕ, Option, None, length, Ok, Err, IfOk, IfErr, OnErr};
 ghost use Rattle.fe2o3_scram.specs.ClientFirst.{HasEscapes, client_first_values};
 ghost use Rattle.fe2o3_scram.specs.Credentials.{Record};
 ghost use Rattle.fe2o3_scram.specs.ServerFirst.{ServerChallenge};
