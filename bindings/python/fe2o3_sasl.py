@@ -1,7 +1,7 @@
 """SCRAM (RFC 5802, RFC 7677), and the SASL layer of AMQP 1.0, by the library of `fe2o3_sasl.h`, called by `ctypes`.
 
 The module loads the library that the environment variable FE2O3_SASL_LIB names, otherwise the system's
-`libfe2o3_sasl.so.2`. Importing it fails if the structs of the library have other sizes than those below.
+`libfe2o3_sasl.so.3`. Importing it fails if the structs of the library have other sizes than those below.
 
 A client:
 
@@ -77,15 +77,8 @@ A client that selects the first of its allowed mechanisms that the server offers
 
     side = ClientConnection.select("user", "pencil", ("SCRAM-SHA-512", "SCRAM-SHA-256"), hostname="broker.example")
 
-A login over frame bodies, each from the data offset on, for programs that read and write frames themselves:
-
-    side = ClientSteps(client, hostname="broker.example")
-    for _ in range(3):                  # the mechanisms, a challenge, and the outcome
-        answer = side.on_frame(receive_body())
-        if side.progress != Progress.IN_PROGRESS:
-            break
-        send_body(answer)
-    # complete if side.progress is Progress.AUTHENTICATED; otherwise side.why says why not
+A program that reads frames itself passes `receive` the header of eight bytes first, and then each frame with its four
+bytes of size.
 
 A program with asyncio logs in by the module `fe2o3_sasl_asyncio`.
 
@@ -147,7 +140,6 @@ __all__ = [
     "ChannelKind",
     "Client",
     "ClientConnection",
-    "ClientSteps",
     "CredentialsRejected",
     "EndOfInput",
     "Frame",
@@ -174,7 +166,6 @@ __all__ = [
     "ServerConnection",
     "ServerError",
     "ServerNotAuthenticated",
-    "ServerSteps",
     "StaleKeys",
     "Status",
     "TemporarilyRejected",
@@ -828,6 +819,18 @@ _EXPORTS: dict[str, tuple[Any, list[Any]]] = {
     "fe2o3_scram_server_claimed_user": (
         ctypes.c_uint32,
         [
+            ctypes.POINTER(_ScramRulesStruct),
+            ctypes.c_char_p,
+            ctypes.c_size_t,
+            ctypes.c_void_p,
+            ctypes.c_size_t,
+            ctypes.POINTER(ctypes.c_size_t),
+        ],
+    ),
+    "fe2o3_scram_server_claimed_identity": (
+        ctypes.c_uint32,
+        [
+            ctypes.POINTER(_ScramRulesStruct),
             ctypes.c_char_p,
             ctypes.c_size_t,
             ctypes.c_void_p,
@@ -838,19 +841,7 @@ _EXPORTS: dict[str, tuple[Any, list[Any]]] = {
     "fe2o3_scram_server_first": (
         ctypes.c_uint32,
         [
-            ctypes.POINTER(_ScramRecordStruct),
-            ctypes.POINTER(_ScramServerStruct),
-            ctypes.c_char_p,
-            ctypes.c_char_p,
-            ctypes.c_size_t,
-            ctypes.c_void_p,
-            ctypes.c_size_t,
-            ctypes.POINTER(ctypes.c_size_t),
-        ],
-    ),
-    "fe2o3_scram_server_first_with_cbind_flag_y": (
-        ctypes.c_uint32,
-        [
+            ctypes.POINTER(_ScramRulesStruct),
             ctypes.POINTER(_ScramRecordStruct),
             ctypes.POINTER(_ScramServerStruct),
             ctypes.c_char_p,
@@ -862,43 +853,6 @@ _EXPORTS: dict[str, tuple[Any, list[Any]]] = {
         ],
     ),
     "fe2o3_scram_server_final": (
-        ctypes.c_uint32,
-        [
-            ctypes.POINTER(_ScramRecordStruct),
-            ctypes.POINTER(_ScramServerStruct),
-            ctypes.c_char_p,
-            ctypes.c_size_t,
-            ctypes.c_void_p,
-            ctypes.c_size_t,
-            ctypes.POINTER(ctypes.c_size_t),
-        ],
-    ),
-    "fe2o3_scram_server_claimed_user_with_rules": (
-        ctypes.c_uint32,
-        [
-            ctypes.POINTER(_ScramRulesStruct),
-            ctypes.c_char_p,
-            ctypes.c_size_t,
-            ctypes.c_void_p,
-            ctypes.c_size_t,
-            ctypes.POINTER(ctypes.c_size_t),
-        ],
-    ),
-    "fe2o3_scram_server_first_with_rules": (
-        ctypes.c_uint32,
-        [
-            ctypes.POINTER(_ScramRulesStruct),
-            ctypes.POINTER(_ScramRecordStruct),
-            ctypes.POINTER(_ScramServerStruct),
-            ctypes.c_char_p,
-            ctypes.c_char_p,
-            ctypes.c_size_t,
-            ctypes.c_void_p,
-            ctypes.c_size_t,
-            ctypes.POINTER(ctypes.c_size_t),
-        ],
-    ),
-    "fe2o3_scram_server_final_with_rules": (
         ctypes.c_uint32,
         [
             ctypes.POINTER(_ScramRulesStruct),
@@ -915,17 +869,6 @@ _EXPORTS: dict[str, tuple[Any, list[Any]]] = {
         ctypes.c_uint32,
         [
             ctypes.POINTER(_ScramServerStruct),
-            ctypes.c_void_p,
-            ctypes.c_size_t,
-            ctypes.POINTER(ctypes.c_size_t),
-        ],
-    ),
-    "fe2o3_scram_server_claimed_identity": (
-        ctypes.c_uint32,
-        [
-            ctypes.POINTER(_ScramRulesStruct),
-            ctypes.c_char_p,
-            ctypes.c_size_t,
             ctypes.c_void_p,
             ctypes.c_size_t,
             ctypes.POINTER(ctypes.c_size_t),
@@ -1053,54 +996,6 @@ _EXPORTS: dict[str, tuple[Any, list[Any]]] = {
         ],
     ),
     "fe2o3_sasl_end_of_input": (None, [ctypes.POINTER(_ConnectionStruct)]),
-    "fe2o3_sasl_client_step": (
-        ctypes.c_uint32,
-        [
-            ctypes.POINTER(_SaslLoginStruct),
-            ctypes.POINTER(_ScramClientStruct),
-            ctypes.c_char_p,
-            ctypes.c_size_t,
-            ctypes.c_char_p,
-            ctypes.POINTER(ctypes.c_uint32),
-            ctypes.c_void_p,
-            ctypes.c_size_t,
-            ctypes.POINTER(ctypes.c_size_t),
-        ],
-    ),
-    "fe2o3_sasl_server_offer": (
-        ctypes.c_uint32,
-        [
-            ctypes.POINTER(_SaslServerConfigStruct),
-            ctypes.c_void_p,
-            ctypes.c_size_t,
-            ctypes.POINTER(ctypes.c_size_t),
-        ],
-    ),
-    "fe2o3_sasl_server_step_claimed_user": (
-        ctypes.c_uint32,
-        [
-            ctypes.POINTER(_ScramServerStruct),
-            ctypes.c_char_p,
-            ctypes.c_size_t,
-            ctypes.c_void_p,
-            ctypes.c_size_t,
-            ctypes.POINTER(ctypes.c_size_t),
-        ],
-    ),
-    "fe2o3_sasl_server_step": (
-        ctypes.c_uint32,
-        [
-            ctypes.POINTER(_SaslServerConfigStruct),
-            ctypes.POINTER(_ScramServerStruct),
-            ctypes.c_char_p,
-            ctypes.c_size_t,
-            ctypes.c_char_p,
-            ctypes.POINTER(ctypes.c_uint32),
-            ctypes.c_void_p,
-            ctypes.c_size_t,
-            ctypes.POINTER(ctypes.c_size_t),
-        ],
-    ),
     "fe2o3_sasl_view_frame": (
         ctypes.c_uint32,
         [
@@ -1386,7 +1281,7 @@ def _load(name: str) -> ctypes.CDLL:
     return library
 
 
-_library = _load(os.environ.get("FE2O3_SASL_LIB") or "libfe2o3_sasl.so.2")
+_library = _load(os.environ.get("FE2O3_SASL_LIB") or "libfe2o3_sasl.so.3")
 
 
 def library_version() -> tuple[int, int, int]:
@@ -1833,7 +1728,7 @@ class Record(_Stored):
         """Computes a mock record for a name without a record of this hash, so that the server answers it like one with a
         record. The login then fails at its proof. The secret is 32 or more random bytes, one value for all names, kept
         as long as the records. The salt length, at most 64, and the iteration count are those of the other records.
-        `ServerConnection` and `ServerSteps` make mock records themselves (`mock`), as does `RecordStore.record`."""
+        `ServerConnection` makes mock records itself (`mock`), as does `RecordStore.record`."""
         settings = _Mock((secret, salt_length, iterations))
         try:
             return cls._of(settings.record(_number(version), _text(username)))
@@ -1967,7 +1862,7 @@ class RecordStore(_Wipeable):
 
     def records(self, name: str) -> list[Record]:
         """Returns the records of a user, those of SHA-256 first, of which PLAIN takes the first; none for an unknown name.
-        Pass this method to `ServerConnection` or `ServerSteps`."""
+        Pass this method to `ServerConnection`."""
         return list(self._known().get(name, ()))
 
     def hashes(self) -> Offer:
@@ -2148,8 +2043,8 @@ class Client(_Guarded):
         """A client that has sent nothing. It rejects an iteration count below the minimum, with which a server could
         guess the password sooner (RFC 7677 requires at least 4096), and one above the maximum, which costs time.
 
-        With `signature_by_challenge`, `ClientConnection` and `ClientSteps` also accept the server's signature in a
-        challenge, before an outcome without data (RFC 4422, section 5).
+        With `signature_by_challenge`, a `ClientConnection` also accepts the server's signature in a challenge, before an
+        outcome without data (RFC 4422, section 5).
 
         The client binds `channel`, by the mechanism with `-PLUS` (`mechanism`). If the server did not offer that one,
         set `plus_offered` to False: the client then binds nothing, and its GS2 header is `y,,`. A server that offers
@@ -2165,8 +2060,8 @@ class Client(_Guarded):
         The client acts for the identity `acts_for` (RFC 4422, section 2), without escapes, or for itself if that is None
         or empty. The server has to let the user act for it. The GS2 header is then `n,a=` with the identity, and the
         client tests the extensions in any case. An identity of more than 256 bytes or with NUL raises `Refused` at the
-        first call, with TOO_LONG or PROHIBITED_CHARACTER. A `ClientConnection` or `ClientSteps` of the client acts for
-        the identity too."""
+        first call, with TOO_LONG or PROHIBITED_CHARACTER. A `ClientConnection` of the client acts for the identity
+        too."""
         if password is None and keys is None:
             raise ValueError("a login takes a password, keys, or both")
         name = _text(username)
@@ -2336,15 +2231,16 @@ _INIT = 0x41
 _REJECTIONS = {int(one): one for one in Rejection}
 
 
-class _Login(_Guarded):
-    """The progress of a login, on either side."""
+class _Connection(_Guarded):
+    """A login over the bytes of a connection, whose struct says how far it is."""
 
     __slots__ = ()
     _struct: Any
 
     def _ends(self) -> tuple[int, int]:
         """How far the login is, and the status of why it failed."""
-        raise NotImplementedError
+        connection = self._struct.connection
+        return int(connection.progress), int(connection.why)
 
     @property
     def progress(self) -> int:
@@ -2365,16 +2261,6 @@ class _Login(_Guarded):
 
     def _shown(self) -> str:
         return f"progress={self._ends()[0]}"
-
-
-class _Connection(_Login):
-    """A login over the bytes of a connection, whose struct says how far it is."""
-
-    __slots__ = ()
-
-    def _ends(self) -> tuple[int, int]:
-        connection = self._struct.connection
-        return int(connection.progress), int(connection.why)
 
     def accept_extended_headers(self, accept: bool = True) -> None:
         """Sets whether this side accepts frames with an extended header, which a new connection does not. It then reads
@@ -2419,30 +2305,7 @@ class _Connection(_Login):
         return _written(508, lambda *room: _library.fe2o3_sasl_peek_frame(connection, data, len(data), *room))
 
 
-class _Steps(_Login):
-    """A login over frame bodies. The number of the last step says how far it is."""
-
-    __slots__ = ()
-    _progress: int
-
-    def _ends(self) -> tuple[int, int]:
-        return min(self._progress, int(Progress.FAILED)), self._progress
-
-    def _goes_on(self) -> None:
-        if self.progress != Progress.IN_PROGRESS:
-            _done(Status.ENDED)
-
-    @staticmethod
-    def _stepped(call: Callable[..., int]) -> tuple[bytes, int]:
-        """Returns the body that a step writes, and its number. `call` receives where the number goes, and what
-        `_written` passes."""
-        number = ctypes.c_uint32()
-        # 508 bytes are those of a frame of 512 without its size (AMQP 1.0, part 5, section 5.3.1).
-        answer = _written(508, lambda *room: call(ctypes.byref(number), *room))
-        return answer, number.value
-
-
-_Side = TypeVar("_Side", bound="_ClientSide")
+_Side = TypeVar("_Side", bound="ClientConnection")
 _ClientLogin = tuple[_SaslLoginStruct, _OwnLogin]
 
 
@@ -2463,8 +2326,16 @@ def _scram_name(login: _LoginStruct) -> str:
     return f"{name}-PLUS" if name and login.channel_use == _ChannelUse.BOUND else name
 
 
-class _ClientSide(_Login):
-    """A client's login, and its mechanism."""
+def _name_of(login: _SaslLoginStruct) -> bytes:
+    """Returns the name of the mechanism of a login."""
+    if login.mechanism == _Mechanism.SCRAM:
+        return _scram_name(login.login).encode("ascii")
+    return _Mechanism(login.mechanism).name.removesuffix("_AS").encode("ascii")
+
+
+class ClientConnection(_Connection):
+    """The client's side of one AMQP 1.0 connection, from its first byte to the end of the login. It does no I/O: you
+    pass in received bytes, in pieces of any size, and send the bytes it returns."""
 
     __slots__ = ("_allowed", "_login", "_refusal_data", "_struct")
 
@@ -2475,7 +2346,7 @@ class _ClientSide(_Login):
             self._begin(self._login_of(_Mechanism.SCRAM, client._login, hostname))
 
     def _begin(self, login: _ClientLogin, allowed: Iterable[_ClientLogin] = ()) -> None:
-        self._login, self._struct = login, self._fresh()
+        self._login, self._struct = login, _SaslClientStruct()
         # The logins among which the list of mechanisms selects; none once it has, or where there is one mechanism.
         self._allowed = list(allowed)
         self._refusal_data: Optional[bytes] = None
@@ -2490,12 +2361,6 @@ class _ClientSide(_Login):
     def _secrets(self) -> Iterable[Any]:
         logins = [self._login, *self._allowed]
         return [self._struct, *(secret for login in logins for secret in _secrets_of(login))]
-
-    def _fresh(self) -> Any:
-        raise NotImplementedError
-
-    def _scram(self) -> Any:
-        raise NotImplementedError
 
     @classmethod
     def _by(
@@ -2630,33 +2495,6 @@ class _ClientSide(_Login):
         challenge by it."""
         return cls._by(_Mechanism.EXTERNAL_AS, identity, "", hostname)
 
-    def keys(self) -> Keys:
-        """Returns the keys of a login by SCRAM, like `Client.keys`."""
-        struct = _ScramKeysStruct()
-        with self._lock:
-            _done(_library.fe2o3_scram_client_get_keys(ctypes.byref(self._scram()), ctypes.byref(struct)))
-        return Keys._of(struct)
-
-
-def _name_of(login: _SaslLoginStruct) -> bytes:
-    """Returns the name of the mechanism of a login."""
-    if login.mechanism == _Mechanism.SCRAM:
-        return _scram_name(login.login).encode("ascii")
-    return _Mechanism(login.mechanism).name.removesuffix("_AS").encode("ascii")
-
-
-class ClientConnection(_Connection, _ClientSide):
-    """The client's side of one AMQP 1.0 connection, from its first byte to the end of the login. It does no I/O: you
-    pass in received bytes, in pieces of any size, and send the bytes it returns."""
-
-    __slots__ = ()
-
-    def _fresh(self) -> _SaslClientStruct:
-        return _SaslClientStruct()
-
-    def _scram(self) -> Any:
-        return self._struct.scram
-
     @staticmethod
     def open() -> bytes:
         """Returns the SASL protocol header, which a client sends first."""
@@ -2683,46 +2521,17 @@ class ClientConnection(_Connection, _ClientSide):
                 self._notice(body)
         return b"".join(answers), rest
 
-
-class ClientSteps(_Steps, _ClientSide):
-    """The client's side of one login over frame bodies, each from the data offset on, without the four bytes of the
-    frame's size.
-
-    A login takes three bodies of the server: its mechanisms, for SCRAM a challenge, and the outcome. A signature in a
-    challenge takes one more (`signature_by_challenge`). If you pass more of them, the server can make the client hash
-    again and again."""
-
-    __slots__ = ("_progress",)
-
-    def _fresh(self) -> _ScramClientStruct:
-        self._progress = 0
-        return _ScramClientStruct()
-
-    def _scram(self) -> Any:
-        return self._struct
-
-    def on_frame(self, body: Bytes) -> bytes:
-        """Takes a received body, and returns the body to send: the init for the mechanisms, the response for a
-        challenge, and nothing for an outcome. Then `progress` says how far the login is. If it raises, other than
-        `OutOfMemory`, close the connection.
-
-        PLAIN, ANONYMOUS and EXTERNAL accept any outcome Ok, even one that comes first. SCRAM accepts only an outcome
-        that authenticates the server (RFC 5802, section 5)."""
-        came, nonce = _bytes(body), secrets.token_bytes(32)
+    def keys(self) -> Keys:
+        """Returns the keys of a login by SCRAM, like `Client.keys`."""
+        struct = _ScramKeysStruct()
         with self._lock:
-            self._goes_on()
-            self._select(came)
-            answer, self._progress = self._stepped(
-                lambda *room: _library.fe2o3_sasl_client_step(
-                    self._login[0], self._struct, came, len(came), nonce, *room
-                )
-            )
-            self._notice(came)
-            return answer
+            _done(_library.fe2o3_scram_client_get_keys(ctypes.byref(self._struct.scram), ctypes.byref(struct)))
+        return Keys._of(struct)
 
 
-class _ServerSide(_Login):
-    """A server's login: what it offers, and its records."""
+class ServerConnection(_Connection):
+    """The server's side of one AMQP 1.0 connection, from its first byte to the end of the login. It does no I/O, like
+    `ClientConnection`."""
 
     __slots__ = (
         "_attempt",
@@ -2785,10 +2594,8 @@ class _ServerSide(_Login):
             raise ValueError("the iteration count is that of the mock records")
         self._identities_of = identities_of
         self._records_of, self._mechanisms = records_of, _number(mechanisms)
-        self._iterations, self._struct = (
-            _number(DEFAULT_ITERATIONS if iterations is None else iterations),
-            self._fresh(),
-        )
+        self._iterations = _number(DEFAULT_ITERATIONS if iterations is None else iterations)
+        self._struct = _SaslServerStruct()
         self._external_authcid = _text("" if external_authcid is None else external_authcid)
         self._channels = _channels_of(channels)
         self._attempt: Optional[LoginAttempt] = None
@@ -2796,12 +2603,6 @@ class _ServerSide(_Login):
         # Why the last call rejects a login whose record is a mock record; None if it is not.
         self._mock_rejection: Optional[Rejection] = None
         self._lock = _Guard(self)
-
-    def _fresh(self) -> Any:
-        raise NotImplementedError
-
-    def _scram(self) -> Any:
-        raise NotImplementedError
 
     def _secrets(self) -> Iterable[Any]:
         return [self._struct] if self._mock is None else [self._struct, self._mock._secret]
@@ -2824,7 +2625,7 @@ class _ServerSide(_Login):
                 if copies:
                     reason = Rejection.NO_RECORD_FOR_HASH
                 # (the struct has the hash of the open challenge until the call rejects the login)
-                self._mock_rejection = reason if self._scram().version in lacked else None
+                self._mock_rejection = reason if self._struct.scram.version in lacked else None
                 for hash in lacked:
                     copies.append(self._mock.record(hash, known))
                     stack.callback(_wipe, copies[-1])
@@ -2850,15 +2651,42 @@ class _ServerSide(_Login):
                 identities_len=len(identities),
             )
 
-    @staticmethod
-    def _named(call: Callable[..., int]) -> Optional[str]:
-        """Returns the user that a call says is claimed, if any."""
+    def receive(self, data: Bytes) -> tuple[bytes, bytes]:
+        """Takes received bytes, and returns the bytes to send and the bytes that are left, like
+        `ClientConnection.receive`."""
+        rest, answers = _bytes(data), []
+        with self._lock:
+            while rest and self.progress == Progress.IN_PROGRESS:
+                answer, taken = self._step(rest)
+                answers.append(answer)
+                rest = rest[taken:]
+        return b"".join(answers), rest
+
+    def _step(self, data: bytes) -> tuple[bytes, int]:
+        name = self._named(data)
+        nonce, taken, body = secrets.token_bytes(32), ctypes.c_size_t(), self._peeked(data)
+        with self._config(name) as config:
+            answer = _written(
+                520,
+                lambda *room: _library.fe2o3_sasl_server_receive(
+                    config, self._struct, data, len(data), nonce, ctypes.byref(taken), *room
+                ),
+            )
+        if body:
+            self._claims(body, name)
+        return answer, taken.value
+
+    def _named(self, data: bytes) -> Optional[str]:
+        """Returns the user that the next frame claims, if received bytes complete one that does."""
         try:
-            return _written(512, call).decode("utf-8")
+            name = _written(
+                512, lambda *room: _library.fe2o3_sasl_server_claimed_user(self._struct, data, len(data), *room)
+            )
         except Refused as why:
             if why.status == Status.NAMES_NO_USER:
                 return None
             raise
+        return name.decode("utf-8")
 
     def last_attempt(self) -> Optional[LoginAttempt]:
         """Returns what the last init claims, also after a rejection, for a log. None before the first init. Nobody is
@@ -2874,7 +2702,7 @@ class _ServerSide(_Login):
         the hash (NO_RECORD_FOR_HASH) than for a wrong password (WRONG_PROOF). PLAIN has one for all of them,
         WRONG_PASSWORD."""
         with self._lock:
-            number = int(self._scram().rejection)
+            number = int(self._struct.scram.rejection)
             if self._mock_rejection is not None and number in (Rejection.WRONG_PROOF, Rejection.NO_RIGHT):
                 return self._mock_rejection
             # (a later library can have more reasons)
@@ -2895,7 +2723,7 @@ class _ServerSide(_Login):
         """Returns the name of the authenticated user, without escapes; None for ANONYMOUS. Raises `InvalidState` if no
         user is authenticated."""
         with self._lock:
-            scram = self._scram()
+            scram = self._struct.scram
             if self.progress == Progress.AUTHENTICATED and scram.state == _ServerState.INITIAL:
                 return None
             name = _written(
@@ -2908,88 +2736,10 @@ class _ServerSide(_Login):
         user acts for itself. The connection belongs to this identity, if there is one. Raises `InvalidState` if no user is
         authenticated."""
         with self._lock:
-            scram = self._scram()
+            scram = self._struct.scram
             if self.progress == Progress.AUTHENTICATED and scram.state == _ServerState.INITIAL:
                 return None
             return _identity_of(scram)
-
-
-class ServerConnection(_Connection, _ServerSide):
-    """The server's side of one AMQP 1.0 connection, from its first byte to the end of the login. It does no I/O, like
-    `ClientConnection`."""
-
-    __slots__ = ()
-
-    def _fresh(self) -> _SaslServerStruct:
-        return _SaslServerStruct()
-
-    def _scram(self) -> Any:
-        return self._struct.scram
-
-    def receive(self, data: Bytes) -> tuple[bytes, bytes]:
-        """Takes received bytes, and returns the bytes to send and the bytes that are left, like
-        `ClientConnection.receive`."""
-        rest, answers = _bytes(data), []
-        with self._lock:
-            while rest and self.progress == Progress.IN_PROGRESS:
-                answer, taken = self._step(rest)
-                answers.append(answer)
-                rest = rest[taken:]
-        return b"".join(answers), rest
-
-    def _step(self, data: bytes) -> tuple[bytes, int]:
-        name = self._named(lambda *room: _library.fe2o3_sasl_server_claimed_user(self._struct, data, len(data), *room))
-        nonce, taken, body = secrets.token_bytes(32), ctypes.c_size_t(), self._peeked(data)
-        with self._config(name) as config:
-            answer = _written(
-                520,
-                lambda *room: _library.fe2o3_sasl_server_receive(
-                    config, self._struct, data, len(data), nonce, ctypes.byref(taken), *room
-                ),
-            )
-        if body:
-            self._claims(body, name)
-        return answer, taken.value
-
-
-class ServerSteps(_Steps, _ServerSide):
-    """The server's side of one login over frame bodies, like `ClientSteps`.
-
-    A login takes two bodies of the client: its init, and for SCRAM a response. It takes one more with each of
-    `Offer.SIGNATURE_BY_CHALLENGE` and `Offer.INITIAL_RESPONSE_BY_CHALLENGE`. If you pass more of them, the client can
-    try passwords again and again.
-    """
-
-    __slots__ = ("_progress",)
-
-    def _fresh(self) -> _ScramServerStruct:
-        self._progress = 0
-        return _ScramServerStruct()
-
-    def _scram(self) -> Any:
-        return self._struct
-
-    def offer(self) -> bytes:
-        """Returns the frame body with which the server offers its mechanisms. Send it after the client's SASL
-        header."""
-        with self._lock, self._config(None) as config:
-            return _written(508, lambda *room: _library.fe2o3_sasl_server_offer(config, *room))
-
-    def on_frame(self, body: Bytes) -> bytes:
-        """Takes a received body, and returns the body to send: a challenge, or the outcome. Then `progress` says
-        how far the login is. If it raises, other than `OutOfMemory`, close the connection."""
-        came, nonce = _bytes(body), secrets.token_bytes(32)
-        with self._lock:
-            self._goes_on()
-            name = self._named(
-                lambda *room: _library.fe2o3_sasl_server_step_claimed_user(self._struct, came, len(came), *room)
-            )
-            with self._config(name) as config:
-                answer, self._progress = self._stepped(
-                    lambda *room: _library.fe2o3_sasl_server_step(config, self._struct, came, len(came), nonce, *room)
-                )
-            self._claims(came, name)
-            return answer
 
 
 def _channels_of(channels: Optional[Iterable[Channel]]) -> _ServerChannelsStruct:
@@ -3047,7 +2797,7 @@ class _ClaimedUser:
         """Returns the user name that a client-first message claims, without escapes. Nobody is authenticated yet: use
         it only to look up the record. Called on a server, it applies the rules of that server, such as its channels.
         Called on the class, it accepts the GS2 headers `n,,` and `y,,`."""
-        message, call, rules = _bytes(client_first), _library.fe2o3_scram_server_claimed_user_with_rules, rules_of()
+        message, call, rules = _bytes(client_first), _library.fe2o3_scram_server_claimed_user, rules_of()
         name = _written(256, lambda *room: call(rules, message, len(message), *room))
         return name.decode("utf-8")
 
@@ -3106,7 +2856,7 @@ class Server(_Guarded):
         the claimed user (`claimed_user`), or a mock record (`RecordStore.record`). With `accept_cbind_flag_y` the server
         accepts the GS2 header `y,,` for this exchange, if it has no `channels`."""
         message, nonce, opened = _bytes(client_first), secrets.token_bytes(32), _ScramServerStruct()
-        call, rules, known = _library.fe2o3_scram_server_first_with_rules, self._rules_copied(), record._copied()
+        call, rules, known = _library.fe2o3_scram_server_first, self._rules_copied(), record._copied()
         if accept_cbind_flag_y:
             rules.accept_cbind_flag_y = 1
         replaced = known, opened
@@ -3125,7 +2875,7 @@ class Server(_Guarded):
 
         `identities` are those that the user may act for besides itself (RFC 4422, section 2). A user who may not act for
         the identity that the client named gets `AuthenticationFailed` too."""
-        message, call = _bytes(client_final), _library.fe2o3_scram_server_final_with_rules
+        message, call = _bytes(client_final), _library.fe2o3_scram_server_final
         allowed = _joined(identities)
         with self._lock:
             known, opened, kept = self._exchange

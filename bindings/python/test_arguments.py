@@ -13,7 +13,7 @@ from typing import Any, Callable, Optional
 from unittest import mock
 
 import fe2o3_sasl
-from cases import LIBRARY, SALT, Case, login, of
+from cases import LIBRARY, SALT, Case, ClientBodies, ServerBodies, login, of
 from examples.login import log_in, serve
 from fe2o3_sasl import (
     SHA_1,
@@ -21,14 +21,12 @@ from fe2o3_sasl import (
     SHA_512,
     Client,
     ClientConnection,
-    ClientSteps,
     Keys,
     Offer,
     Record,
     RecordStore,
     Refused,
     Server,
-    ServerSteps,
     Status,
 )
 from peers import Secret, base64_of
@@ -106,7 +104,7 @@ class Arguments(Case):
         login(client, server, record)
         keys = client.keys()
         secret = Secret(SHA_256, password, record.salt, 4096)
-        sides = ClientSteps.plain(name, password), ServerSteps(of({name: record}), mechanisms=Offer.PLAIN)
+        sides = ClientBodies.plain(name, password), ServerBodies(of({name: record}), mechanisms=Offer.PLAIN)
         init = sides[0].on_frame(sides[1].offer())
         self.assertIn(password.encode(), init)
         frame = fe2o3_sasl.view_frame(init)
@@ -195,8 +193,11 @@ class Refusals(Case):
 
         one, two = os.urandom(32), os.urandom(32)
         first = rooms(None, client._struct, lambda *room: LIBRARY.fe2o3_scram_client_first(*given, one, *room))
-        known = record._struct, server
-        user = rooms(None, server, lambda *room: LIBRARY.fe2o3_scram_server_claimed_user(first, len(first), *room))
+        rules = fe2o3_sasl._rules_of()
+        known = rules, record._struct, server
+        user = rooms(
+            None, server, lambda *room: LIBRARY.fe2o3_scram_server_claimed_user(rules, first, len(first), *room)
+        )
         self.assertEqual(user, b"user")
         challenge = rooms(
             None,

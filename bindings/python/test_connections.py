@@ -17,7 +17,6 @@ from fe2o3_sasl import (
     SHA_512,
     Client,
     ClientConnection,
-    ClientSteps,
     Offer,
     Progress,
     Record,
@@ -180,7 +179,6 @@ class Connections(Case):
             with self.subTest(name=name, password=password):
                 offer = SASL_HEADER + mechanisms_frame("PLAIN")
                 self.refused(status, ClientConnection.plain(name, password, strict=True).receive, offer)
-                self.refused(status, ClientSteps.plain(name, password, strict=True).on_frame, offer[12:])
                 sent, _ = ClientConnection.plain(name, password).receive(offer)
                 self.assertEqual(fields_of(sent), (INIT, [b"PLAIN", f"\0{name}\0{password}".encode()]))
 

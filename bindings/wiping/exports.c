@@ -233,105 +233,15 @@ uint32_t fe2o3_scram_client_get_keys(const struct fe2o3_scram_client *client, st
     return answer;
 }
 
-uint32_t proved_fe2o3_scram_server_claimed_user(const uint8_t *client_first, size_t client_first_len, uint8_t *out,
-    size_t out_size, size_t *out_len);
-uint32_t fe2o3_scram_server_claimed_user(const uint8_t *client_first, size_t client_first_len, uint8_t *out,
-    size_t out_size, size_t *out_len)
-{
-    uint32_t answer;
-    BELOW_PAD(answer = proved_fe2o3_scram_server_claimed_user(client_first, client_first_len, out, out_size, out_len));
-    clear_stack(depth_scram_server_claimed_user);
-    return answer;
-}
-
-uint32_t proved_fe2o3_scram_server_first(const struct fe2o3_scram_record *kept, struct fe2o3_scram_server *server,
-    const uint8_t nonce[32], const uint8_t *client_first, size_t client_first_len, uint8_t *out, size_t out_size,
-    size_t *out_len);
-uint32_t fe2o3_scram_server_first(const struct fe2o3_scram_record *kept, struct fe2o3_scram_server *server,
-    const uint8_t nonce[32], const uint8_t *client_first, size_t client_first_len, uint8_t *out, size_t out_size,
-    size_t *out_len)
-{
-    uint32_t answer;
-    BELOW_PAD(answer = proved_fe2o3_scram_server_first(kept, server, nonce, client_first, client_first_len, out,
-        out_size, out_len));
-    clear_stack(depth_scram_server_first);
-    return answer;
-}
-
-uint32_t proved_fe2o3_scram_server_first_with_cbind_flag_y(const struct fe2o3_scram_record *kept,
-    struct fe2o3_scram_server *server, const uint8_t nonce[32], const uint8_t *client_first, size_t client_first_len,
-    uint8_t *out, size_t out_size, size_t *out_len);
-uint32_t fe2o3_scram_server_first_with_cbind_flag_y(const struct fe2o3_scram_record *kept,
-    struct fe2o3_scram_server *server, const uint8_t nonce[32], const uint8_t *client_first, size_t client_first_len,
-    uint8_t *out, size_t out_size, size_t *out_len)
-{
-    uint32_t answer;
-    BELOW_PAD(answer = proved_fe2o3_scram_server_first_with_cbind_flag_y(kept, server, nonce, client_first,
-        client_first_len, out, out_size, out_len));
-    clear_stack(depth_scram_server_first_with_cbind_flag_y);
-    return answer;
-}
-
-uint32_t proved_fe2o3_scram_server_final(const struct fe2o3_scram_record *kept, struct fe2o3_scram_server *server,
-    const uint8_t *client_final, size_t client_final_len, uint8_t *out, size_t out_size, size_t *out_len);
-uint32_t fe2o3_scram_server_final(const struct fe2o3_scram_record *kept, struct fe2o3_scram_server *server,
-    const uint8_t *client_final, size_t client_final_len, uint8_t *out, size_t out_size, size_t *out_len)
-{
-    uint32_t answer;
-    BELOW_PAD(answer = proved_fe2o3_scram_server_final(kept, server, client_final, client_final_len, out, out_size,
-        out_len));
-    clear_stack(depth_scram_server_final);
-    return answer;
-}
-
-uint32_t proved_fe2o3_scram_server_claimed_user_with_rules(const struct fe2o3_scram_rules *rules,
-    const uint8_t *client_first, size_t client_first_len, uint8_t *out, size_t out_size, size_t *out_len);
-uint32_t fe2o3_scram_server_claimed_user_with_rules(const struct fe2o3_scram_rules *rules, const uint8_t *client_first,
+uint32_t proved_fe2o3_scram_server_claimed_user(const struct fe2o3_scram_rules *rules, const uint8_t *client_first,
+    size_t client_first_len, uint8_t *out, size_t out_size, size_t *out_len);
+uint32_t fe2o3_scram_server_claimed_user(const struct fe2o3_scram_rules *rules, const uint8_t *client_first,
     size_t client_first_len, uint8_t *out, size_t out_size, size_t *out_len)
 {
     uint32_t answer;
-    BELOW_PAD(answer = proved_fe2o3_scram_server_claimed_user_with_rules(rules, client_first, client_first_len, out,
-        out_size, out_len));
-    clear_stack(depth_scram_server_claimed_user_with_rules);
-    return answer;
-}
-
-uint32_t proved_fe2o3_scram_server_first_with_rules(const struct fe2o3_scram_rules *rules,
-    const struct fe2o3_scram_record *kept, struct fe2o3_scram_server *server, const uint8_t nonce[32],
-    const uint8_t *client_first, size_t client_first_len, uint8_t *out, size_t out_size, size_t *out_len);
-uint32_t fe2o3_scram_server_first_with_rules(const struct fe2o3_scram_rules *rules,
-    const struct fe2o3_scram_record *kept, struct fe2o3_scram_server *server, const uint8_t nonce[32],
-    const uint8_t *client_first, size_t client_first_len, uint8_t *out, size_t out_size, size_t *out_len)
-{
-    uint32_t answer;
-    BELOW_PAD(answer = proved_fe2o3_scram_server_first_with_rules(rules, kept, server, nonce, client_first,
-        client_first_len, out, out_size, out_len));
-    clear_stack(depth_scram_server_first_with_rules);
-    return answer;
-}
-
-uint32_t proved_fe2o3_scram_server_final_with_rules(const struct fe2o3_scram_rules *rules,
-    const struct fe2o3_scram_record *kept, struct fe2o3_scram_server *server, const uint8_t *client_final,
-    size_t client_final_len, uint8_t *out, size_t out_size, size_t *out_len);
-uint32_t fe2o3_scram_server_final_with_rules(const struct fe2o3_scram_rules *rules,
-    const struct fe2o3_scram_record *kept, struct fe2o3_scram_server *server, const uint8_t *client_final,
-    size_t client_final_len, uint8_t *out, size_t out_size, size_t *out_len)
-{
-    uint32_t answer;
-    BELOW_PAD(answer = proved_fe2o3_scram_server_final_with_rules(rules, kept, server, client_final, client_final_len,
-        out, out_size, out_len));
-    clear_stack(depth_scram_server_final_with_rules);
-    return answer;
-}
-
-uint32_t proved_fe2o3_scram_server_authenticated_user(const struct fe2o3_scram_server *server, uint8_t *out,
-    size_t out_size, size_t *out_len);
-uint32_t fe2o3_scram_server_authenticated_user(const struct fe2o3_scram_server *server, uint8_t *out, size_t out_size,
-    size_t *out_len)
-{
-    uint32_t answer;
-    BELOW_PAD(answer = proved_fe2o3_scram_server_authenticated_user(server, out, out_size, out_len));
-    clear_stack(depth_scram_server_authenticated_user);
+    BELOW_PAD(answer = proved_fe2o3_scram_server_claimed_user(rules, client_first, client_first_len, out, out_size,
+        out_len));
+    clear_stack(depth_scram_server_claimed_user);
     return answer;
 }
 
@@ -344,6 +254,45 @@ uint32_t fe2o3_scram_server_claimed_identity(const struct fe2o3_scram_rules *rul
     BELOW_PAD(answer = proved_fe2o3_scram_server_claimed_identity(rules, client_first, client_first_len, out, out_size,
         out_len));
     clear_stack(depth_scram_server_claimed_identity);
+    return answer;
+}
+
+uint32_t proved_fe2o3_scram_server_first(const struct fe2o3_scram_rules *rules, const struct fe2o3_scram_record *kept,
+    struct fe2o3_scram_server *server, const uint8_t nonce[32], const uint8_t *client_first, size_t client_first_len,
+    uint8_t *out, size_t out_size, size_t *out_len);
+uint32_t fe2o3_scram_server_first(const struct fe2o3_scram_rules *rules, const struct fe2o3_scram_record *kept,
+    struct fe2o3_scram_server *server, const uint8_t nonce[32], const uint8_t *client_first, size_t client_first_len,
+    uint8_t *out, size_t out_size, size_t *out_len)
+{
+    uint32_t answer;
+    BELOW_PAD(answer = proved_fe2o3_scram_server_first(rules, kept, server, nonce, client_first, client_first_len, out,
+        out_size, out_len));
+    clear_stack(depth_scram_server_first);
+    return answer;
+}
+
+uint32_t proved_fe2o3_scram_server_final(const struct fe2o3_scram_rules *rules, const struct fe2o3_scram_record *kept,
+    struct fe2o3_scram_server *server, const uint8_t *client_final, size_t client_final_len, uint8_t *out,
+    size_t out_size, size_t *out_len);
+uint32_t fe2o3_scram_server_final(const struct fe2o3_scram_rules *rules, const struct fe2o3_scram_record *kept,
+    struct fe2o3_scram_server *server, const uint8_t *client_final, size_t client_final_len, uint8_t *out,
+    size_t out_size, size_t *out_len)
+{
+    uint32_t answer;
+    BELOW_PAD(answer = proved_fe2o3_scram_server_final(rules, kept, server, client_final, client_final_len, out,
+        out_size, out_len));
+    clear_stack(depth_scram_server_final);
+    return answer;
+}
+
+uint32_t proved_fe2o3_scram_server_authenticated_user(const struct fe2o3_scram_server *server, uint8_t *out,
+    size_t out_size, size_t *out_len);
+uint32_t fe2o3_scram_server_authenticated_user(const struct fe2o3_scram_server *server, uint8_t *out, size_t out_size,
+    size_t *out_len)
+{
+    uint32_t answer;
+    BELOW_PAD(answer = proved_fe2o3_scram_server_authenticated_user(server, out, out_size, out_len));
+    clear_stack(depth_scram_server_authenticated_user);
     return answer;
 }
 
@@ -514,56 +463,6 @@ void fe2o3_sasl_end_of_input(struct fe2o3_connection *connection)
 {
     BELOW_PAD(proved_fe2o3_sasl_end_of_input(connection));
     clear_stack(depth_sasl_end_of_input);
-}
-
-uint32_t proved_fe2o3_sasl_client_step(const struct fe2o3_sasl_login *login, struct fe2o3_scram_client *client,
-    const uint8_t *body, size_t body_len, const uint8_t nonce[32], uint32_t *progress, uint8_t *out, size_t out_size,
-    size_t *out_len);
-uint32_t fe2o3_sasl_client_step(const struct fe2o3_sasl_login *login, struct fe2o3_scram_client *client,
-    const uint8_t *body, size_t body_len, const uint8_t nonce[32], uint32_t *progress, uint8_t *out, size_t out_size,
-    size_t *out_len)
-{
-    uint32_t answer;
-    BELOW_PAD(answer = proved_fe2o3_sasl_client_step(login, client, body, body_len, nonce, progress, out, out_size,
-        out_len));
-    clear_stack(depth_sasl_client_step);
-    return answer;
-}
-
-uint32_t proved_fe2o3_sasl_server_offer(const struct fe2o3_sasl_server_config *config, uint8_t *out, size_t out_size,
-    size_t *out_len);
-uint32_t fe2o3_sasl_server_offer(const struct fe2o3_sasl_server_config *config, uint8_t *out, size_t out_size,
-    size_t *out_len)
-{
-    uint32_t answer;
-    BELOW_PAD(answer = proved_fe2o3_sasl_server_offer(config, out, out_size, out_len));
-    clear_stack(depth_sasl_server_offer);
-    return answer;
-}
-
-uint32_t proved_fe2o3_sasl_server_step_claimed_user(const struct fe2o3_scram_server *server, const uint8_t *body,
-    size_t body_len, uint8_t *out, size_t out_size, size_t *out_len);
-uint32_t fe2o3_sasl_server_step_claimed_user(const struct fe2o3_scram_server *server, const uint8_t *body,
-    size_t body_len, uint8_t *out, size_t out_size, size_t *out_len)
-{
-    uint32_t answer;
-    BELOW_PAD(answer = proved_fe2o3_sasl_server_step_claimed_user(server, body, body_len, out, out_size, out_len));
-    clear_stack(depth_sasl_server_step_claimed_user);
-    return answer;
-}
-
-uint32_t proved_fe2o3_sasl_server_step(const struct fe2o3_sasl_server_config *config, struct fe2o3_scram_server *server,
-    const uint8_t *body, size_t body_len, const uint8_t nonce[32], uint32_t *progress, uint8_t *out, size_t out_size,
-    size_t *out_len);
-uint32_t fe2o3_sasl_server_step(const struct fe2o3_sasl_server_config *config, struct fe2o3_scram_server *server,
-    const uint8_t *body, size_t body_len, const uint8_t nonce[32], uint32_t *progress, uint8_t *out, size_t out_size,
-    size_t *out_len)
-{
-    uint32_t answer;
-    BELOW_PAD(answer = proved_fe2o3_sasl_server_step(config, server, body, body_len, nonce, progress, out, out_size,
-        out_len));
-    clear_stack(depth_sasl_server_step);
-    return answer;
 }
 
 uint32_t proved_fe2o3_sasl_view_frame(const uint8_t *body, size_t body_len, struct fe2o3_sasl_frame_view *view);

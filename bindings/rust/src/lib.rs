@@ -48,7 +48,6 @@ mod rejection;
 mod server;
 mod server_error;
 mod serving;
-mod steps;
 mod stores;
 #[allow(dead_code, missing_docs)]
 #[rustfmt::skip]
@@ -75,7 +74,6 @@ pub use rejection::Rejection;
 pub use server::{ScramAuthenticator, ScramCredentialProvider, SingleScramCredential};
 pub use server_error::ServerError;
 pub use serving::{PasswordServer, PlainPasswords, ServerNegotiation, UserRecords};
-pub use steps::{Answered, ClientSteps, ServerSteps};
 pub use stores::RecordStore;
 pub use version::ScramVersion;
 

@@ -5,9 +5,8 @@ use crate::frames::{offers, view_frame, Frame};
 use crate::{ConnectionError, Password, Progress, SaslProfile, ScramClient, ScramVersion};
 
 /// The profiles by which a client may log in, from the strongest to the weakest. It selects the first one whose mechanism
-/// the server offers ([`ClientNegotiation::select`](crate::ClientNegotiation::select),
-/// [`ClientSteps::select`](crate::ClientSteps::select)). An attacker can alter an offer, but the client never selects a
-/// mechanism that is not allowed here.
+/// the server offers ([`ClientNegotiation::select`](crate::ClientNegotiation::select)). An attacker can alter an offer, but
+/// the client never selects a mechanism that is not allowed here.
 ///
 /// ```
 /// use fe2o3_sasl_proved::*;
