@@ -21,7 +21,7 @@ CPU ?= x86-64-v2
 KIT ?= $(abspath $(dir $(shell readlink -f "$$(command -v rt)"))/..)
 
 # The number of the shared object rises when a struct or the signature of an export changes.
-SONAME = libfe2o3_sasl.so.2
+SONAME = libfe2o3_sasl.so.3
 # The version: that of a release, or 0.5.0-dev of the sources before it. tools/gate/versions.py compares the other places.
 VERSION = $(shell sed -n 's/^version = "\(.*\)"$$/\1/p' bindings/rust/Cargo.toml)
 PROVED_ARCHIVE ?= crates/sasl_c/out/libsasl_c.a
@@ -39,7 +39,7 @@ $(if $(HEAP_$(HEAP)),,$(error HEAP is wiping or plain))
 
 WARNINGS = -Wall -Wextra -Wpedantic
 SANITIZERS = -g -O1 -fsanitize=address,undefined -fno-sanitize-recover=all
-PROGRAMS = fits inits nulls guide_logins scram steps connections channels threads random $(SALTED)
+PROGRAMS = fits inits nulls guide_logins scram bodies connections channels threads random $(SALTED)
 CXX_STANDARDS = c++11 c++17 c++20
 # salted.c salts with OpenSSL, and is left out where there is none to compile with.
 SALTED := $(shell printf '\043include <openssl/evp.h>\n' | $(CC) -E -x c - > /dev/null 2>&1 && echo salted)

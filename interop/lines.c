@@ -275,21 +275,21 @@ static uint32_t serve_scram(FILE *in, FILE *out, const char *mechanism, const st
     struct text message, answer;
     uint8_t nonce[32];
     uint32_t status;
-    status = fe2o3_scram_server_claimed_user_with_rules(&rules, first->bytes, first->len, name->bytes,
-        sizeof name->bytes, &name->len);
+    status =
+        fe2o3_scram_server_claimed_user(&rules, first->bytes, first->len, name->bytes, sizeof name->bytes, &name->len);
     if (status != FE2O3_OK)
         return status;
     if (!random_bytes(nonce, sizeof nonce))
         return OTHER_SIDE_ENDED;
     fetch(name, version_of(mechanism), &record);
-    status = fe2o3_scram_server_first_with_rules(&rules, &record, &server, nonce, first->bytes, first->len,
-        answer.bytes, sizeof answer.bytes, &answer.len);
+    status = fe2o3_scram_server_first(&rules, &record, &server, nonce, first->bytes, first->len, answer.bytes,
+        sizeof answer.bytes, &answer.len);
     if (status != FE2O3_OK)
         return status;
     write_base64(out, &answer);
     if ((status = read_message(in, &message)) != FE2O3_OK)
         return status;
-    status = fe2o3_scram_server_final_with_rules(&rules, &record, &server, message.bytes, message.len, answer.bytes,
+    status = fe2o3_scram_server_final(&rules, &record, &server, message.bytes, message.len, answer.bytes,
         sizeof answer.bytes, &answer.len);
     if (status != FE2O3_OK)
         return status;

@@ -18,6 +18,7 @@ struct text {
 };
 static const uint32_t versions[VERSIONS] = {FE2O3_SHA_1, FE2O3_SHA_256, FE2O3_SHA_512};
 static uint8_t client_nonce[32], server_nonce[32], salt[32];
+static const struct fe2o3_scram_rules no_rules = FE2O3_SCRAM_RULES_INIT;
 
 /* What a login of each version is made of, and comes to: the structs before each call, and its texts. */
 static struct login {
@@ -74,14 +75,15 @@ static void make_login(struct login *login, uint32_t version)
     need(fe2o3_scram_keys_make(version, FE2O3_TYPED, TEXT("pencil"), salt, sizeof salt, 1, &login->keys), "keys");
     need(fe2o3_scram_client_first(&login->who, &client, client_nonce, ROOM(login->client_first)), "client-first");
     login->started = client;
-    need(fe2o3_scram_server_first(&login->record, &server, server_nonce, GIVEN(login->client_first),
+    need(fe2o3_scram_server_first(&no_rules, &login->record, &server, server_nonce, GIVEN(login->client_first),
              ROOM(login->server_first)),
         "server-first");
     login->open = server;
     need(fe2o3_scram_client_final(&login->who, &client, GIVEN(login->server_first), ROOM(login->client_final)),
         "client-final");
     login->answered = client;
-    need(fe2o3_scram_server_final(&login->record, &server, GIVEN(login->client_final), ROOM(login->server_final)),
+    need(fe2o3_scram_server_final(&no_rules, &login->record, &server, GIVEN(login->client_final),
+             ROOM(login->server_final)),
         "server-final");
     need(fe2o3_scram_client_verify(&login->who, &client, GIVEN(login->server_final)), "verify");
     login->complete = client;
@@ -100,13 +102,14 @@ static void messages(struct login *login, uint32_t version)
     COUNT(JOB("client-first-by-keys"), client = login->complete,
         fe2o3_scram_client_first(&by_keys, &client, client_nonce, ROOM(out)));
     COUNT(JOB("server-first"), memset(&server, 0, sizeof server),
-        fe2o3_scram_server_first(&login->record, &server, server_nonce, GIVEN(login->client_first), ROOM(out)));
+        fe2o3_scram_server_first(&no_rules, &login->record, &server, server_nonce, GIVEN(login->client_first),
+            ROOM(out)));
     COUNT(JOB("client-final"), client = login->started,
         fe2o3_scram_client_final(&login->who, &client, GIVEN(login->server_first), ROOM(out)));
     COUNT(JOB("client-final-by-keys"), client = login->started,
         fe2o3_scram_client_final(&by_keys, &client, GIVEN(login->server_first), ROOM(out)));
     COUNT(JOB("server-final"), server = login->open,
-        fe2o3_scram_server_final(&login->record, &server, GIVEN(login->client_final), ROOM(out)));
+        fe2o3_scram_server_final(&no_rules, &login->record, &server, GIVEN(login->client_final), ROOM(out)));
     COUNT(JOB("verify"), client = login->answered,
         fe2o3_scram_client_verify(&login->who, &client, GIVEN(login->server_final)));
     COUNT(JOB("verify-by-keys"), client = login->answered,
@@ -125,7 +128,7 @@ static void records(struct login *login)
     COUNT("keys-make", (void)0,
         fe2o3_scram_keys_make(FE2O3_SHA_256, FE2O3_TYPED, TEXT("pencil"), salt, sizeof salt, 1, &keys));
     COUNT("client-keys", (void)0, fe2o3_scram_client_get_keys(&login->complete, &keys));
-    COUNT("server-user", (void)0, fe2o3_scram_server_claimed_user(GIVEN(login->client_first), ROOM(out)));
+    COUNT("server-user", (void)0, fe2o3_scram_server_claimed_user(&no_rules, GIVEN(login->client_first), ROOM(out)));
     COUNT("lines-find", (void)0,
         fe2o3_scram_lines_find(GIVEN(login->line), TEXT("user"), FE2O3_SHA_256, &line, &record));
     COUNT("line-write", (void)0, fe2o3_scram_line(TEXT("user"), &login->record, ROOM(out)));

@@ -18,15 +18,16 @@ static struct text {
 static struct fe2o3_scram_keys keys;
 static struct fe2o3_scram_record record;
 static const uint8_t salt[32] = {3}, nonce[32] = {1};
+static const struct fe2o3_scram_rules no_rules = FE2O3_SCRAM_RULES_INIT;
 
 static uint32_t login(const struct fe2o3_login *who)
 {
     static struct fe2o3_scram_client client;
     static struct fe2o3_scram_server server;
     uint32_t status = fe2o3_scram_client_first(who, &client, nonce, ROOM(client_first));
-    status |= fe2o3_scram_server_first(&record, &server, nonce, GIVEN(client_first), ROOM(server_first));
+    status |= fe2o3_scram_server_first(&no_rules, &record, &server, nonce, GIVEN(client_first), ROOM(server_first));
     status |= fe2o3_scram_client_final(who, &client, GIVEN(server_first), ROOM(client_final));
-    status |= fe2o3_scram_server_final(&record, &server, GIVEN(client_final), ROOM(server_final));
+    status |= fe2o3_scram_server_final(&no_rules, &record, &server, GIVEN(client_final), ROOM(server_final));
     return status | fe2o3_scram_client_verify(who, &client, GIVEN(server_final));
 }
 

@@ -28,6 +28,7 @@ struct text {
 };
 
 static const uint8_t client_nonce[32] = {1}, server_nonce[32] = {2}, salt[16] = {3};
+static const struct fe2o3_scram_rules no_rules = FE2O3_SCRAM_RULES_INIT;
 
 /* What the calls read and write. The client and the server are those of before client_final and server_final, and
  * `answered` is the client after client_final. */
@@ -89,12 +90,13 @@ static uint32_t prepare(uint32_t version)
     failed |= make_salted_record(&all.salted_record);
     failed |= make_keys(FE2O3_TYPED, &all.password, &all.keys);
     failed |= fe2o3_scram_client_first(&all.login, &all.client, client_nonce, ROOM(all.client_first));
-    failed |= fe2o3_scram_server_first(&all.record, &all.server, server_nonce, GIVEN(all.client_first),
+    failed |= fe2o3_scram_server_first(&no_rules, &all.record, &all.server, server_nonce, GIVEN(all.client_first),
         ROOM(all.server_first));
     all.answered = all.client;
     server = all.server;
     failed |= fe2o3_scram_client_final(&all.login, &all.answered, GIVEN(all.server_first), ROOM(all.client_final));
-    failed |= fe2o3_scram_server_final(&all.record, &server, GIVEN(all.client_final), ROOM(all.server_final));
+    failed |=
+        fe2o3_scram_server_final(&no_rules, &all.record, &server, GIVEN(all.client_final), ROOM(all.server_final));
     failed |= fe2o3_plain_message(FE2O3_NONE, TEXT("user"), GIVEN(all.password), ROOM(all.plain));
     return failed;
 }
@@ -185,7 +187,7 @@ static uint32_t client_final_keys(void)
 static uint32_t server_final_right(void)
 {
     hide_keys(&all.record);
-    return fe2o3_scram_server_final(&all.record, &all.server, GIVEN(all.client_final), ROOM(all.out));
+    return fe2o3_scram_server_final(&no_rules, &all.record, &all.server, GIVEN(all.client_final), ROOM(all.out));
 }
 
 static uint32_t server_final_wrong(void)

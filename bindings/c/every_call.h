@@ -1,5 +1,5 @@
 /* Makes every call of the library, for a hash. Logins are by password, by keys and by both; with a right and a wrong
- * password, and for an unknown user; over messages, over frame bodies, and over the bytes of a connection.
+ * password, and for an unknown user; over messages and over the bytes of a connection.
  *
  * A program that includes this file defines `before` and `after`, which run around each call. `all` has what the calls
  * read and write. A program can hide its secrets between the calls. */
@@ -33,7 +33,7 @@ static struct {
     struct fe2o3_scram_record record, other, mock, read;
     struct fe2o3_scram_keys keys, other_keys;
     struct fe2o3_scram_client client;
-    struct fe2o3_scram_server server, ruled;
+    struct fe2o3_scram_server server;
     struct fe2o3_sasl_client client_side;
     struct fe2o3_sasl_server server_side;
     struct fe2o3_sasl_frame_view view;
@@ -114,29 +114,19 @@ static void records(uint32_t version)
 /* A login over messages against this record, which ends in a call with this status. */
 static void messages(const struct fe2o3_login *login, const struct fe2o3_scram_record *record, uint32_t due)
 {
-    static const struct fe2o3_scram_rules rules;
+    static const struct fe2o3_scram_rules rules = FE2O3_SCRAM_RULES_INIT;
     uint32_t status;
     memset(&all.client, 0, sizeof all.client);
     memset(&all.server, 0, sizeof all.server);
     expect(CALL(scram_client_first, login, &all.client, nonce, ROOM(all.client_first)), FE2O3_OK);
-    expect(CALL(scram_server_claimed_user, GIVEN(all.client_first), ROOM(all.user)), FE2O3_OK);
-    expect(CALL(scram_server_claimed_user_with_rules, &rules, GIVEN(all.client_first), ROOM(all.user)), FE2O3_OK);
+    expect(CALL(scram_server_claimed_user, &rules, GIVEN(all.client_first), ROOM(all.user)), FE2O3_OK);
     expect(CALL(scram_server_claimed_identity, &rules, GIVEN(all.client_first), ROOM(all.out)), FE2O3_OK);
-    CALL(scram_server_first_with_cbind_flag_y, record, &all.server, nonce, GIVEN(all.client_first),
-        ROOM(all.server_first));
-    expect(CALL(scram_server_first_with_rules, &rules, record, &all.server, nonce, GIVEN(all.client_first),
-               ROOM(all.server_first)),
-        FE2O3_OK);
-    all.ruled = all.server;
-    expect(CALL(scram_server_first, record, &all.server, nonce, GIVEN(all.client_first), ROOM(all.server_first)),
+    expect(
+        CALL(scram_server_first, &rules, record, &all.server, nonce, GIVEN(all.client_first), ROOM(all.server_first)),
         FE2O3_OK);
     status = CALL(scram_client_final, login, &all.client, GIVEN(all.server_first), ROOM(all.client_final));
-    if (status == FE2O3_OK) {
-        uint32_t by_rules = CALL(scram_server_final_with_rules, &rules, record, &all.ruled, GIVEN(all.client_final),
-            ROOM(all.server_final));
-        status = CALL(scram_server_final, record, &all.server, GIVEN(all.client_final), ROOM(all.server_final));
-        expect(by_rules, status);
-    }
+    if (status == FE2O3_OK)
+        status = CALL(scram_server_final, &rules, record, &all.server, GIVEN(all.client_final), ROOM(all.server_final));
     if (status == FE2O3_OK) {
         status = CALL(scram_client_verify, login, &all.client, GIVEN(all.server_final));
         expect(CALL(scram_server_authenticated_user, &all.server, ROOM(all.user)), FE2O3_OK);
@@ -160,14 +150,13 @@ static void acting_messages(const struct fe2o3_login *login)
     memset(&all.client, 0, sizeof all.client);
     memset(&all.server, 0, sizeof all.server);
     expect(CALL(scram_client_first, login, &all.client, nonce, ROOM(all.client_first)), FE2O3_OK);
-    expect(CALL(scram_server_claimed_user_with_rules, &rules, GIVEN(all.client_first), ROOM(all.user)), FE2O3_OK);
+    expect(CALL(scram_server_claimed_user, &rules, GIVEN(all.client_first), ROOM(all.user)), FE2O3_OK);
     expect(CALL(scram_server_claimed_identity, &rules, GIVEN(all.client_first), ROOM(all.out)), FE2O3_OK);
-    expect(CALL(scram_server_first_with_rules, &rules, &all.record, &all.server, nonce, GIVEN(all.client_first),
+    expect(CALL(scram_server_first, &rules, &all.record, &all.server, nonce, GIVEN(all.client_first),
                ROOM(all.server_first)),
         FE2O3_OK);
     expect(CALL(scram_client_final, login, &all.client, GIVEN(all.server_first), ROOM(all.client_final)), FE2O3_OK);
-    expect(CALL(scram_server_final_with_rules, &rules, &all.record, &all.server, GIVEN(all.client_final),
-               ROOM(all.server_final)),
+    expect(CALL(scram_server_final, &rules, &all.record, &all.server, GIVEN(all.client_final), ROOM(all.server_final)),
         FE2O3_OK);
     expect(CALL(scram_client_verify, login, &all.client, GIVEN(all.server_final)), FE2O3_OK);
     expect(CALL(scram_server_acts_for, &all.server, ROOM(all.out)), FE2O3_OK);
@@ -193,30 +182,6 @@ static void plain_messages(void)
         expect(CALL(plain_verify, &all.record, 1, form, ITERATIONS, 1, IDENTITY, GIVEN(all.out)), FE2O3_OK);
     }
     expect(CALL(external_verify, TEXT("peer"), FE2O3_NONE), FE2O3_OK);
-}
-
-/* A login over frame bodies, until a side ends it. */
-static void steps(const struct fe2o3_sasl_login *login, struct fe2o3_sasl_server_config *config, uint32_t due)
-{
-    uint32_t client = FE2O3_IN_PROGRESS, server = FE2O3_IN_PROGRESS;
-    memset(&all.client, 0, sizeof all.client);
-    memset(&all.server, 0, sizeof all.server);
-    expect(CALL(sasl_server_offer, config, ROOM(all.to_client)), FE2O3_OK);
-    CALL(sasl_offers, GIVEN(all.to_client), TEXT("PLAIN"));
-    while (client == FE2O3_IN_PROGRESS
-        && CALL(sasl_client_step, login, &all.client, GIVEN(all.to_client), nonce, &client, ROOM(all.to_server))
-            == FE2O3_OK
-        && all.to_server.len > 0) {
-        expect(CALL(sasl_view_frame, GIVEN(all.to_server), &all.view), FE2O3_OK);
-        config->username_len = 0;
-        if (CALL(sasl_server_step_claimed_user, &all.server, GIVEN(all.to_server), ROOM(all.user)) == FE2O3_OK)
-            config->username_len = all.user.len;
-        expect(CALL(sasl_server_step, config, &all.server, GIVEN(all.to_server), nonce, &server, ROOM(all.to_client)),
-            FE2O3_OK);
-    }
-    /* (an end of the server is an outcome, which the client has received) */
-    expect(client, due);
-    expect(server, due);
 }
 
 /* Moves what a side has sent to the other, behind what that has not read. */
@@ -255,6 +220,8 @@ static void connection(const struct fe2o3_sasl_login *login, struct fe2o3_sasl_s
         if (all.to_client.len > 0) {
             CALL(sasl_wants_nonce, &all.client_side.connection);
             CALL(sasl_peek_frame, &all.client_side.connection, GIVEN(all.to_client), ROOM(all.out));
+            CALL(sasl_view_frame, GIVEN(all.out), &all.view);
+            CALL(sasl_offers, GIVEN(all.out), TEXT("PLAIN"));
             CALL(sasl_client_receive, login, &all.client_side, GIVEN(all.to_client), nonce, &all.taken, ROOM(all.out));
             send(&all.to_server);
             drop(&all.to_client);
@@ -267,17 +234,15 @@ static void connection(const struct fe2o3_sasl_login *login, struct fe2o3_sasl_s
     expect(all.server_side.connection.progress, due);
 }
 
-/* A login of both kinds, by each option of the server. */
-static void both(const struct fe2o3_sasl_login *login, struct fe2o3_sasl_server_config *config, uint32_t by_steps,
-    uint32_t by_bytes)
+/* Logins by each option of the server. */
+static void connections(const struct fe2o3_sasl_login *login, struct fe2o3_sasl_server_config *config, uint32_t due)
 {
     static const uint32_t options[] = {0, FE2O3_SIGNATURE_BY_CHALLENGE, FE2O3_INITIAL_RESPONSE_BY_CHALLENGE,
         FE2O3_PLAIN_SASLPREP, FE2O3_STRICT, FE2O3_REJECT_MISPLACED};
     uint32_t offers = config->mechanisms;
     for (size_t which = 0; which < sizeof options / sizeof *options; which++) {
         config->mechanisms = offers | options[which];
-        steps(login, config, by_steps);
-        connection(login, config, by_bytes);
+        connection(login, config, due);
     }
     config->mechanisms = offers;
 }
@@ -287,7 +252,7 @@ static void logins(uint32_t version)
     static struct fe2o3_login login, by_keys, by_both, wrong, acting;
     static struct fe2o3_sasl_login sasl;
     static struct fe2o3_sasl_server_config config;
-    const uint32_t failed = FE2O3_SERVER_AUTHENTICATION_FAILED, rejected = FE2O3_REFUSED_AUTH;
+    const uint32_t failed = FE2O3_SERVER_AUTHENTICATION_FAILED;
     login = (struct fe2o3_login){.version = version,
         .min_iterations = 1,
         .max_iterations = 4096,
@@ -326,31 +291,31 @@ static void logins(uint32_t version)
     for (uint32_t mechanism = FE2O3_SCRAM; mechanism <= FE2O3_EXTERNAL; mechanism++) {
         sasl = (struct fe2o3_sasl_login){mechanism, TEXT("host"), login};
         config.records = &all.record;
-        both(&sasl, &config, FE2O3_AUTHENTICATED, FE2O3_AUTHENTICATED);
+        connections(&sasl, &config, FE2O3_AUTHENTICATED);
         if (mechanism > FE2O3_PLAIN)
             continue;
         sasl.login = wrong;
-        both(&sasl, &config, rejected, FE2O3_FAILED);
+        connections(&sasl, &config, FE2O3_FAILED);
         config.accept_authzid = 1;
         sasl.login = acting;
-        both(&sasl, &config, rejected, FE2O3_FAILED);
+        connections(&sasl, &config, FE2O3_FAILED);
         config.identities = acting.acts_for;
         config.identities_len = acting.acts_for_len;
-        both(&sasl, &config, FE2O3_AUTHENTICATED, FE2O3_AUTHENTICATED);
+        connections(&sasl, &config, FE2O3_AUTHENTICATED);
         expect(CALL(scram_server_acts_for, &all.server_side.scram, ROOM(all.out)), FE2O3_OK);
         expect((uint32_t)all.out.len, 6);
         config.accept_authzid = 0;
         config.identities_len = 0;
         sasl.login = login;
         config.records = &all.mock;
-        both(&sasl, &config, rejected, FE2O3_FAILED);
+        connections(&sasl, &config, FE2O3_FAILED);
     }
     sasl = (struct fe2o3_sasl_login){FE2O3_SCRAM, TEXT("host"), by_keys};
     config.records = &all.record;
-    both(&sasl, &config, FE2O3_AUTHENTICATED, FE2O3_AUTHENTICATED);
+    connections(&sasl, &config, FE2O3_AUTHENTICATED);
     config.records = &all.other;
     sasl.login = by_both;
-    both(&sasl, &config, FE2O3_AUTHENTICATED, FE2O3_AUTHENTICATED);
+    connections(&sasl, &config, FE2O3_AUTHENTICATED);
 }
 
 static void unmask(struct text *text, const uint8_t *masked, size_t len)

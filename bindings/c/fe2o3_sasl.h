@@ -158,7 +158,8 @@ enum fe2o3_offer {
     FE2O3_OFFER_ANONYMOUS = 16,
     /* EXTERNAL, if `external_authcid` is not empty. */
     FE2O3_OFFER_EXTERNAL = 32,
-    /* No mechanism: SCRAM also accepts the GS2 header `y,,`, like fe2o3_scram_server_first_with_cbind_flag_y. */
+    /* No mechanism: SCRAM also accepts the GS2 header `y,,`: see the field `accept_cbind_flag_y` of struct
+     * fe2o3_scram_rules. */
     FE2O3_ACCEPT_CBIND_FLAG_Y = 64,
     /* No mechanism: PLAIN tests the password as received, also a non-ASCII one. Clients prepare their passwords. */
     FE2O3_PLAIN_PREPARED = 128,
@@ -232,10 +233,10 @@ enum fe2o3_scram_server_state {
     /* A challenge is open, to a client whose GS2 header is `y,,`. */
     FE2O3_SCRAM_SERVER_CHALLENGE_OPEN_CBIND_FLAG_Y = 3,
     /* The server's signature was sent to the user in a challenge. The user is authenticated once the client has answered
-     * it. Only on a connection, and for steps over frame bodies. */
+     * it. Only on a connection. */
     FE2O3_SCRAM_SERVER_SIGNATURE_SENT = 4,
     /* An empty challenge was sent for an init without an initial response. `first` is the name of the mechanism, and
-     * `nonce` the 32 bytes of the init's nonce. Only on a connection, and for steps over frame bodies. */
+     * `nonce` the 32 bytes of the init's nonce. Only on a connection. */
     FE2O3_SCRAM_SERVER_INITIAL_RESPONSE_ASKED = 5,
     /* A challenge is open, to a client that binds the channel by `tls-unique`. */
     FE2O3_SCRAM_SERVER_CHALLENGE_OPEN_TLS_UNIQUE = 7,
@@ -807,9 +808,9 @@ struct fe2o3_login {
      *
      * - SCRAM sends it in the GS2 header (RFC 5802, section 7). A client that names one tests the extensions like one
      *   that has a channel.
-     * - PLAIN sends it as the first part of its message (RFC 4616, section 2), by `fe2o3_sasl_client_receive` and
-     *   `fe2o3_sasl_client_step`. A client that names one tests its words like a strict one.
-     * - ANONYMOUS and EXTERNAL do not send it: with one these calls return FE2O3_NOT_IMPLEMENTED. FE2O3_EXTERNAL_AS sends
+     * - PLAIN sends it as the first part of its message (RFC 4616, section 2), by `fe2o3_sasl_client_receive`. A client
+     *   that names one tests its words like a strict one.
+     * - ANONYMOUS and EXTERNAL do not send it: with one this call returns FE2O3_NOT_IMPLEMENTED. FE2O3_EXTERNAL_AS sends
      *   `username` as the identity. */
     const uint8_t *acts_for;
     size_t acts_for_len;
@@ -821,7 +822,7 @@ struct fe2o3_login {
     const struct fe2o3_scram_keys *keys;
     /* Whether the client accepts the server's signature in a challenge too, before an outcome without data (RFC 4422,
      * section 5). 0 means that the signature has to come in the outcome. Any other value accepts it in both. Only
-     * `fe2o3_sasl_client_receive` and `fe2o3_sasl_client_step` use this field. */
+     * `fe2o3_sasl_client_receive` uses this field. */
     uint32_t signature_by_challenge;
     /* Whether the client is strict: it reads messages by the grammar of RFC 5802, section 7. 0 is no, any other value
      * yes. The server's part of the nonce has to be printable and not empty (FE2O3_CLIENT_CLIENT_NONCE_MISMATCH), the
@@ -932,8 +933,7 @@ struct fe2o3_scram_server {
     /* The number of bytes of `acts_for` in use, or 0 if the client acts for itself. */
     uint32_t acts_for_len;
     /* Why the last frame was answered by the outcome Auth, for the server's log only: one of enum fe2o3_rejection, or the
-     * error of a SCRAM message, one of enum fe2o3_status. Written by `fe2o3_sasl_server_receive` and
-     * `fe2o3_sasl_server_step`. */
+     * error of a SCRAM message, one of enum fe2o3_status. Written by `fe2o3_sasl_server_receive`. */
     uint32_t rejection;
     /* The user name, without escapes. While a challenge is open the client only claims it; afterwards it is
      * authenticated. */
@@ -1003,7 +1003,7 @@ struct fe2o3_scram_rules {
     uint32_t reject_misplaced;
     /* The identities that the claimed user may act for besides itself (RFC 4422, section 2), without escapes, with a zero
      * byte after each but the last, which may have one too. It is read with the client-final message: look up the
-     * identities of the user (`fe2o3_scram_server_claimed_user_with_rules`), or only whether it may act for the one that
+     * identities of the user (`fe2o3_scram_server_claimed_user`), or only whether it may act for the one that
      * the client names (`fe2o3_scram_server_claimed_identity`). A user who may not act for the identity gets
      * FE2O3_SERVER_AUTHENTICATION_FAILED, like one with a wrong password. */
     const uint8_t *identities;
@@ -1013,64 +1013,15 @@ struct fe2o3_scram_rules {
 #define FE2O3_SCRAM_RULES_INIT { 0, 0, { 0, 0, { 0 }, 0, { 0 }, 0, { 0 } }, 0, 0, NULL, 0 }
 
 /* Writes the user name that a client-first message claims, without escapes. Nobody is authenticated yet: use it only
- * to look up the record. */
-uint32_t fe2o3_scram_server_claimed_user(
-    const uint8_t *client_first,
-    size_t client_first_len,
-    uint8_t *out,
-    size_t out_size,
-    size_t *out_len);
-
-/* Answers a client-first message with the server-first message. This starts a new exchange, whatever the state of the
- * server is. The GS2 header of the message has to be `n,,`.
+ * to look up the record.
  *
- * `kept` is the record of the claimed user (`fe2o3_scram_server_claimed_user`), or a mock record
- * (`fe2o3_scram_record_mock`) for an unknown one. `nonce` is 32 fresh random bytes. */
-uint32_t fe2o3_scram_server_first(
-    const struct fe2o3_scram_record *kept,
-    struct fe2o3_scram_server *server,
-    const uint8_t nonce[32],
-    const uint8_t *client_first,
-    size_t client_first_len,
-    uint8_t *out,
-    size_t out_size,
-    size_t *out_len);
-
-/* Answers a client-first message like `fe2o3_scram_server_first`, but also accepts the GS2 header `y,,`: the client
- * supports channel binding, and was offered no mechanism with `-PLUS` (RFC 5802, section 6). Only for a server that
- * offers none. */
-uint32_t fe2o3_scram_server_first_with_cbind_flag_y(
-    const struct fe2o3_scram_record *kept,
-    struct fe2o3_scram_server *server,
-    const uint8_t nonce[32],
-    const uint8_t *client_first,
-    size_t client_first_len,
-    uint8_t *out,
-    size_t out_size,
-    size_t *out_len);
-
-/* Answers a client-final message with the server-final message, if its proof is right. Only FE2O3_OK means that the
- * user is authenticated.
+ * `rules` are those for `fe2o3_scram_server_first` (RFC 5802, section 5.1). If the server binds channels, the GS2 header
+ * has to be one that `fe2o3_scram_server_first` accepts. Otherwise `n,,` and `y,,` are both accepted here, whatever the
+ * rules say.
  *
- * `kept` is the record that `fe2o3_scram_server_first` was called with. `out` needs 90 bytes, which is tested before
- * anything is hashed. */
-uint32_t fe2o3_scram_server_final(
-    const struct fe2o3_scram_record *kept,
-    struct fe2o3_scram_server *server,
-    const uint8_t *client_final,
-    size_t client_final_len,
-    uint8_t *out,
-    size_t out_size,
-    size_t *out_len);
-
-/* Writes the user name that a client-first message claims, like `fe2o3_scram_server_claimed_user`, by these rules (RFC
- * 5802, section 5.1). If the server binds channels, the GS2 header has to be one that
- * `fe2o3_scram_server_first_with_rules` accepts. Otherwise `n,,` and `y,,` are both accepted here, whatever the rules
- * say: with rules of zeros the call does what `fe2o3_scram_server_claimed_user` does.
- *
- * The errors are those of `fe2o3_scram_server_first_with_rules` from FE2O3_CHANNEL_DATA_LENGTH to
+ * The errors are those of `fe2o3_scram_server_first` from FE2O3_CHANNEL_DATA_LENGTH to
  * FE2O3_SERVER_MISPLACED_ATTRIBUTE, in the same order. */
-uint32_t fe2o3_scram_server_claimed_user_with_rules(
+uint32_t fe2o3_scram_server_claimed_user(
     const struct fe2o3_scram_rules *rules,
     const uint8_t *client_first,
     size_t client_first_len,
@@ -1078,9 +1029,23 @@ uint32_t fe2o3_scram_server_claimed_user_with_rules(
     size_t out_size,
     size_t *out_len);
 
-/* Answers a client-first message like `fe2o3_scram_server_first`, by these rules (RFC 5802, section 5.1). Pass the
- * same rules to `fe2o3_scram_server_final_with_rules`. With rules of zeros the call does what
- * `fe2o3_scram_server_first` does.
+/* Writes the identity that a client-first message names to act for, without escapes, or 0 bytes if the client acts for
+ * itself. It is only claimed, like the user's name: use it only to look up whether the user may act for it. The message is
+ * read like by `fe2o3_scram_server_claimed_user`, and the errors are the same. */
+uint32_t fe2o3_scram_server_claimed_identity(
+    const struct fe2o3_scram_rules *rules,
+    const uint8_t *client_first,
+    size_t client_first_len,
+    uint8_t *out,
+    size_t out_size,
+    size_t *out_len);
+
+/* Answers a client-first message with the server-first message (RFC 5802, section 5.1). This starts a new exchange,
+ * whatever the state of the server is.
+ *
+ * Pass the same rules to `fe2o3_scram_server_final`. Rules of zeros are those of a server without options. `kept` is the
+ * record of the claimed user (`fe2o3_scram_server_claimed_user`), or a mock record (`fe2o3_scram_record_mock`) for an
+ * unknown one. `nonce` is 32 fresh random bytes.
  *
  * If the server binds channels, the GS2 header has to be `p=` with the name of a kind whose data the rules have
  * (section 6). Otherwise it has to be `n,,`, or `y,,` if the rules accept that. It may name an identity to act for, as
@@ -1098,7 +1063,7 @@ uint32_t fe2o3_scram_server_claimed_user_with_rules(
  * - FE2O3_NO_SUCH_VERSION and FE2O3_TOO_LONG if `kept` holds no record,
  * - FE2O3_TOO_LONG if a text of the challenge does not fit into the struct,
  * - FE2O3_ROOM_TOO_SMALL. */
-uint32_t fe2o3_scram_server_first_with_rules(
+uint32_t fe2o3_scram_server_first(
     const struct fe2o3_scram_rules *rules,
     const struct fe2o3_scram_record *kept,
     struct fe2o3_scram_server *server,
@@ -1109,10 +1074,12 @@ uint32_t fe2o3_scram_server_first_with_rules(
     size_t out_size,
     size_t *out_len);
 
-/* Answers a client-final message like `fe2o3_scram_server_final`, by the rules that
- * `fe2o3_scram_server_first_with_rules` was called with (RFC 5802, section 5.1). With rules of zeros the call does what
- * `fe2o3_scram_server_final` does. If the server binds channels, the message has to have the GS2 header of the exchange
- * and the server's data of its kind (section 6).
+/* Answers a client-final message with the server-final message, if its proof is right (RFC 5802, section 5.1). Only
+ * FE2O3_OK means that the user is authenticated.
+ *
+ * `rules` and `kept` are those that `fe2o3_scram_server_first` was called with. `out` needs 90 bytes, which is tested
+ * before anything is hashed. If the server binds channels, the message has to have the GS2 header of the exchange and
+ * the server's data of its kind (section 6).
  *
  * The errors are, in this order:
  *
@@ -1131,7 +1098,7 @@ uint32_t fe2o3_scram_server_first_with_rules(
  * - FE2O3_SERVER_XOR_LENGTH_MISMATCH if the proof is not as long as a digest,
  * - FE2O3_SERVER_AUTHENTICATION_FAILED if the proof is wrong, or the user may not act for the identity that the client
  *   named (RFC 4422, section 2). */
-uint32_t fe2o3_scram_server_final_with_rules(
+uint32_t fe2o3_scram_server_final(
     const struct fe2o3_scram_rules *rules,
     const struct fe2o3_scram_record *kept,
     struct fe2o3_scram_server *server,
@@ -1145,17 +1112,6 @@ uint32_t fe2o3_scram_server_final_with_rules(
  * user is authenticated. */
 uint32_t fe2o3_scram_server_authenticated_user(
     const struct fe2o3_scram_server *server,
-    uint8_t *out,
-    size_t out_size,
-    size_t *out_len);
-
-/* Writes the identity that a client-first message names to act for, without escapes, or 0 bytes if the client acts for
- * itself. It is only claimed, like the user's name: use it only to look up whether the user may act for it. The message is
- * read like by `fe2o3_scram_server_claimed_user_with_rules`, and the errors are the same. */
-uint32_t fe2o3_scram_server_claimed_identity(
-    const struct fe2o3_scram_rules *rules,
-    const uint8_t *client_first,
-    size_t client_first_len,
     uint8_t *out,
     size_t out_size,
     size_t *out_len);
@@ -1475,7 +1431,7 @@ uint32_t fe2o3_sasl_peek_frame(
  * FE2O3_END_OF_INPUT. Otherwise nothing changes. */
 void fe2o3_sasl_end_of_input(struct fe2o3_connection *connection);
 
-/* ---- Both sides over frame bodies, for programs that read frames themselves ---- */
+/* ---- The body of a frame ---- */
 
 /* The content of a frame body. Its pointers point into that body. */
 struct fe2o3_sasl_frame_view {
@@ -1503,75 +1459,6 @@ struct fe2o3_sasl_frame_view {
 };
 /* All zeros. */
 #define FE2O3_SASL_FRAME_VIEW_INIT { 0, 0, 0, 0, 0, 0, NULL, 0, NULL, 0, NULL, 0 }
-
-/* Takes a frame body that the server sent, without the four bytes of the frame's size, and writes the body to send:
- * the init for the mechanisms, the response for a challenge, and nothing (`out_len` is 0) for the outcome. `out`
- * needs 508 bytes, which is tested before anything is hashed. `nonce` is 32 fresh random bytes.
- *
- * `progress` is FE2O3_IN_PROGRESS while the login goes on, FE2O3_AUTHENTICATED once it is complete, and from
- * FE2O3_REFUSED_AUTH to FE2O3_REFUSED_SYS_TEMP if the outcome rejects it. Pass no body after that.
- *
- * This call is for programs that read frames themselves, reject those above 512 bytes, and limit their number. A
- * login takes three bodies of the server for SCRAM, four if the signature comes in a challenge
- * (`signature_by_challenge`), and two for the other mechanisms. A server that may send more can make the client hash
- * again and again. For SCRAM, FE2O3_AUTHENTICATED means that the server is authenticated (RFC 5802, section 5). The
- * other mechanisms accept any outcome, even one before the init. */
-uint32_t fe2o3_sasl_client_step(
-    const struct fe2o3_sasl_login *login,
-    struct fe2o3_scram_client *client,
-    const uint8_t *body,
-    size_t body_len,
-    const uint8_t nonce[32],
-    uint32_t *progress,
-    uint8_t *out,
-    size_t out_size,
-    size_t *out_len);
-
-/* Writes the frame body with which a server offers its mechanisms. Send it after the client's SASL header. */
-uint32_t fe2o3_sasl_server_offer(
-    const struct fe2o3_sasl_server_config *config,
-    uint8_t *out,
-    size_t out_size,
-    size_t *out_len);
-
-/* Writes the user name that a frame body claims: that of an init for SCRAM or PLAIN, for a response that of the open
- * challenge of SCRAM, and for the response to an empty challenge that of the initial response. Nobody is authenticated
- * yet: use it only to look up the record for `fe2o3_sasl_server_step`. Returns FE2O3_NAMES_NO_USER if the body claims
- * no name; then no record is needed. */
-uint32_t fe2o3_sasl_server_step_claimed_user(
-    const struct fe2o3_scram_server *server,
-    const uint8_t *body,
-    size_t body_len,
-    uint8_t *out,
-    size_t out_size,
-    size_t *out_len);
-
-/* Takes a frame body that the client sent, without the four bytes of the frame's size, and writes the body to send: a
- * challenge, or the outcome. `out` needs 508 bytes, which is tested before anything is hashed. `nonce` is 32 fresh
- * random bytes.
- *
- * Before the call, look up the record of the user that the body claims (`fe2o3_sasl_server_step_claimed_user`).
- * `progress` is FE2O3_IN_PROGRESS while the login goes on, FE2O3_AUTHENTICATED once it is complete, and from
- * FE2O3_REFUSED_AUTH to FE2O3_REFUSED_SYS_TEMP if the outcome rejects it. Send that outcome too, and pass no body
- * after it. After a login by any mechanism the struct holds the authenticated user
- * (`fe2o3_scram_server_authenticated_user`). ANONYMOUS has none.
- *
- * This call is for programs that read frames themselves, reject those above 512 bytes, and limit their number. A
- * login takes an init, and for SCRAM one response. FE2O3_SIGNATURE_BY_CHALLENGE adds one response for SCRAM, and
- * FE2O3_INITIAL_RESPONSE_BY_CHALLENGE one for SCRAM and PLAIN. A client that may send more can try passwords again and
- * again. A response without a challenge is answered by an outcome that is not OK. A
- * frame that no client sends returns FE2O3_NO_SASL_FRAME. If a name or a message does not fit into the struct, the
- * call returns FE2O3_TOO_LONG, and you have to close the connection. */
-uint32_t fe2o3_sasl_server_step(
-    const struct fe2o3_sasl_server_config *config,
-    struct fe2o3_scram_server *server,
-    const uint8_t *body,
-    size_t body_len,
-    const uint8_t nonce[32],
-    uint32_t *progress,
-    uint8_t *out,
-    size_t out_size,
-    size_t *out_len);
 
 /* Parses a frame body, without the four bytes of the frame's size. It allocates no memory. */
 uint32_t fe2o3_sasl_view_frame(const uint8_t *body, size_t body_len, struct fe2o3_sasl_frame_view *view);

@@ -335,14 +335,10 @@ static void with_a_server(void)
     initial_response(0, &client_first);
     unproved(&drawn.server, &client_final);
     client_first.bytes[0] = below(2) ? 'n' : 'y';
-    answered("server_first", fe2o3_scram_server_first(&all.record, &all.server, nonce, GIVEN(client_first), ROOM));
-    answered("server_first_with_cbind_flag_y",
-        fe2o3_scram_server_first_with_cbind_flag_y(&all.record, &all.server, nonce, GIVEN(client_first), ROOM));
-    answered("server_first_with_rules",
-        fe2o3_scram_server_first_with_rules(&rules, &all.record, &all.server, nonce, GIVEN(client_first), ROOM));
-    answered("server_final_with_rules",
-        fe2o3_scram_server_final_with_rules(&rules, &all.record, &all.server, GIVEN(client_final), ROOM));
-    answered("server_final", fe2o3_scram_server_final(&all.record, &all.server, GIVEN(client_final), ROOM));
+    answered("server_claimed_user", fe2o3_scram_server_claimed_user(&rules, GIVEN(client_first), ROOM));
+    answered("server_first",
+        fe2o3_scram_server_first(&rules, &all.record, &all.server, nonce, GIVEN(client_first), ROOM));
+    answered("server_final", fe2o3_scram_server_final(&rules, &all.record, &all.server, GIVEN(client_final), ROOM));
     answered("server_logged_in", fe2o3_scram_server_authenticated_user(&all.server, ROOM));
     answered("server_acts_for", fe2o3_scram_server_acts_for(&all.server, ROOM));
     answered("server_identity", fe2o3_scram_server_claimed_identity(&rules, GIVEN(client_first), ROOM));
@@ -541,7 +537,6 @@ int main(void)
         one_round();
     never("client_verify", seen("client_verify")->of[FE2O3_OK] != 0);
     never("server_final", seen("server_final")->of[FE2O3_OK] != 0);
-    never("server_final_with_rules", seen("server_final_with_rules")->of[FE2O3_OK] != 0);
     never("record_verify", seen("record_verify")->of[FE2O3_OK] != 0);
     never("record_verify_salted", seen("record_verify_salted")->of[FE2O3_OK] != 0);
     never("plain_verify", seen("plain_verify")->of[FE2O3_OK] != 0);
@@ -555,15 +550,12 @@ int main(void)
     reached("client_final", FE2O3_NO_SUCH_SECRET);
     reached("client_final", FE2O3_NO_SUCH_CHOICE);
     reached("server_first", FE2O3_OK);
+    reached("server_first", FE2O3_CHANNEL_DATA_LENGTH);
     reached("server_first", FE2O3_SERVER_CANNOT_PARSE_GS2_HEADER);
-    reached("server_first_with_cbind_flag_y", FE2O3_OK);
+    reached("server_claimed_user", FE2O3_OK);
+    reached("server_final", FE2O3_CHANNEL_DATA_LENGTH);
     reached("server_final", FE2O3_SERVER_AUTHENTICATION_FAILED);
-    reached("server_first_with_rules", FE2O3_OK);
-    reached("server_first_with_rules", FE2O3_CHANNEL_DATA_LENGTH);
-    reached("server_first_with_rules", FE2O3_SERVER_CANNOT_PARSE_GS2_HEADER);
-    reached("server_final_with_rules", FE2O3_CHANNEL_DATA_LENGTH);
-    reached("server_final_with_rules", FE2O3_SERVER_AUTHENTICATION_FAILED);
-    reached("server_final_with_rules", FE2O3_SERVER_ILLEGAL_AUTHENTICATOR_STATE);
+    reached("server_final", FE2O3_SERVER_ILLEGAL_AUTHENTICATOR_STATE);
     reached("server_logged_in", FE2O3_OK);
     reached("record_text", FE2O3_OK);
     reached("line", FE2O3_OK);

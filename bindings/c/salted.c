@@ -20,6 +20,7 @@ struct text {
     size_t len;
 };
 
+static const struct fe2o3_scram_rules no_rules = FE2O3_SCRAM_RULES_INIT;
 static int differences;
 
 static void told(uint32_t version, const char *what, int holds)
@@ -85,11 +86,11 @@ static uint32_t log_in(const struct fe2o3_login *by_keys, struct fe2o3_scram_key
     struct text sent = {{0}, 0}, came = {{0}, 0};
     uint32_t status = fe2o3_scram_client_first(by_keys, &client, client_nonce, ROOM(sent));
     if (status == FE2O3_OK)
-        status = fe2o3_scram_server_first(record, &server, server_nonce, GIVEN(sent), ROOM(came));
+        status = fe2o3_scram_server_first(&no_rules, record, &server, server_nonce, GIVEN(sent), ROOM(came));
     if (status == FE2O3_OK)
         status = answer(by_keys, keys, password, &client, &came, &sent);
     if (status == FE2O3_OK)
-        status = fe2o3_scram_server_final(record, &server, GIVEN(sent), ROOM(came));
+        status = fe2o3_scram_server_final(&no_rules, record, &server, GIVEN(sent), ROOM(came));
     if (status == FE2O3_OK)
         status = fe2o3_scram_client_verify(by_keys, &client, GIVEN(came));
     /* (a client that has answered has its keys) */

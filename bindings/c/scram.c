@@ -48,6 +48,8 @@ static const char prepared_512[] =
 #define IDENTITY_FINAL "c=bixhPWFwcD0yQz0zRHgs,r=" BOTH_NONCES ",p=lUV+g1XMlTmV05varqM+UoyQI4m06aNk7AMkvjp528I="
 #define PLAIN_FINAL "c=biws,r=" BOTH_NONCES ",p=MIHdNcfet0LbDJOcfcN6eFJrJahL13kbab8XbO3ku+k="
 
+static const struct fe2o3_scram_rules no_rules = FE2O3_SCRAM_RULES_INIT;
+
 struct text {
     uint8_t bytes[2048];
     size_t len;
@@ -80,12 +82,13 @@ static uint32_t run(struct exchange *one, const struct fe2o3_login *login, const
     memset(one, 0, sizeof *one);
     number = fe2o3_scram_client_first(login, &one->client, client_nonce, ROOM(one->client_first));
     if (number == FE2O3_OK)
-        number = fe2o3_scram_server_first(record, &one->server, server_nonce, GIVEN(one->client_first),
+        number = fe2o3_scram_server_first(&no_rules, record, &one->server, server_nonce, GIVEN(one->client_first),
             ROOM(one->server_first));
     if (number == FE2O3_OK)
         number = fe2o3_scram_client_final(login, &one->client, GIVEN(one->server_first), ROOM(one->client_final));
     if (number == FE2O3_OK)
-        number = fe2o3_scram_server_final(record, &one->server, GIVEN(one->client_final), ROOM(one->server_final));
+        number = fe2o3_scram_server_final(&no_rules, record, &one->server, GIVEN(one->client_final),
+            ROOM(one->server_final));
     if (number == FE2O3_OK)
         number = fe2o3_scram_client_verify(login, &one->client, GIVEN(one->server_final));
     return number;
@@ -148,8 +151,9 @@ static void cases(uint32_t version)
             && fe2o3_scram_record_verify(&record, FE2O3_TYPED, TEXT("pencils")) != FE2O3_OK);
     told(version, "a login", run(&one, &login, &record) == FE2O3_OK);
     told(version, "the server knows who it is, before and after",
-        fe2o3_scram_server_claimed_user(GIVEN(one.client_first), ROOM(user)) == FE2O3_OK && spells(&user, "user")
-            && fe2o3_scram_server_authenticated_user(&one.server, ROOM(text)) == FE2O3_OK && spells(&text, "user"));
+        fe2o3_scram_server_claimed_user(&no_rules, GIVEN(one.client_first), ROOM(user)) == FE2O3_OK
+            && spells(&user, "user") && fe2o3_scram_server_authenticated_user(&one.server, ROOM(text)) == FE2O3_OK
+            && spells(&text, "user"));
 
     told(version, "the login hands out its keys",
         fe2o3_scram_client_get_keys(&one.client, &keys) == FE2O3_OK
@@ -347,23 +351,24 @@ static void preparing(void)
 /* A client that could bind a channel, at a server that takes it and at one that does not. */
 static void cbind_flag_y(void)
 {
+    const struct fe2o3_scram_rules either = {.accept_cbind_flag_y = 1, .identities = FE2O3_NONE};
     struct fe2o3_scram_record record = {0};
     struct fe2o3_scram_server server = {0};
     struct text text = {{0}, 0};
     fe2o3_scram_record_make(FE2O3_SHA_256, FE2O3_TYPED, TEXT("pencil"), known_salt, sizeof known_salt, 4096, &record);
     told(FE2O3_SHA_256, "the header `y,,` is refused",
-        fe2o3_scram_server_first(&record, &server, server_nonce, TEXT(CBIND_FLAG_Y_FIRST), ROOM(text))
+        fe2o3_scram_server_first(&no_rules, &record, &server, server_nonce, TEXT(CBIND_FLAG_Y_FIRST), ROOM(text))
             == FE2O3_SERVER_CANNOT_PARSE_GS2_HEADER);
     told(FE2O3_SHA_256, "the header `y,,` is taken on wish",
-        fe2o3_scram_server_claimed_user(TEXT(CBIND_FLAG_Y_FIRST), ROOM(text)) == FE2O3_OK && spells(&text, "user")
-            && fe2o3_scram_server_first_with_cbind_flag_y(&record, &server, server_nonce, TEXT(CBIND_FLAG_Y_FIRST),
-                   ROOM(text))
+        fe2o3_scram_server_claimed_user(&no_rules, TEXT(CBIND_FLAG_Y_FIRST), ROOM(text)) == FE2O3_OK
+            && spells(&text, "user")
+            && fe2o3_scram_server_first(&either, &record, &server, server_nonce, TEXT(CBIND_FLAG_Y_FIRST), ROOM(text))
                 == FE2O3_OK
             && spells(&text, "r=" BOTH_NONCES ",s=W22ZaJ0SNY7soEsUEjb6gQ==,i=4096"));
     told(FE2O3_SHA_256, "the last message repeats it",
-        fe2o3_scram_server_final(&record, &server, TEXT(PLAIN_FINAL), ROOM(text))
+        fe2o3_scram_server_final(&either, &record, &server, TEXT(PLAIN_FINAL), ROOM(text))
                 == FE2O3_SERVER_INVALID_CHANNEL_BINDING
-            && fe2o3_scram_server_final(&record, &server, TEXT(CBIND_FLAG_Y_FINAL), ROOM(text)) == FE2O3_OK
+            && fe2o3_scram_server_final(&either, &record, &server, TEXT(CBIND_FLAG_Y_FINAL), ROOM(text)) == FE2O3_OK
             && spells(&text, "v=mZx4E2gu+jcdDC0u/pNy5NPrR0Zh6PMH8UcHTIgvIxU=")
             && fe2o3_scram_server_authenticated_user(&server, ROOM(text)) == FE2O3_OK && spells(&text, "user"));
 }
@@ -400,15 +405,15 @@ static uint32_t run_by(struct exchange *one, const struct fe2o3_login *login, co
     memset(one, 0, sizeof *one);
     number = fe2o3_scram_client_first(login, &one->client, client_nonce, ROOM(one->client_first));
     if (number == FE2O3_OK)
-        number = fe2o3_scram_server_claimed_user_with_rules(first, GIVEN(one->client_first), ROOM(user));
+        number = fe2o3_scram_server_claimed_user(first, GIVEN(one->client_first), ROOM(user));
     if (number == FE2O3_OK)
-        number = fe2o3_scram_server_first_with_rules(first, record, &one->server, server_nonce,
-            GIVEN(one->client_first), ROOM(one->server_first));
+        number = fe2o3_scram_server_first(first, record, &one->server, server_nonce, GIVEN(one->client_first),
+            ROOM(one->server_first));
     if (number == FE2O3_OK)
         number = fe2o3_scram_client_final(login, &one->client, GIVEN(one->server_first), ROOM(one->client_final));
     if (number == FE2O3_OK)
-        number = fe2o3_scram_server_final_with_rules(last, record, &one->server, GIVEN(one->client_final),
-            ROOM(one->server_final));
+        number =
+            fe2o3_scram_server_final(last, record, &one->server, GIVEN(one->client_final), ROOM(one->server_final));
     if (number == FE2O3_OK)
         number = fe2o3_scram_client_verify(login, &one->client, GIVEN(one->server_final));
     return number;
@@ -429,8 +434,7 @@ static void channels(uint32_t version)
         .acts_for = FE2O3_NONE,
         .password = TEXT("pencil"),
         .keys = &no_keys};
-    const struct fe2o3_scram_rules no_rules = FE2O3_SCRAM_RULES_INIT,
-                                   no_data = {.channels.binds_channel = 1, .identities = FE2O3_NONE},
+    const struct fe2o3_scram_rules no_data = {.channels.binds_channel = 1, .identities = FE2O3_NONE},
                                    with_y = {.accept_cbind_flag_y = 1, .identities = FE2O3_NONE};
     struct exchange one;
     fe2o3_scram_record_make(version, FE2O3_TYPED, TEXT("pencil"), salt, sizeof salt, 4096, &record);
@@ -590,17 +594,17 @@ static void strict_sides(void)
     struct exchange one;
     fe2o3_scram_record_make(FE2O3_SHA_256, FE2O3_TYPED, TEXT("pencil"), salt, sizeof salt, 4096, &record);
     told(FE2O3_SHA_256, "a strict server",
-        fe2o3_scram_server_first_with_rules(&strict, &record, &one.server, server_nonce, TEXT("n,,n=user,r=abc,i=4096"),
+        fe2o3_scram_server_first(&strict, &record, &one.server, server_nonce, TEXT("n,,n=user,r=abc,i=4096"),
             ROOM(one.server_first))
                 == FE2O3_SERVER_MISPLACED_ATTRIBUTE
-            && fe2o3_scram_server_first_with_rules(&lax, &record, &one.server, server_nonce,
-                   TEXT("n,,n=user,r=abc,i=4096"), ROOM(one.server_first))
+            && fe2o3_scram_server_first(&lax, &record, &one.server, server_nonce, TEXT("n,,n=user,r=abc,i=4096"),
+                   ROOM(one.server_first))
                 == FE2O3_OK);
     told(FE2O3_SHA_256, "an empty name",
-        fe2o3_scram_server_first_with_rules(&strict, &record, &one.server, server_nonce, TEXT("n,,n=,r=abc"),
+        fe2o3_scram_server_first(&strict, &record, &one.server, server_nonce, TEXT("n,,n=,r=abc"),
             ROOM(one.server_first))
                 == FE2O3_SERVER_CANNOT_PARSE_USERNAME
-            && fe2o3_scram_server_first_with_rules(&lax, &record, &one.server, server_nonce, TEXT("n,,n=,r=abc"),
+            && fe2o3_scram_server_first(&lax, &record, &one.server, server_nonce, TEXT("n,,n=,r=abc"),
                    ROOM(one.server_first))
                 == FE2O3_OK);
     for (login.strict = 0; login.strict <= 1; login.strict++) {
@@ -634,19 +638,19 @@ static void servers_that_reject_misplaced(void)
     for (int set = 0; set < 2; set++) {
         const struct fe2o3_scram_rules *rules = set ? &rejects : &lax;
         told(FE2O3_SHA_256, set ? "a server that rejects misplaced attributes" : "a server without options",
-            fe2o3_scram_server_first_with_rules(rules, &record, &one.server, server_nonce,
-                TEXT("n,,n=user,r=abc,i=4096"), ROOM(one.server_first))
+            fe2o3_scram_server_first(rules, &record, &one.server, server_nonce, TEXT("n,,n=user,r=abc,i=4096"),
+                ROOM(one.server_first))
                     == (set ? FE2O3_SERVER_MISPLACED_ATTRIBUTE : FE2O3_OK)
-                && fe2o3_scram_server_first_with_rules(rules, &record, &one.server, server_nonce,
-                       TEXT("n,,n=user,r=abc,x=1"), ROOM(one.server_first))
+                && fe2o3_scram_server_first(rules, &record, &one.server, server_nonce, TEXT("n,,n=user,r=abc,x=1"),
+                       ROOM(one.server_first))
                     == FE2O3_OK);
         told(FE2O3_SHA_256, "one between the nonce and the proof",
-            fe2o3_scram_server_final_with_rules(rules, &record, &one.server,
+            fe2o3_scram_server_final(rules, &record, &one.server,
                 TEXT("c=biws,r=abc" SERVER_NONCE ",c=eSws,p=AAAAAAAAAAAAAAAAAAAAAAAAAAAAAAAAAAAAAAAAAAA="),
                 ROOM(one.server_final))
                 == (set ? FE2O3_SERVER_MISPLACED_ATTRIBUTE : FE2O3_SERVER_AUTHENTICATION_FAILED));
         told(FE2O3_SHA_256, "an empty name and an empty nonce",
-            fe2o3_scram_server_first_with_rules(rules, &record, &one.server, server_nonce, TEXT("n,,n=,r="),
+            fe2o3_scram_server_first(rules, &record, &one.server, server_nonce, TEXT("n,,n=,r="),
                 ROOM(one.server_first))
                 == FE2O3_OK);
     }

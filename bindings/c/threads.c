@@ -27,6 +27,7 @@ struct outcome {
 
 /* All threads read these at once. */
 static struct fe2o3_scram_keys no_keys;
+static const struct fe2o3_scram_rules no_rules = FE2O3_SCRAM_RULES_INIT;
 static struct fe2o3_scram_record records[VERSIONS];
 static struct outcome expected[LOGINS];
 
@@ -51,12 +52,13 @@ static void run(size_t place, struct outcome *one)
     memset(one, 0, sizeof *one);
     one->number = fe2o3_scram_client_first(&login, &client, client_nonce, ROOM(one->client_first));
     if (one->number == FE2O3_OK)
-        one->number =
-            fe2o3_scram_server_first(record, &server, server_nonce, GIVEN(one->client_first), ROOM(one->server_first));
+        one->number = fe2o3_scram_server_first(&no_rules, record, &server, server_nonce, GIVEN(one->client_first),
+            ROOM(one->server_first));
     if (one->number == FE2O3_OK)
         one->number = fe2o3_scram_client_final(&login, &client, GIVEN(one->server_first), ROOM(one->client_final));
     if (one->number == FE2O3_OK)
-        one->number = fe2o3_scram_server_final(record, &server, GIVEN(one->client_final), ROOM(one->server_final));
+        one->number =
+            fe2o3_scram_server_final(&no_rules, record, &server, GIVEN(one->client_final), ROOM(one->server_final));
     if (one->number == FE2O3_OK)
         one->number = fe2o3_scram_client_verify(&login, &client, GIVEN(one->server_final));
     if (one->number == FE2O3_OK)

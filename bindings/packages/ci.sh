@@ -31,11 +31,11 @@ in_c() {
     for kind in static shared; do
         library=$built/lib/libfe2o3_sasl.a
         [ $kind = static ] || library=$shared
-        for program in fits scram steps threads random client server; do
+        for program in fits scram bodies threads random client server; do
             cc -std=c99 -Wall -Wextra -Wpedantic -O2 -pthread -I"$built/include" -o "$work/$program" \
                 "bindings/c/$program.c" "$library" -Wl,-rpath,"$built/lib" || return
         done
-        for program in fits scram steps threads random; do
+        for program in fits scram bodies threads random; do
             echo "$program $kind"
             "$work/$program" || return
         done

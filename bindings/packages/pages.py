@@ -23,7 +23,7 @@ PAGES = {
     "CHANGELOG.md": "CHANGELOG.md",
 }
 EXAMPLES = {
-    **{f"bindings/c/{name}.c": f"examples/{name}.c" for name in ("client", "server", "scram", "steps", "fits")},
+    **{f"bindings/c/{name}.c": f"examples/{name}.c" for name in ("client", "server", "scram", "bodies", "fits")},
     **{
         f"bindings/python/examples/{name}.py": f"examples/{name}.py"
         for name in ("login", "client", "broker", "channel", "guide", "shared_users")

@@ -7,8 +7,7 @@ import unittest
 from typing import Any, Callable
 from unittest import mock
 
-import fe2o3_sasl
-from fe2o3_sasl import _native, _structs
+from fe2o3_sasl import _native
 from fe2o3_sasl import (
     SHA_1,
     SHA_256,
@@ -17,18 +16,14 @@ from fe2o3_sasl import (
     ChannelKind,
     Client,
     ClientConnection,
-    ClientSteps,
     Offer,
     Record,
     Refused,
     Server,
     ServerConnection,
-    ServerSteps,
 )
-from peers import OUTCOME, Broker, fields_of, fields_of_last, mechanisms_frame
+from peers import OUTCOME, SASL_HEADER, Broker, fields_of_last
 
-# (test_steps.py names the structs by the package)
-vars(fe2o3_sasl).update({name: one for name, one in vars(_structs).items() if name.endswith("Struct")})
 LIBRARY: Any = _native._library
 SALT = bytes(range(16))
 NAMES = ["user", "", "a=b,c", "=2C", "J\u00fcrgen \U0001f600", "x" * 240]
@@ -101,15 +96,31 @@ def sized(body: bytes) -> bytes:
     return struct.pack(">I", len(body) + 4) + body
 
 
-def stepped(side: ClientSteps, broker: Broker) -> None:
-    """Joins a client and a server that is made here, body by body."""
-    answer = mechanisms_frame(*broker.names)
-    while answer:
-        sent = side.on_frame(answer[4:])
-        answer = broker.frame(*fields_of(sized(sent))) if sent else b""
+class ClientBodies(ClientConnection):
+    """A client that is passed the bodies of frames: each with its size, and the header before the first one."""
+
+    __slots__ = ()
+
+    def on_frame(self, body: bytes) -> bytes:
+        header = SASL_HEADER if self._struct.connection.expected == 0 else b""
+        return self.receive(header + sized(body))[0][4:]
 
 
-def steps_served(side: ServerSteps, by: Any, *, ask: bool = False, late: bool = False) -> None:
+class ServerBodies(ServerConnection):
+    """A server that is passed the bodies of frames, like `ClientBodies`."""
+
+    __slots__ = ()
+
+    def offer(self) -> bytes:
+        return self.receive(SASL_HEADER)[0][12:]
+
+    def on_frame(self, body: bytes) -> bytes:
+        if self._struct.connection.expected == 0:
+            self.offer()
+        return self.receive(sized(body))[0][4:]
+
+
+def bodies_served(side: ServerBodies, by: Any, *, ask: bool = False, late: bool = False) -> None:
     """Joins a server and a client that is made here, body by body."""
     by.begin(ask, late)
     answer = sized(side.offer())

@@ -14,8 +14,8 @@ from typing import Any, Callable, Optional
 from unittest import mock
 
 import fe2o3_sasl
-from fe2o3_sasl import _exports, _native, _structs
-from cases import LIBRARY, SALT, Case, login, of
+from fe2o3_sasl import _exports, _native, _server, _structs
+from cases import LIBRARY, SALT, Case, ClientBodies, ServerBodies, login, of
 from examples.login import log_in, serve
 from fe2o3_sasl import (
     SHA_1,
@@ -25,7 +25,6 @@ from fe2o3_sasl import (
     ChannelKind,
     Client,
     ClientConnection,
-    ClientSteps,
     Keys,
     Offer,
     Record,
@@ -33,7 +32,6 @@ from fe2o3_sasl import (
     Refused,
     Server,
     ServerConnection,
-    ServerSteps,
     Status,
     Wiped,
 )
@@ -117,7 +115,7 @@ class Arguments(Case):
         login(client, server, record)
         keys = client.keys()
         secret = Secret(SHA_256, password, record.salt, 4096)
-        sides = ClientSteps.plain(name, password), ServerSteps(of({name: record}), mechanisms=Offer.PLAIN)
+        sides = ClientBodies.plain(name, password), ServerBodies(of({name: record}), mechanisms=Offer.PLAIN)
         init = sides[0].on_frame(sides[1].offer())
         self.assertIn(password.encode(), init)
         frame = fe2o3_sasl.view_frame(init)
@@ -264,8 +262,11 @@ class Refusals(Case):
 
         one, two = os.urandom(32), os.urandom(32)
         first = rooms(None, client._struct, lambda *room: LIBRARY.fe2o3_scram_client_first(*given, one, *room))
-        known = record._struct, server
-        user = rooms(None, server, lambda *room: LIBRARY.fe2o3_scram_server_claimed_user(first, len(first), *room))
+        rules = _server._rules_of()
+        known = rules, record._struct, server
+        user = rooms(
+            None, server, lambda *room: LIBRARY.fe2o3_scram_server_claimed_user(rules, first, len(first), *room)
+        )
         self.assertEqual(user, b"user")
         challenge = rooms(
             None,

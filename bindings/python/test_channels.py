@@ -25,8 +25,6 @@ from cases import (
     nonces,
     of,
     served,
-    stepped,
-    steps_served,
 )
 from fe2o3_sasl import (
     SHA_256,
@@ -35,7 +33,6 @@ from fe2o3_sasl import (
     ChannelKind,
     Client,
     ClientConnection,
-    ClientSteps,
     Offer,
     Progress,
     Record,
@@ -43,7 +40,6 @@ from fe2o3_sasl import (
     Server,
     ServerConnection,
     ServerError,
-    ServerSteps,
     Status,
     offers,
     server_error_message,
@@ -293,13 +289,11 @@ class Channels(Case):
                 client = Client(version, "user", "pencil", channel=channel_of(kind))
                 for data, progress in ((DATA[kind], Progress.AUTHENTICATED), (b"other", Progress.FAILED)):
                     broker = Broker(known, mechanism, mechanism + "-PLUS", channel_data=data)
-                    connection, steps = ClientConnection(client), ClientSteps(client)
+                    connection = ClientConnection(client)
                     connected(connection, broker, 7)
                     self.assertEqual((broker.init[0] or b"").decode(), mechanism + "-PLUS")
                     self.assertEqual((broker.init[1] or b"").split(b",")[0], b"p=" + name)
-                    stepped(steps, Broker(known, mechanism + "-PLUS", channel_data=data))
-                    for side in (connection, steps):
-                        self.assertEqual((side.mechanism(), side.progress), (mechanism + "-PLUS", progress))
+                    self.assertEqual((connection.mechanism(), connection.progress), (mechanism + "-PLUS", progress))
             # Without -PLUS in the offer it sends nothing.
             connection = ClientConnection(client)
             connected(connection, Broker(known, mechanism), 7)
@@ -332,14 +326,13 @@ class Channels(Case):
                 ):
                     by = Login(version, "user", "pencil", header, sent)
                     options: Any = {"mechanisms": OFFERS[version] | option, "channels": channels}
-                    connection, steps = ServerConnection(known, **options), ServerSteps(known, **options)
-                    self.assertEqual(offers(steps.offer(), mechanism + "-PLUS"), channels is not None)
-                    self.assertTrue(offers(steps.offer(), mechanism))
+                    offer = ServerConnection(known, **options).receive(SASL_HEADER)[0][12:]
+                    self.assertEqual(offers(offer, mechanism + "-PLUS"), channels is not None)
+                    self.assertTrue(offers(offer, mechanism))
+                    connection = ServerConnection(known, **options)
                     by.begin()
                     served(connection, by, 7)
-                    steps_served(steps, by)
-                    for side in (connection, steps):
-                        self.assertEqual(side.progress == Progress.AUTHENTICATED, is_accepted, (header, channels))
+                    self.assertEqual(connection.progress == Progress.AUTHENTICATED, is_accepted, (header, channels))
                     self.assertEqual(by.logged_in, is_accepted)
         for two in ([Channel(1, b"a"), Channel(1, b"a")], [Channel(1, b"a"), Channel(2, b"a"), Channel(1, b"b")]):
             with self.assertRaises(ValueError):

@@ -17,7 +17,6 @@ from fe2o3_sasl import (
     SHA_512,
     Client,
     ClientConnection,
-    ClientSteps,
     Offer,
     Progress,
     Record,
@@ -179,9 +178,8 @@ class Connections(Case):
         ):
             with self.subTest(name=name, password=password):
                 offer = SASL_HEADER + mechanisms_frame("PLAIN")
-                for kind in (ClientConnection, ClientSteps):
-                    self.refused(status, lambda: kind.plain(name, password, strict=True))
-                    self.refused(status, lambda: kind.select(name, password, ["PLAIN"], strict=True))
+                for call in (ClientConnection.plain, lambda *words, **more: ClientConnection.select(*words, ["PLAIN"], **more)):
+                    self.refused(status, lambda: call(name, password, strict=True))
                 strict = ClientConnection.plain(name, password)
                 strict._login[0].login.strict = 1
                 self.refused(status, strict.receive, offer)

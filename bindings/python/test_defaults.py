@@ -16,10 +16,10 @@ from unittest import mock
 import fe2o3_sasl
 from fe2o3_sasl import _native
 from fe2o3_sasl import DEFAULT_ITERATIONS, DEFAULT_SALT_LEN, Channel, ChannelKind, Client, ClientConnection
-from fe2o3_sasl import ClientSteps, Offer, Progress, Record, RecordError, RecordStore, Refused, Rejection
-from fe2o3_sasl import ServerConnection, ServerSteps, Status, UnknownUser, Wiped
+from fe2o3_sasl import Offer, Progress, Record, RecordError, RecordStore, Refused, Rejection
+from fe2o3_sasl import ServerConnection, Status, UnknownUser, Wiped
 from peers import INIT, MECHANISMS, OUTCOME, SASL_HEADER, SHA_1, SHA_256, SHA_512, Login, Other, Plain, Secret, Side
-from peers import base64_of, fields_of, frame_of, framed, mac, short
+from peers import base64_of, fields_of, frame_of, mac, short
 
 README = Path(__file__).resolve().parents[2] / "README.md"
 LIBRARY: Any = _native._library
@@ -246,17 +246,17 @@ class MockRecords(unittest.TestCase):
         """What a server lends to the library for an init of PLAIN: the iteration count, and the hash, salt length and count
         of each record."""
         found: list[Any] = []
-        step = LIBRARY.fe2o3_sasl_server_step
+        receive = LIBRARY.fe2o3_sasl_server_receive
 
         def seen(config: Any, *more: Any) -> int:
             records = [config.records[at] for at in range(config.records_count)]
             found.append((config.iterations, [(one.version, one.salt_len, one.iterations) for one in records]))
-            return int(step(config, *more))
+            return int(receive(config, *more))
 
-        side = ServerSteps(self.store.records, mechanisms=mechanisms | Offer.PLAIN, **options)
-        init = ClientSteps.plain(name, "wrong").on_frame(side.offer())
-        with mock.patch.object(LIBRARY, "fe2o3_sasl_server_step", seen):
-            side.on_frame(init)
+        side = ServerConnection(self.store.records, mechanisms=mechanisms | Offer.PLAIN, **options)
+        init, _ = ClientConnection.plain(name, "wrong").receive(side.receive(SASL_HEADER)[0])
+        with mock.patch.object(LIBRARY, "fe2o3_sasl_server_receive", seen):
+            side.receive(init)
         self.assertEqual(side.progress, Progress.FAILED)
         self.assertEqual(len(found), 1)
         return found[0]
@@ -299,8 +299,7 @@ class MockRecords(unittest.TestCase):
             ("x" * 32, TypeError),
             ((SECRET, 16, "4096"), TypeError),
         ):
-            for side in (ServerConnection, ServerSteps):
-                self.assertRaises(kind, side, self.store.records, mock=settings)
+            self.assertRaises(kind, ServerConnection, self.store.records, mock=settings)
         self.assertRaises(ValueError, ServerConnection, self.store.records, mock=SECRET, iterations=4096)
         self.assertRaises(fe2o3_sasl.InvalidArgument, Record.mock, SHA_256, SECRET, "user", iterations=0)
         self.assertRaises(ValueError, Record.mock, SHA_256, SECRET[1:], "user")
@@ -326,23 +325,15 @@ class Rejections(unittest.TestCase):
         self.store = RecordStore(added("one", hashes=(SHA_256,)) + added("all"))
 
     def ended(self, by: Side, **options: Any) -> Optional[Rejection]:
-        """Why servers of both kinds reject a login, or None. The client receives the same outcome for each reason."""
+        """Why a server rejects a login, or None. The client receives the same outcome for each reason."""
         options["mechanisms"] = BOTH | Offer.PLAIN | Offer.EXTERNAL | options.get("mechanisms", 0)
-        connection, steps = (kind(self.store.records, **options) for kind in (ServerConnection, ServerSteps))
-        outcomes = [answers(connection, by)[-1]]
-        by.begin(ask=True)
-        body = steps.offer()
-        while sent := by.frame(body[6], framed(body[4:])):
-            self.assertIsNone(steps.rejection)
-            body = steps.on_frame(sent[4:])
-        outcomes.append(framed(body[4:]))
-        self.assertIs(connection.rejection, steps.rejection)
-        self.assertEqual(by.logged_in, connection.rejection is None)
-        for side, outcome in zip((connection, steps), outcomes):
-            self.assertEqual(side.progress, Progress.AUTHENTICATED if by.logged_in else Progress.FAILED)
-            if not by.logged_in:
-                self.assertEqual(outcome, frame_of(OUTCOME, b"\x50\1"))
-        return connection.rejection
+        side = ServerConnection(self.store.records, **options)
+        outcome = answers(side, by)[-1]
+        self.assertEqual(by.logged_in, side.rejection is None)
+        self.assertEqual(side.progress, Progress.AUTHENTICATED if by.logged_in else Progress.FAILED)
+        if not by.logged_in:
+            self.assertEqual(outcome, frame_of(OUTCOME, b"\x50\1"))
+        return side.rejection
 
     def test_each_reason(self) -> None:
         as_bob = b"n,a=bob,"
@@ -402,8 +393,8 @@ class Rejections(unittest.TestCase):
         self.assertRaises(Wiped, lambda: side.rejection)
 
     def test_a_reason_of_a_later_library(self) -> None:
-        side = ServerSteps(self.store.records)
-        side._struct.rejection = 4_000_000_000
+        side = ServerConnection(self.store.records)
+        side._struct.scram.rejection = 4_000_000_000
         self.assertIs(side.rejection, Rejection.OTHER)
 
 
@@ -507,7 +498,7 @@ class Nonces(unittest.TestCase):
         """The nonces that the library gets."""
         nonces: list[bytes] = []
         with contextlib.ExitStack() as stack:
-            for name in ("client_receive", "server_receive", "client_step", "server_step"):
+            for name in ("client_receive", "server_receive"):
                 call = getattr(LIBRARY, f"fe2o3_sasl_{name}")
 
                 def seen(
@@ -534,19 +525,6 @@ class Nonces(unittest.TestCase):
                         )
                     self.assertEqual((side.progress, client.progress), (Progress.AUTHENTICATED,) * 2)
         self.assertGreater(len(nonces), 500)
-        self.check(nonces)
-
-    def test_steps(self) -> None:
-        store = RecordStore(added("user"))
-        with self.passed() as nonces:
-            for _ in range(3):
-                side, client = ServerSteps(store.records), ClientSteps(Client(SHA_256, "user", "pencil"))
-                sent = side.offer()
-                while client.progress == Progress.IN_PROGRESS:
-                    answer = client.on_frame(sent)
-                    sent = side.on_frame(answer) if answer else b""
-                self.assertEqual((side.progress, client.progress), (Progress.AUTHENTICATED,) * 2)
-        self.assertEqual(len(nonces), 15)
         self.check(nonces)
 
     def check(self, nonces: list[bytes]) -> None:

@@ -15,12 +15,10 @@ from fe2o3_sasl import (
     ChannelKind,
     Client,
     ClientConnection,
-    ClientSteps,
     Progress,
     Record,
     Server,
     ServerConnection,
-    ServerSteps,
     Status,
 )
 from peers import VERSIONS, Secret, bare_of
@@ -144,25 +142,19 @@ class Identities(Case):
             ("pencil", "bob", None, None, False),
             ("pencils", "bob", allowing("bob"), None, False),
         ):
-            for client_side, server_side in ((ClientConnection, ServerConnection), (ClientSteps, ServerSteps)):
-                with self.subTest(identity=identity, is_allowed=is_allowed, client_side=client_side):
-                    options = {"channels": channels and [channels], "identities_of": identities_of}
-                    server = server_side(of({"user": record}), mechanisms=OFFERS[SHA_256], **options)
-                    client = client_side(Client(SHA_256, "user", password, acts_for=identity, channel=channels))
-                    if client_side is ClientConnection:
-                        to_server = client.open()
-                        while to_server:
-                            to_server = client.receive(server.receive(to_server)[0])[0]
-                    else:
-                        body = server.offer()
-                        while sent := client.on_frame(body):
-                            body = server.on_frame(sent)
-                    wanted = Progress.AUTHENTICATED if is_allowed else Progress.FAILED
-                    self.assertEqual((client.progress, server.progress), (wanted, wanted))
-                    if is_allowed:
-                        self.assertEqual((server.authenticated_user(), server.acts_for()), ("user", identity))
-                    else:
-                        self.refused(Status.SERVER_ILLEGAL_AUTHENTICATOR_STATE, server.acts_for)
+            with self.subTest(identity=identity, is_allowed=is_allowed):
+                options = {"channels": channels and [channels], "identities_of": identities_of}
+                server = ServerConnection(of({"user": record}), mechanisms=OFFERS[SHA_256], **options)
+                client = ClientConnection(Client(SHA_256, "user", password, acts_for=identity, channel=channels))
+                to_server = client.open()
+                while to_server:
+                    to_server = client.receive(server.receive(to_server)[0])[0]
+                wanted = Progress.AUTHENTICATED if is_allowed else Progress.FAILED
+                self.assertEqual((client.progress, server.progress), (wanted, wanted))
+                if is_allowed:
+                    self.assertEqual((server.authenticated_user(), server.acts_for()), ("user", identity))
+                else:
+                    self.refused(Status.SERVER_ILLEGAL_AUTHENTICATOR_STATE, server.acts_for)
         self.assertEqual(set(asked), {"user"})
 
     def test_connections_by_other_mechanisms(self) -> None:
@@ -194,10 +186,9 @@ class Identities(Case):
                 self.assertEqual((client.progress, server.progress), (wanted, wanted))
                 if is_allowed:
                     self.assertEqual(server.acts_for(), acts_for)
-        for call in (select, ClientSteps.select):
-            with self.assertRaises(ValueError):
-                call("user", "pencil", [*mechanisms, "ANONYMOUS"], acts_for="bob")
-            call("user", "pencil", [*mechanisms, "ANONYMOUS"], acts_for="")
+        with self.assertRaises(ValueError):
+            select("user", "pencil", [*mechanisms, "ANONYMOUS"], acts_for="bob")
+        select("user", "pencil", [*mechanisms, "ANONYMOUS"], acts_for="")
         for words, status in (
             (("user", "", "bob"), Status.EMPTY_PASSWORD),
             (("", "pencil", "bob"), Status.NAMES_NO_USER),

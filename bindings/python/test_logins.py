@@ -28,8 +28,6 @@ from cases import (
     nonces,
     of,
     served,
-    stepped,
-    steps_served,
 )
 from fe2o3_sasl import (
     SHA_1,
@@ -38,7 +36,6 @@ from fe2o3_sasl import (
     ChannelKind,
     Client,
     ClientConnection,
-    ClientSteps,
     Keys,
     Offer,
     Progress,
@@ -47,7 +44,6 @@ from fe2o3_sasl import (
     Server,
     ServerConnection,
     ServerError,
-    ServerSteps,
     Status,
     server_error,
     server_error_message,
@@ -264,9 +260,9 @@ class Prepared(Case):
                     side = ClientConnection(Client(version, "user", password=password, prepared=True))
                     connected(side, Broker(known, MECHANISMS[version]), 4096)
                     self.assertEqual(side.progress, Progress.AUTHENTICATED)
-                    steps = ClientSteps(Client(version, "user", keys=keys, password=password, prepared=True))
-                    stepped(steps, Broker(known, MECHANISMS[version]))
-                    self.assertEqual(steps.progress, Progress.AUTHENTICATED)
+                    side = ClientConnection(Client(version, "user", keys=keys, password=password, prepared=True))
+                    connected(side, Broker(known, MECHANISMS[version]), 4096)
+                    self.assertEqual(side.progress, Progress.AUTHENTICATED)
                     if not password.isascii():
                         plain = Client(version, "user", password)
                         self.refused(Status.CLIENT_NORMALIZE_ERROR, login, plain, Server(), record)
@@ -310,12 +306,9 @@ class Unbound(Case):
                     connection = ServerConnection(of(known), mechanisms=mechanisms)
                     by.begin()
                     served(connection, by, 7)
-                    steps = ServerSteps(of(known), mechanisms=mechanisms)
-                    steps_served(steps, by)
-                    for side in (connection, steps):
-                        self.assertEqual(side.progress == Progress.AUTHENTICATED, taken)
-                        if taken:
-                            self.assertEqual(side.authenticated_user(), "user")
+                    self.assertEqual(connection.progress == Progress.AUTHENTICATED, taken)
+                    if taken:
+                        self.assertEqual(connection.authenticated_user(), "user")
                     self.assertEqual(by.logged_in, taken)
 
 
@@ -338,13 +331,10 @@ class Strict(Case):
                 init = frame_of(INIT, short(0xA3, mechanism.encode()), short(0xA0, message))
                 connection = ServerConnection(known, mechanisms=OFFERS[version] | option, channels=channels)
                 connection.receive(SASL_HEADER + init)
-                steps = ServerSteps(known, mechanisms=OFFERS[version] | option, channels=channels)
-                steps.on_frame(init[4:])
-                for side in (connection, steps):
-                    self.assertEqual(side.progress, progress, (extension, option))
-                    if progress == Progress.FAILED:
-                        assert side.why is not None
-                        self.assertEqual(side.why.status, Status.REFUSED_AUTH)
+                self.assertEqual(connection.progress, progress, (extension, option))
+                if progress == Progress.FAILED:
+                    assert connection.why is not None
+                    self.assertEqual(connection.why.status, Status.REFUSED_AUTH)
 
     def test_grammar(self) -> None:
         record = Record.make(SHA_256, "pencil", salt=SALT)

@@ -7,18 +7,16 @@ import random
 import unittest
 from unittest import mock
 
-from cases import SALT, Case, connected, nobody, of, sized, stepped
+from cases import SALT, Case, connected, nobody, of
 from fe2o3_sasl import (
     SHA_1,
     SHA_256,
     Client,
     ClientConnection,
-    ClientSteps,
     Offer,
     Progress,
     Record,
     ServerConnection,
-    ServerSteps,
     Status,
 )
 from peers import (
@@ -158,10 +156,6 @@ class Peeks(Case):
                     assert side.why is not None
                     self.assertEqual(side.why.status, Status.REFUSED_AUTH + code - 1)
                     self.assertEqual(side.refusal_data, data)
-                    steps = ClientSteps.anonymous() if client is None else ClientSteps(client)
-                    steps.on_frame(offer[12:])
-                    steps.on_frame(outcome[4:])
-                    self.assertEqual((steps.progress, steps.refusal_data), (Progress.FAILED, data))
         side = ClientConnection.anonymous()
         side.receive(offer)
         side.receive(frame_of(OUTCOME, b"\x50\0", short(0xA0, b"data")))
@@ -190,10 +184,6 @@ class Peeks(Case):
             side = ServerConnection(known, mechanisms=Offer.SCRAM_SHA_256 | Offer.PLAIN)
             side.receive(SASL_HEADER + init)
             self.assertEqual(side.last_attempt(), wanted)
-            steps = ServerSteps(known, mechanisms=Offer.SCRAM_SHA_256 | Offer.PLAIN)
-            self.assertIsNone(steps.last_attempt())
-            steps.on_frame(init[4:])
-            self.assertEqual(steps.last_attempt(), wanted)
         offer = Offer.SCRAM_SHA_256 | Offer.PLAIN | Offer.INITIAL_RESPONSE_BY_CHALLENGE
         for name, response, claimed in (("SCRAM-SHA-256", first, "us,er"), ("PLAIN", plain, "user")):
             side = ServerConnection(known, mechanisms=offer)
@@ -226,12 +216,9 @@ class Policies(Case):
                 self.assertEqual(sent, b"")
                 sent, _ = side.receive((SASL_HEADER + offer)[at : at + piece])
             self.assertEqual(side.mechanism(), wanted, (offered, allowed))
-            steps = ClientSteps.select("us\u00e9r", "pencil", allowed, hostname="host")
             if wanted is None:
                 assert side.why is not None
                 self.assertEqual((sent, side.why.status), (b"", Status.NOT_IMPLEMENTED))
-                self.refused(Status.NOT_IMPLEMENTED, steps.on_frame, offer[4:])
-                self.assertIsNone(steps.mechanism())
                 continue
             code, fields = fields_of(sent)
             self.assertEqual((code, fields[0], fields[2]), (INIT, wanted.encode(), b"host"))
@@ -240,8 +227,6 @@ class Policies(Case):
             others = {"EXTERNAL": b"", "ANONYMOUS": b"", "PLAIN": b"\0" + name + b"\0pencil"}
             starts = others.get(wanted, b"n,,n=" + name)
             self.assertTrue(message.startswith(starts) and (starts or not message))
-            self.assertEqual(fields_of(sized(steps.on_frame(offer[4:])))[1][0], wanted.encode())
-            self.assertEqual(steps.mechanism(), wanted)
 
     def test_logins(self) -> None:
         for version, mechanism in MECHANISMS.items():
@@ -249,9 +234,6 @@ class Policies(Case):
             connected(side, Broker(few(version), "PLAIN", mechanism), 7)
             self.assertEqual((side.progress, side.mechanism()), (Progress.AUTHENTICATED, mechanism))
             self.assertEqual(side.keys().version, version)
-            steps = ClientSteps.select("user", "pencil", min_iterations=1)
-            stepped(steps, Broker(few(version), "PLAIN", mechanism))
-            self.assertEqual((steps.progress, steps.mechanism()), (Progress.AUTHENTICATED, mechanism))
         side = ClientConnection.select("user", "pencil", (*self.ALL[:2], "PLAIN"))
         connected(side, Broker(few(SHA_1), "SCRAM-SHA-1", "PLAIN"), 4096)
         self.assertEqual((side.progress, side.mechanism()), (Progress.AUTHENTICATED, "PLAIN"))
@@ -279,13 +261,13 @@ class Policies(Case):
             self.assertRaises(ValueError, ClientConnection.select, "user", "pencil", allowed)
         self.assertRaises(ValueError, ClientConnection.select, "user", None)
         self.assertRaises(ValueError, ClientConnection.select, "user", None, ("EXTERNAL", "PLAIN"))
-        side = ClientSteps.select("user", None, ("EXTERNAL", "ANONYMOUS"))
-        self.assertEqual(fields_of(sized(side.on_frame(mechanisms_frame("ANONYMOUS")[4:])))[1][0], b"ANONYMOUS")
+        side = ClientConnection.select("user", None, ("EXTERNAL", "ANONYMOUS"))
+        self.assertEqual(fields_of(side.receive(SASL_HEADER + mechanisms_frame("ANONYMOUS"))[0])[1][0], b"ANONYMOUS")
 
     def test_mechanisms_that_are_not_selected(self) -> None:
         for name, side in (
-            ("SCRAM-SHA-1", ClientSteps(Client(SHA_1, "user", "pencil"))),
-            ("PLAIN", ClientSteps.plain("user", "pencil")),
+            ("SCRAM-SHA-1", ClientConnection(Client(SHA_1, "user", "pencil"))),
+            ("PLAIN", ClientConnection.plain("user", "pencil")),
             ("ANONYMOUS", ClientConnection.anonymous_as("trace")),
             ("EXTERNAL", ClientConnection.external()),
         ):

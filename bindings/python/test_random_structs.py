@@ -9,7 +9,7 @@ import random
 import unittest
 from typing import Any, Optional
 
-from fe2o3_sasl import _structs
+from fe2o3_sasl import _server, _structs
 from cases import KIND_NAMES, LIBRARY, Case
 from fe2o3_sasl import ChannelKind, Status
 from peers import VERSIONS, Secret, bare_of, base64_of, exclusive_or, mac
@@ -141,6 +141,7 @@ class RandomStructs(Case):
             self.assertGreater(len(statuses), 1, name)
 
     def test_servers(self) -> None:
+        no_rules = _server._rules_of()
         for _ in range(self.COUNT):
             server, record = self.filled(_structs._ScramServerStruct), self.filled(_structs._ScramRecordStruct)
             if self.chance():
@@ -183,25 +184,27 @@ class RandomStructs(Case):
             self.ask("fe2o3_scram_record_text", (record,), record, room=self.random.choice((200, 384)))
             again = _structs._ScramServerStruct.from_buffer_copy(server)
             first = self.random.choice((b"n,,", b"y,,")) + b"n=user,r=" + base64_of(os.urandom(32))
-            for export in ("fe2o3_scram_server_first", "fe2o3_scram_server_first_with_cbind_flag_y"):
-                self.ask(
-                    export,
-                    (again, record),
-                    record,
-                    again,
-                    os.urandom(32),
-                    first,
-                    len(first),
-                    room=self.random.choice((100, 1024)),
-                )
+            self.ask(
+                "fe2o3_scram_server_first",
+                (again, record),
+                _server._rules_of(accept_cbind_flag_y=self.chance()),
+                record,
+                again,
+                os.urandom(32),
+                first,
+                len(first),
+                room=self.random.choice((100, 1024)),
+            )
             for message in (self.marred(client_final), self.marred(first), os.urandom(self.random.randrange(40))):
                 for export in ("fe2o3_scram_server_first", "fe2o3_scram_server_final"):
                     other = _structs._ScramServerStruct.from_buffer_copy(server)
                     nonce_too = [os.urandom(32)] if export == "fe2o3_scram_server_first" else []
-                    self.ask(export, (other, record), record, other, *nonce_too, message, len(message), room=1024)
+                    given = no_rules, record, other, *nonce_too, message, len(message)
+                    self.ask(export, (other, record), *given, room=1024)
             final = self.ask(
                 "fe2o3_scram_server_final",
                 (server, record),
+                no_rules,
                 record,
                 server,
                 client_final,
@@ -265,7 +268,7 @@ class RandomStructs(Case):
         return record, key, stored
 
     def test_servers_begin_by_rules(self) -> None:
-        claimed, first = (f"fe2o3_scram_server_{name}_with_rules" for name in ("claimed_user", "first"))
+        claimed, first = (f"fe2o3_scram_server_{name}" for name in ("claimed_user", "first"))
         begun = {state: 0 for state in (1, 3, 7, 8, 9)}
         for _ in range(self.COUNT):
             (rules, headers, fits), (record, _, _) = self.rules(), self.known_record()
@@ -292,7 +295,7 @@ class RandomStructs(Case):
         self.assertGreater(min(map(len, self.answers.values())), 2)
 
     def test_servers_conclude_by_rules(self) -> None:
-        final, concluded = "fe2o3_scram_server_final_with_rules", {state: 0 for state in (1, 3, 7, 8, 9)}
+        final, concluded = "fe2o3_scram_server_final", {state: 0 for state in (1, 3, 7, 8, 9)}
         for _ in range(self.COUNT):
             (rules, headers, fits), (record, client_key, stored) = self.rules(), self.known_record()
             server, nonce = self.filled(_structs._ScramServerStruct), base64_of(os.urandom(32))

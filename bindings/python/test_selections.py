@@ -6,7 +6,7 @@ import itertools
 import unittest
 from typing import Iterable, Optional
 
-from cases import Case, connected
+from cases import Case, ClientBodies, connected
 from fe2o3_sasl import (
     SHA_1,
     SHA_256,
@@ -14,7 +14,6 @@ from fe2o3_sasl import (
     Channel,
     ChannelKind,
     ClientConnection,
-    ClientSteps,
     MechanismUnavailable,
     Progress,
     Status,
@@ -89,7 +88,7 @@ class Selections(Case):
 
     def test_logins_that_bind(self) -> None:
         for version, name in ((SHA_1, "SCRAM-SHA-1"), (SHA_256, "SCRAM-SHA-256"), (SHA_512, "SCRAM-SHA-512")):
-            side = ClientSteps.select("user", "pencil", [name], channel=CHANNEL, strict=True, min_iterations=1)
+            side = ClientBodies.select("user", "pencil", [name], channel=CHANNEL, strict=True, min_iterations=1)
             side.on_frame(mechanisms_frame(name, f"{name}-PLUS")[4:])
             self.assertEqual(side.mechanism(), f"{name}-PLUS")
             self.assertEqual((side._login[0].login.version, side._login[0].login.strict), (version, 1))

@@ -16,6 +16,7 @@ from pathlib import Path
 from typing import Any, Callable, Iterable
 from unittest import mock
 
+from cases import ClientBodies, ServerBodies
 from fe2o3_sasl import _client_sides, _native
 from fe2o3_sasl import (
     SHA_1,
@@ -23,7 +24,6 @@ from fe2o3_sasl import (
     SHA_512,
     Client,
     ClientConnection,
-    ClientSteps,
     Keys,
     Offer,
     PlainPasswords,
@@ -33,7 +33,6 @@ from fe2o3_sasl import (
     Refused,
     Server,
     ServerConnection,
-    ServerSteps,
     Wiped,
     plain_message,
     plain_verify,
@@ -57,9 +56,7 @@ MAKES: list[Callable[[], Any]] = [
     lambda: ClientConnection(Client(SHA_256, "user", PASSWORD, prepared=True)),
     lambda: ClientConnection.plain("user", PASSWORD),
     lambda: ClientConnection.select("user", PASSWORD, [*MECHANISMS.values(), "PLAIN"], prepared=True),
-    lambda: ClientSteps.select("user", PASSWORD, [*MECHANISMS.values(), "PLAIN"], prepared=True),
     lambda: ServerConnection(records_of),
-    lambda: ServerSteps(records_of),
     lambda: ServerConnection(records_of, mock=MOCK),
     lambda: RecordStore(RECORD.line("user") + RECORD.line("other")),
 ]
@@ -228,7 +225,7 @@ class Objects(unittest.TestCase):
 
     def test_a_password_that_is_held_in_part(self) -> None:
         """A server's connection holds the first part of an init of PLAIN."""
-        client, server = ClientSteps.plain("user", PASSWORD), ServerSteps(records_of, mechanisms=Offer.PLAIN)
+        client, server = ClientBodies.plain("user", PASSWORD), ServerBodies(records_of, mechanisms=Offer.PLAIN)
         init = client.on_frame(server.offer())
         with ServerConnection(records_of, mechanisms=Offer.PLAIN) as side:
             side.receive(b"AMQP\3\1\0\0" + (len(init) + 4).to_bytes(4, "big") + init[:-1])
@@ -264,8 +261,8 @@ class Copies(unittest.TestCase):
         client.verify(server.final(client.final(server_first)))
         self.assertRaises(Wiped, server.first, record, client.first())
         self.assertRaises(Wiped, plain_verify, record, b"")
-        side = ServerSteps(lambda name: [record], mechanisms=Offer.SCRAM_SHA_256)
-        self.assertRaises(Wiped, side.on_frame, ClientSteps(client).on_frame(side.offer()))
+        side = ServerBodies(lambda name: [record], mechanisms=Offer.SCRAM_SHA_256)
+        self.assertRaises(Wiped, side.on_frame, ClientBodies(client).on_frame(side.offer()))
 
     def test_wiped_keys_of_a_client(self) -> None:
         keys = keys_of()
@@ -292,11 +289,11 @@ class Copies(unittest.TestCase):
         self.assertTrue(seen.has(SECRET.stored_key))
 
     def test_mechanisms_that_are_not_selected(self) -> None:
-        side = ClientSteps.select("user", PASSWORD, [*MECHANISMS.values(), "PLAIN"], prepared=True)
+        side = ClientBodies.select("user", PASSWORD, [*MECHANISMS.values(), "PLAIN"], prepared=True)
         allowed = [Memory(*_client_sides._secrets_of(login)) for login in side._allowed]
         self.assertEqual([memory.bytes().count(UTF8) for memory in allowed], [1] * 4)
         with Seen() as seen:
-            ClientSteps.select("user", PASSWORD, [*MECHANISMS.values(), "PLAIN"], prepared=True)
+            ClientBodies.select("user", PASSWORD, [*MECHANISMS.values(), "PLAIN"], prepared=True)
         self.assertTrue(seen.has(UTF8))
         self.assertEqual(seen.count(UTF8), 4)
         side.on_frame(mechanisms_frame("SCRAM-SHA-256")[4:])
@@ -351,16 +348,16 @@ class Calls(unittest.TestCase):
 
     def test_records_of_a_connection(self) -> None:
         with Seen() as seen:
-            side = ServerSteps(records_of, mechanisms=Offer.SCRAM_SHA_256)
-            side.on_frame(ClientSteps(Client(SHA_256, "user", "pencil")).on_frame(side.offer()))
+            side = ServerBodies(records_of, mechanisms=Offer.SCRAM_SHA_256)
+            side.on_frame(ClientBodies(Client(SHA_256, "user", "pencil")).on_frame(side.offer()))
         # Those that `_lending` copies, and those of the configuration.
         self.assertTrue(seen.has(SECRET.stored_key))
         self.assertEqual(seen.count(SECRET.stored_key), 2)
 
     def test_mock_records_of_a_connection(self) -> None:
         with Seen() as seen:
-            side = ServerSteps(lambda name: [], mechanisms=Offer.SCRAM_SHA_256, mock=MOCK)
-            side.on_frame(ClientSteps(Client(SHA_256, "user", "pencil")).on_frame(side.offer()))
+            side = ServerBodies(lambda name: [], mechanisms=Offer.SCRAM_SHA_256, mock=MOCK)
+            side.on_frame(ClientBodies(Client(SHA_256, "user", "pencil")).on_frame(side.offer()))
         stored_key = mac(SHA_256, MOCK, b"StoredKey:user")
         self.assertTrue(seen.has(stored_key))
         self.assertEqual(seen.count(stored_key), 2)
@@ -444,8 +441,8 @@ class Threads(unittest.TestCase):
             goes_on.wait(20)
             return [RECORD]
 
-        server = ServerSteps(slow, mechanisms=Offer.SCRAM_SHA_256)
-        init = ClientSteps(Client(SHA_256, "user", "pencil")).on_frame(server.offer())
+        server = ServerBodies(slow, mechanisms=Offer.SCRAM_SHA_256)
+        init = ClientBodies(Client(SHA_256, "user", "pencil")).on_frame(server.offer())
         with ThreadPoolExecutor() as pool:
             answer = pool.submit(server.on_frame, init)
             entered.wait(20)
@@ -469,8 +466,8 @@ class Threads(unittest.TestCase):
             server.wipe()
             return [RECORD]
 
-        server = ServerSteps(wiping, mechanisms=Offer.SCRAM_SHA_256)
-        init = ClientSteps(Client(SHA_256, "user", "pencil")).on_frame(server.offer())
+        server = ServerBodies(wiping, mechanisms=Offer.SCRAM_SHA_256)
+        init = ClientBodies(Client(SHA_256, "user", "pencil")).on_frame(server.offer())
         self.assertRaises(Wiped, server.on_frame, init)
 
     def test_a_record_that_is_wiped_meanwhile(self) -> None:

@@ -290,112 +290,17 @@ uint32_t fe2o3_scram_client_get_keys(const struct fe2o3_scram_client *client, st
     return answer;
 }
 
-uint32_t proved_fe2o3_scram_server_claimed_user(const uint8_t *client_first, size_t client_first_len, uint8_t *out,
-    size_t out_size, size_t *out_len);
-uint32_t fe2o3_scram_server_claimed_user(const uint8_t *client_first, size_t client_first_len, uint8_t *out,
-    size_t out_size, size_t *out_len)
-{
-    uint32_t answer;
-    BELOW_PAD(answer = proved_fe2o3_scram_server_claimed_user(BYTES(client_first, client_first_len), client_first_len,
-        BYTES(out, out_size), out_size, out_len));
-    clear_stack(depth_scram_server_claimed_user);
-    return answer;
-}
-
-uint32_t proved_fe2o3_scram_server_first(const struct fe2o3_scram_record *kept, struct fe2o3_scram_server *server,
-    const uint8_t nonce[32], const uint8_t *client_first, size_t client_first_len, uint8_t *out, size_t out_size,
-    size_t *out_len);
-uint32_t fe2o3_scram_server_first(const struct fe2o3_scram_record *kept, struct fe2o3_scram_server *server,
-    const uint8_t nonce[32], const uint8_t *client_first, size_t client_first_len, uint8_t *out, size_t out_size,
-    size_t *out_len)
-{
-    uint32_t answer;
-    BELOW_PAD(answer = proved_fe2o3_scram_server_first(kept, server, nonce, BYTES(client_first, client_first_len),
-        client_first_len, BYTES(out, out_size), out_size, out_len));
-    clear_stack(depth_scram_server_first);
-    return answer;
-}
-
-uint32_t proved_fe2o3_scram_server_first_with_cbind_flag_y(const struct fe2o3_scram_record *kept,
-    struct fe2o3_scram_server *server, const uint8_t nonce[32], const uint8_t *client_first, size_t client_first_len,
-    uint8_t *out, size_t out_size, size_t *out_len);
-uint32_t fe2o3_scram_server_first_with_cbind_flag_y(const struct fe2o3_scram_record *kept,
-    struct fe2o3_scram_server *server, const uint8_t nonce[32], const uint8_t *client_first, size_t client_first_len,
-    uint8_t *out, size_t out_size, size_t *out_len)
-{
-    uint32_t answer;
-    BELOW_PAD(answer = proved_fe2o3_scram_server_first_with_cbind_flag_y(kept, server, nonce,
-        BYTES(client_first, client_first_len), client_first_len, BYTES(out, out_size), out_size, out_len));
-    clear_stack(depth_scram_server_first_with_cbind_flag_y);
-    return answer;
-}
-
-uint32_t proved_fe2o3_scram_server_final(const struct fe2o3_scram_record *kept, struct fe2o3_scram_server *server,
-    const uint8_t *client_final, size_t client_final_len, uint8_t *out, size_t out_size, size_t *out_len);
-uint32_t fe2o3_scram_server_final(const struct fe2o3_scram_record *kept, struct fe2o3_scram_server *server,
-    const uint8_t *client_final, size_t client_final_len, uint8_t *out, size_t out_size, size_t *out_len)
-{
-    uint32_t answer;
-    BELOW_PAD(answer = proved_fe2o3_scram_server_final(kept, server, BYTES(client_final, client_final_len),
-        client_final_len, BYTES(out, out_size), out_size, out_len));
-    clear_stack(depth_scram_server_final);
-    return answer;
-}
-
-uint32_t proved_fe2o3_scram_server_claimed_user_with_rules(const struct fe2o3_scram_rules *rules,
-    const uint8_t *client_first, size_t client_first_len, uint8_t *out, size_t out_size, size_t *out_len);
-uint32_t fe2o3_scram_server_claimed_user_with_rules(const struct fe2o3_scram_rules *rules, const uint8_t *client_first,
+uint32_t proved_fe2o3_scram_server_claimed_user(const struct fe2o3_scram_rules *rules, const uint8_t *client_first,
+    size_t client_first_len, uint8_t *out, size_t out_size, size_t *out_len);
+uint32_t fe2o3_scram_server_claimed_user(const struct fe2o3_scram_rules *rules, const uint8_t *client_first,
     size_t client_first_len, uint8_t *out, size_t out_size, size_t *out_len)
 {
     uint32_t answer;
     struct fe2o3_scram_rules own_rules = lent_scram_rules(rules);
-    BELOW_PAD(answer = proved_fe2o3_scram_server_claimed_user_with_rules(&own_rules,
-        BYTES(client_first, client_first_len), client_first_len, BYTES(out, out_size), out_size, out_len));
+    BELOW_PAD(answer = proved_fe2o3_scram_server_claimed_user(&own_rules, BYTES(client_first, client_first_len),
+        client_first_len, BYTES(out, out_size), out_size, out_len));
     fe2o3_wipe(&own_rules, sizeof own_rules);
-    clear_stack(depth_scram_server_claimed_user_with_rules);
-    return answer;
-}
-
-uint32_t proved_fe2o3_scram_server_first_with_rules(const struct fe2o3_scram_rules *rules,
-    const struct fe2o3_scram_record *kept, struct fe2o3_scram_server *server, const uint8_t nonce[32],
-    const uint8_t *client_first, size_t client_first_len, uint8_t *out, size_t out_size, size_t *out_len);
-uint32_t fe2o3_scram_server_first_with_rules(const struct fe2o3_scram_rules *rules,
-    const struct fe2o3_scram_record *kept, struct fe2o3_scram_server *server, const uint8_t nonce[32],
-    const uint8_t *client_first, size_t client_first_len, uint8_t *out, size_t out_size, size_t *out_len)
-{
-    uint32_t answer;
-    struct fe2o3_scram_rules own_rules = lent_scram_rules(rules);
-    BELOW_PAD(answer = proved_fe2o3_scram_server_first_with_rules(&own_rules, kept, server, nonce,
-        BYTES(client_first, client_first_len), client_first_len, BYTES(out, out_size), out_size, out_len));
-    fe2o3_wipe(&own_rules, sizeof own_rules);
-    clear_stack(depth_scram_server_first_with_rules);
-    return answer;
-}
-
-uint32_t proved_fe2o3_scram_server_final_with_rules(const struct fe2o3_scram_rules *rules,
-    const struct fe2o3_scram_record *kept, struct fe2o3_scram_server *server, const uint8_t *client_final,
-    size_t client_final_len, uint8_t *out, size_t out_size, size_t *out_len);
-uint32_t fe2o3_scram_server_final_with_rules(const struct fe2o3_scram_rules *rules,
-    const struct fe2o3_scram_record *kept, struct fe2o3_scram_server *server, const uint8_t *client_final,
-    size_t client_final_len, uint8_t *out, size_t out_size, size_t *out_len)
-{
-    uint32_t answer;
-    struct fe2o3_scram_rules own_rules = lent_scram_rules(rules);
-    BELOW_PAD(answer = proved_fe2o3_scram_server_final_with_rules(&own_rules, kept, server,
-        BYTES(client_final, client_final_len), client_final_len, BYTES(out, out_size), out_size, out_len));
-    fe2o3_wipe(&own_rules, sizeof own_rules);
-    clear_stack(depth_scram_server_final_with_rules);
-    return answer;
-}
-
-uint32_t proved_fe2o3_scram_server_authenticated_user(const struct fe2o3_scram_server *server, uint8_t *out,
-    size_t out_size, size_t *out_len);
-uint32_t fe2o3_scram_server_authenticated_user(const struct fe2o3_scram_server *server, uint8_t *out, size_t out_size,
-    size_t *out_len)
-{
-    uint32_t answer;
-    BELOW_PAD(answer = proved_fe2o3_scram_server_authenticated_user(server, BYTES(out, out_size), out_size, out_len));
-    clear_stack(depth_scram_server_authenticated_user);
+    clear_stack(depth_scram_server_claimed_user);
     return answer;
 }
 
@@ -410,6 +315,49 @@ uint32_t fe2o3_scram_server_claimed_identity(const struct fe2o3_scram_rules *rul
         client_first_len, BYTES(out, out_size), out_size, out_len));
     fe2o3_wipe(&own_rules, sizeof own_rules);
     clear_stack(depth_scram_server_claimed_identity);
+    return answer;
+}
+
+uint32_t proved_fe2o3_scram_server_first(const struct fe2o3_scram_rules *rules, const struct fe2o3_scram_record *kept,
+    struct fe2o3_scram_server *server, const uint8_t nonce[32], const uint8_t *client_first, size_t client_first_len,
+    uint8_t *out, size_t out_size, size_t *out_len);
+uint32_t fe2o3_scram_server_first(const struct fe2o3_scram_rules *rules, const struct fe2o3_scram_record *kept,
+    struct fe2o3_scram_server *server, const uint8_t nonce[32], const uint8_t *client_first, size_t client_first_len,
+    uint8_t *out, size_t out_size, size_t *out_len)
+{
+    uint32_t answer;
+    struct fe2o3_scram_rules own_rules = lent_scram_rules(rules);
+    BELOW_PAD(answer = proved_fe2o3_scram_server_first(&own_rules, kept, server, nonce,
+        BYTES(client_first, client_first_len), client_first_len, BYTES(out, out_size), out_size, out_len));
+    fe2o3_wipe(&own_rules, sizeof own_rules);
+    clear_stack(depth_scram_server_first);
+    return answer;
+}
+
+uint32_t proved_fe2o3_scram_server_final(const struct fe2o3_scram_rules *rules, const struct fe2o3_scram_record *kept,
+    struct fe2o3_scram_server *server, const uint8_t *client_final, size_t client_final_len, uint8_t *out,
+    size_t out_size, size_t *out_len);
+uint32_t fe2o3_scram_server_final(const struct fe2o3_scram_rules *rules, const struct fe2o3_scram_record *kept,
+    struct fe2o3_scram_server *server, const uint8_t *client_final, size_t client_final_len, uint8_t *out,
+    size_t out_size, size_t *out_len)
+{
+    uint32_t answer;
+    struct fe2o3_scram_rules own_rules = lent_scram_rules(rules);
+    BELOW_PAD(answer = proved_fe2o3_scram_server_final(&own_rules, kept, server, BYTES(client_final, client_final_len),
+        client_final_len, BYTES(out, out_size), out_size, out_len));
+    fe2o3_wipe(&own_rules, sizeof own_rules);
+    clear_stack(depth_scram_server_final);
+    return answer;
+}
+
+uint32_t proved_fe2o3_scram_server_authenticated_user(const struct fe2o3_scram_server *server, uint8_t *out,
+    size_t out_size, size_t *out_len);
+uint32_t fe2o3_scram_server_authenticated_user(const struct fe2o3_scram_server *server, uint8_t *out, size_t out_size,
+    size_t *out_len)
+{
+    uint32_t answer;
+    BELOW_PAD(answer = proved_fe2o3_scram_server_authenticated_user(server, BYTES(out, out_size), out_size, out_len));
+    clear_stack(depth_scram_server_authenticated_user);
     return answer;
 }
 
@@ -593,63 +541,6 @@ void fe2o3_sasl_end_of_input(struct fe2o3_connection *connection)
 {
     BELOW_PAD(proved_fe2o3_sasl_end_of_input(connection));
     clear_stack(depth_sasl_end_of_input);
-}
-
-uint32_t proved_fe2o3_sasl_client_step(const struct fe2o3_sasl_login *login, struct fe2o3_scram_client *client,
-    const uint8_t *body, size_t body_len, const uint8_t nonce[32], uint32_t *progress, uint8_t *out, size_t out_size,
-    size_t *out_len);
-uint32_t fe2o3_sasl_client_step(const struct fe2o3_sasl_login *login, struct fe2o3_scram_client *client,
-    const uint8_t *body, size_t body_len, const uint8_t nonce[32], uint32_t *progress, uint8_t *out, size_t out_size,
-    size_t *out_len)
-{
-    uint32_t answer;
-    struct fe2o3_sasl_login own_login = lent_sasl_login(login);
-    BELOW_PAD(answer = proved_fe2o3_sasl_client_step(&own_login, client, BYTES(body, body_len), body_len, nonce,
-        progress, BYTES(out, out_size), out_size, out_len));
-    fe2o3_wipe(&own_login, sizeof own_login);
-    clear_stack(depth_sasl_client_step);
-    return answer;
-}
-
-uint32_t proved_fe2o3_sasl_server_offer(const struct fe2o3_sasl_server_config *config, uint8_t *out, size_t out_size,
-    size_t *out_len);
-uint32_t fe2o3_sasl_server_offer(const struct fe2o3_sasl_server_config *config, uint8_t *out, size_t out_size,
-    size_t *out_len)
-{
-    uint32_t answer;
-    struct fe2o3_sasl_server_config own_config = lent_sasl_server_config(config);
-    BELOW_PAD(answer = proved_fe2o3_sasl_server_offer(&own_config, BYTES(out, out_size), out_size, out_len));
-    fe2o3_wipe(&own_config, sizeof own_config);
-    clear_stack(depth_sasl_server_offer);
-    return answer;
-}
-
-uint32_t proved_fe2o3_sasl_server_step_claimed_user(const struct fe2o3_scram_server *server, const uint8_t *body,
-    size_t body_len, uint8_t *out, size_t out_size, size_t *out_len);
-uint32_t fe2o3_sasl_server_step_claimed_user(const struct fe2o3_scram_server *server, const uint8_t *body,
-    size_t body_len, uint8_t *out, size_t out_size, size_t *out_len)
-{
-    uint32_t answer;
-    BELOW_PAD(answer = proved_fe2o3_sasl_server_step_claimed_user(server, BYTES(body, body_len), body_len,
-        BYTES(out, out_size), out_size, out_len));
-    clear_stack(depth_sasl_server_step_claimed_user);
-    return answer;
-}
-
-uint32_t proved_fe2o3_sasl_server_step(const struct fe2o3_sasl_server_config *config, struct fe2o3_scram_server *server,
-    const uint8_t *body, size_t body_len, const uint8_t nonce[32], uint32_t *progress, uint8_t *out, size_t out_size,
-    size_t *out_len);
-uint32_t fe2o3_sasl_server_step(const struct fe2o3_sasl_server_config *config, struct fe2o3_scram_server *server,
-    const uint8_t *body, size_t body_len, const uint8_t nonce[32], uint32_t *progress, uint8_t *out, size_t out_size,
-    size_t *out_len)
-{
-    uint32_t answer;
-    struct fe2o3_sasl_server_config own_config = lent_sasl_server_config(config);
-    BELOW_PAD(answer = proved_fe2o3_sasl_server_step(&own_config, server, BYTES(body, body_len), body_len, nonce,
-        progress, BYTES(out, out_size), out_size, out_len));
-    fe2o3_wipe(&own_config, sizeof own_config);
-    clear_stack(depth_sasl_server_step);
-    return answer;
 }
 
 uint32_t proved_fe2o3_sasl_view_frame(const uint8_t *body, size_t body_len, struct fe2o3_sasl_frame_view *view);

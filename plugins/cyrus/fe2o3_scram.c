@@ -458,8 +458,7 @@ static uint32_t read_names(struct exchange *one, const struct fe2o3_scram_rules 
 {
     uint8_t identity[sizeof one->server.acts_for];
     size_t identity_len = 0;
-    uint32_t status =
-        fe2o3_scram_server_claimed_user_with_rules(rules, BYTES(in, in_len), name, sizeof one->server.user, len);
+    uint32_t status = fe2o3_scram_server_claimed_user(rules, BYTES(in, in_len), name, sizeof one->server.user, len);
     if (status == FE2O3_OK)
         status =
             fe2o3_scram_server_claimed_identity(rules, BYTES(in, in_len), identity, sizeof identity, &identity_len);
@@ -497,8 +496,7 @@ static int server_first(struct exchange *one, sasl_server_params_t *params, cons
         code = refused(one, utils, SASL_FAIL, "there are no random bytes");
     if (code != SASL_OK)
         return code;
-    status =
-        fe2o3_scram_server_first_with_rules(&rules, &one->record, &one->server, nonce, BYTES(in, in_len), ROOM(one));
+    status = fe2o3_scram_server_first(&rules, &one->record, &one->server, nonce, BYTES(in, in_len), ROOM(one));
     return told(one, utils, status);
 }
 
@@ -518,7 +516,7 @@ static int server_final(struct exchange *one, const sasl_server_params_t *params
     rules.identities = identity;
     rules.identities_len = len > 0 ? len + 1 : 0;
     code = told(one, params->utils,
-        fe2o3_scram_server_final_with_rules(&rules, &one->record, &one->server, BYTES(in, in_len), ROOM(one)));
+        fe2o3_scram_server_final(&rules, &one->record, &one->server, BYTES(in, in_len), ROOM(one)));
     if (code == SASL_OK && one->acts)
         code = params->canon_user(params->utils->conn, (const char *)identity, len, SASL_CU_AUTHZID, result);
     return code;

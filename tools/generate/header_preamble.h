@@ -158,7 +158,8 @@ enum fe2o3_offer {
     FE2O3_OFFER_ANONYMOUS = 16,
     /* EXTERNAL, if `external_authcid` is not empty. */
     FE2O3_OFFER_EXTERNAL = 32,
-    /* No mechanism: SCRAM also accepts the GS2 header `y,,`, like fe2o3_scram_server_first_with_cbind_flag_y. */
+    /* No mechanism: SCRAM also accepts the GS2 header `y,,`: see the field `accept_cbind_flag_y` of struct
+     * fe2o3_scram_rules. */
     FE2O3_ACCEPT_CBIND_FLAG_Y = 64,
     /* No mechanism: PLAIN tests the password as received, also a non-ASCII one. Clients prepare their passwords. */
     FE2O3_PLAIN_PREPARED = 128,
@@ -232,10 +233,10 @@ enum fe2o3_scram_server_state {
     /* A challenge is open, to a client whose GS2 header is `y,,`. */
     FE2O3_SCRAM_SERVER_CHALLENGE_OPEN_CBIND_FLAG_Y = 3,
     /* The server's signature was sent to the user in a challenge. The user is authenticated once the client has answered
-     * it. Only on a connection, and for steps over frame bodies. */
+     * it. Only on a connection. */
     FE2O3_SCRAM_SERVER_SIGNATURE_SENT = 4,
     /* An empty challenge was sent for an init without an initial response. `first` is the name of the mechanism, and
-     * `nonce` the 32 bytes of the init's nonce. Only on a connection, and for steps over frame bodies. */
+     * `nonce` the 32 bytes of the init's nonce. Only on a connection. */
     FE2O3_SCRAM_SERVER_INITIAL_RESPONSE_ASKED = 5,
     /* A challenge is open, to a client that binds the channel by `tls-unique`. */
     FE2O3_SCRAM_SERVER_CHALLENGE_OPEN_TLS_UNIQUE = 7,

@@ -34,6 +34,7 @@ static void fill(uint8_t *bytes, size_t len)
 
 int main(void)
 {
+    struct fe2o3_scram_rules no_rules = FE2O3_SCRAM_RULES_INIT;
     struct fe2o3_login login = {.version = FE2O3_SHA_256,
         .min_iterations = 4096,
         .max_iterations = 100000,
@@ -51,9 +52,10 @@ int main(void)
     check("record",
         fe2o3_scram_record_make(FE2O3_SHA_256, FE2O3_TYPED, TEXT("pencil"), salt, sizeof salt, 4096, &record));
     check("client-first", fe2o3_scram_client_first(&login, &client, client_nonce, ROOM(first)));
-    check("server-first", fe2o3_scram_server_first(&record, &server, server_nonce, GIVEN(first), ROOM(challenge)));
+    check("server-first",
+        fe2o3_scram_server_first(&no_rules, &record, &server, server_nonce, GIVEN(first), ROOM(challenge)));
     check("client-final", fe2o3_scram_client_final(&login, &client, GIVEN(challenge), ROOM(response)));
-    check("server-final", fe2o3_scram_server_final(&record, &server, GIVEN(response), ROOM(outcome)));
+    check("server-final", fe2o3_scram_server_final(&no_rules, &record, &server, GIVEN(response), ROOM(outcome)));
     check("verify", fe2o3_scram_client_verify(&login, &client, GIVEN(outcome)));
     check("user", fe2o3_scram_server_authenticated_user(&server, ROOM(user)));
     printf("SCRAM-SHA-256: %.*s is logged in, and the server is authenticated\n", (int)user.len,

@@ -1,6 +1,6 @@
 """SCRAM (RFC 5802, RFC 7677), and the SASL layer of AMQP 1.0, by the library of `fe2o3_sasl.h`, called by `ctypes`.
 
-The package loads the library that the environment variable FE2O3_SASL_LIB names, otherwise the file `libfe2o3_sasl.so.2`
+The package loads the library that the environment variable FE2O3_SASL_LIB names, otherwise the file `libfe2o3_sasl.so.3`
 of its own folder, otherwise that of the system. Importing it fails if the structs of the library have other sizes than those
 here.
 
@@ -80,15 +80,8 @@ A client that selects the first of its allowed mechanisms that the server offers
 
 With `channel=channel` it prefers the mechanisms with `-PLUS` of these hashes.
 
-A login over frame bodies, each from the data offset on, for programs that read and write frames themselves:
-
-    side = ClientSteps(client, hostname="broker.example")
-    for _ in range(3):                  # the mechanisms, a challenge, and the outcome
-        answer = side.on_frame(receive_body())
-        if side.progress != Progress.IN_PROGRESS:
-            break
-        send_body(answer)
-    # complete if side.progress is Progress.AUTHENTICATED; otherwise side.why says why not
+A program that reads frames itself passes `receive` the header of eight bytes first, and then each frame with its four
+bytes of size.
 
 A program with asyncio logs in by `fe2o3_sasl.asyncio` (`from fe2o3_sasl.asyncio import log_in, serve`).
 
@@ -126,7 +119,7 @@ from __future__ import annotations
 
 from ._channels import Channel
 from ._client import Client
-from ._client_sides import ClientConnection, ClientSteps
+from ._client_sides import ClientConnection
 from ._errors import (
     AuthenticationFailed,
     ChannelBindingError,
@@ -178,7 +171,7 @@ from ._numbers import (
 )
 from ._records import MockSettings, Record
 from ._server import Server
-from ._server_sides import LoginAttempt, ServerConnection, ServerSteps
+from ._server_sides import LoginAttempt, ServerConnection
 from ._stores import RecordStore
 
 #: The version of the package. `library_version` returns that of the loaded library.
@@ -197,7 +190,6 @@ __all__ = [
     "ChannelKind",
     "Client",
     "ClientConnection",
-    "ClientSteps",
     "CredentialsRejected",
     "EndOfInput",
     "Frame",
@@ -224,7 +216,6 @@ __all__ = [
     "ServerConnection",
     "ServerError",
     "ServerNotAuthenticated",
-    "ServerSteps",
     "StaleKeys",
     "Status",
     "TemporarilyRejected",

@@ -89,7 +89,7 @@ class Client(_Guarded):
         """A client that has sent nothing. It rejects an iteration count below the minimum, with which a server could
         guess the password sooner (RFC 7677 requires at least 4096), and one above the maximum, which costs time.
 
-        With `signature_by_challenge`, `ClientConnection` and `ClientSteps` also accept the server's signature in a
+        With `signature_by_challenge`, a `ClientConnection` also accepts the server's signature in a
         challenge, before an outcome without data (RFC 4422, section 5).
 
         The client binds `channel`, by the mechanism with `-PLUS` (`mechanism`). If the server did not offer that one,
@@ -106,7 +106,7 @@ class Client(_Guarded):
         The client acts for the identity `acts_for` (RFC 4422, section 2), without escapes, or for itself if that is None
         or empty. The server has to let the user act for it. The GS2 header is then `n,a=` with the identity, and the
         client tests the extensions in any case. An identity of more than 256 bytes or with NUL raises `Refused`, with
-        TOO_LONG or PROHIBITED_CHARACTER. A `ClientConnection` or `ClientSteps` of the client acts for the identity
+        TOO_LONG or PROHIBITED_CHARACTER. A `ClientConnection` of the client acts for the identity
         too."""
         if password is None and keys is None:
             raise ValueError("a login takes a password, keys, or both")

@@ -1,4 +1,4 @@
-"""The client's side of a connection, over bytes and over frame bodies."""
+"""The client's side of a connection."""
 
 from __future__ import annotations
 
@@ -27,10 +27,10 @@ from ._native import (
 )
 from ._numbers import Progress, SHA_256, Status, _Mechanism
 from ._objects import _Guard
-from ._progress import _Connection, _Login, _Steps
-from ._structs import _SaslClientStruct, _SaslLoginStruct, _ScramClientStruct, _ScramKeysStruct
+from ._progress import _Connection
+from ._structs import _SaslClientStruct, _SaslLoginStruct, _ScramKeysStruct
 
-_Side = TypeVar("_Side", bound="_ClientSide")
+_Side = TypeVar("_Side", bound="ClientConnection")
 _ClientLogin = tuple[_SaslLoginStruct, _OwnLogin]
 
 
@@ -65,8 +65,9 @@ def _secrets_of(login: _ClientLogin) -> tuple[Any, ...]:
 _OTHERS = {"EXTERNAL": _Mechanism.EXTERNAL_AS, "PLAIN": _Mechanism.PLAIN, "ANONYMOUS": _Mechanism.ANONYMOUS}
 
 
-class _ClientSide(_Login):
-    """A client's login, and its mechanism."""
+class ClientConnection(_Connection):
+    """The client's side of one AMQP 1.0 connection, from its first byte to the end of the login. It does no I/O: you
+    pass in received bytes, in pieces of any size, and send the bytes it returns."""
 
     __slots__ = ("_allowed", "_login", "_refusal_data", "_struct")
 
@@ -78,7 +79,7 @@ class _ClientSide(_Login):
             self._begin(self._login_of(_Mechanism.SCRAM, client._login, hostname))
 
     def _begin(self, login: _ClientLogin, allowed: Iterable[_ClientLogin] = ()) -> None:
-        self._login, self._struct = login, self._fresh()
+        self._login, self._struct = login, _SaslClientStruct()
         # The logins among which the list of mechanisms selects; none once it has, or where there is one mechanism.
         self._allowed = list(allowed)
         self._refusal_data: Optional[bytes] = None
@@ -93,12 +94,6 @@ class _ClientSide(_Login):
     def _secrets(self) -> Iterable[Any]:
         logins = [self._login, *self._allowed]
         return [self._struct, *(secret for login in logins for secret in _secrets_of(login))]
-
-    def _fresh(self) -> Any:
-        raise NotImplementedError
-
-    def _scram(self) -> Any:
-        raise NotImplementedError
 
     @classmethod
     def _by(
@@ -248,33 +243,6 @@ class _ClientSide(_Login):
         challenge by it."""
         return cls._by(_Mechanism.EXTERNAL_AS, identity, "", hostname)
 
-    def keys(self) -> Keys:
-        """Returns the keys of a login by SCRAM, like `Client.keys`."""
-        struct = _ScramKeysStruct()
-        with self._lock:
-            _done(_library.fe2o3_scram_client_get_keys(ctypes.byref(self._scram()), ctypes.byref(struct)))
-        return Keys._of(struct)
-
-
-def _name_of(login: _SaslLoginStruct) -> bytes:
-    """Returns the name of the mechanism of a login."""
-    if login.mechanism == _Mechanism.SCRAM:
-        return _scram_name(login.login).encode("ascii")
-    return _Mechanism(login.mechanism).name.removesuffix("_AS").encode("ascii")
-
-
-class ClientConnection(_Connection, _ClientSide):
-    """The client's side of one AMQP 1.0 connection, from its first byte to the end of the login. It does no I/O: you
-    pass in received bytes, in pieces of any size, and send the bytes it returns."""
-
-    __slots__ = ()
-
-    def _fresh(self) -> _SaslClientStruct:
-        return _SaslClientStruct()
-
-    def _scram(self) -> Any:
-        return self._struct.scram
-
     @staticmethod
     def open() -> bytes:
         """Returns the SASL protocol header, which a client sends first."""
@@ -301,39 +269,16 @@ class ClientConnection(_Connection, _ClientSide):
                 self._notice(body)
         return b"".join(answers), rest
 
-
-class ClientSteps(_Steps, _ClientSide):
-    """The client's side of one login over frame bodies, each from the data offset on, without the four bytes of the
-    frame's size.
-
-    A login takes three bodies of the server: its mechanisms, for SCRAM a challenge, and the outcome. A signature in a
-    challenge takes one more (`signature_by_challenge`). If you pass more of them, the server can make the client hash
-    again and again."""
-
-    __slots__ = ("_progress",)
-
-    def _fresh(self) -> _ScramClientStruct:
-        self._progress = 0
-        return _ScramClientStruct()
-
-    def _scram(self) -> Any:
-        return self._struct
-
-    def on_frame(self, body: Bytes) -> bytes:
-        """Takes a received body, and returns the body to send: the init for the mechanisms, the response for a
-        challenge, and nothing for an outcome. Then `progress` says how far the login is. If it raises, other than
-        `OutOfMemory`, close the connection.
-
-        PLAIN, ANONYMOUS and EXTERNAL accept any outcome Ok, even one that comes first. SCRAM accepts only an outcome
-        that authenticates the server (RFC 5802, section 5)."""
-        came, nonce = _bytes(body), secrets.token_bytes(32)
+    def keys(self) -> Keys:
+        """Returns the keys of a login by SCRAM, like `Client.keys`."""
+        struct = _ScramKeysStruct()
         with self._lock:
-            self._goes_on()
-            self._select(came)
-            answer, self._progress = self._stepped(
-                lambda *room: _library.fe2o3_sasl_client_step(
-                    self._login[0], self._struct, came, len(came), nonce, *room
-                )
-            )
-            self._notice(came)
-            return answer
+            _done(_library.fe2o3_scram_client_get_keys(ctypes.byref(self._struct.scram), ctypes.byref(struct)))
+        return Keys._of(struct)
+
+
+def _name_of(login: _SaslLoginStruct) -> bytes:
+    """Returns the name of the mechanism of a login."""
+    if login.mechanism == _Mechanism.SCRAM:
+        return _scram_name(login.login).encode("ascii")
+    return _Mechanism(login.mechanism).name.removesuffix("_AS").encode("ascii")

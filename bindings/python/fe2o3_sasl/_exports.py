@@ -224,6 +224,18 @@ _EXPORTS: dict[str, tuple[Any, list[Any]]] = {
     "fe2o3_scram_server_claimed_user": (
         ctypes.c_uint32,
         [
+            ctypes.POINTER(_ScramRulesStruct),
+            ctypes.c_char_p,
+            ctypes.c_size_t,
+            ctypes.c_void_p,
+            ctypes.c_size_t,
+            ctypes.POINTER(ctypes.c_size_t),
+        ],
+    ),
+    "fe2o3_scram_server_claimed_identity": (
+        ctypes.c_uint32,
+        [
+            ctypes.POINTER(_ScramRulesStruct),
             ctypes.c_char_p,
             ctypes.c_size_t,
             ctypes.c_void_p,
@@ -234,19 +246,7 @@ _EXPORTS: dict[str, tuple[Any, list[Any]]] = {
     "fe2o3_scram_server_first": (
         ctypes.c_uint32,
         [
-            ctypes.POINTER(_ScramRecordStruct),
-            ctypes.POINTER(_ScramServerStruct),
-            ctypes.c_char_p,
-            ctypes.c_char_p,
-            ctypes.c_size_t,
-            ctypes.c_void_p,
-            ctypes.c_size_t,
-            ctypes.POINTER(ctypes.c_size_t),
-        ],
-    ),
-    "fe2o3_scram_server_first_with_cbind_flag_y": (
-        ctypes.c_uint32,
-        [
+            ctypes.POINTER(_ScramRulesStruct),
             ctypes.POINTER(_ScramRecordStruct),
             ctypes.POINTER(_ScramServerStruct),
             ctypes.c_char_p,
@@ -258,43 +258,6 @@ _EXPORTS: dict[str, tuple[Any, list[Any]]] = {
         ],
     ),
     "fe2o3_scram_server_final": (
-        ctypes.c_uint32,
-        [
-            ctypes.POINTER(_ScramRecordStruct),
-            ctypes.POINTER(_ScramServerStruct),
-            ctypes.c_char_p,
-            ctypes.c_size_t,
-            ctypes.c_void_p,
-            ctypes.c_size_t,
-            ctypes.POINTER(ctypes.c_size_t),
-        ],
-    ),
-    "fe2o3_scram_server_claimed_user_with_rules": (
-        ctypes.c_uint32,
-        [
-            ctypes.POINTER(_ScramRulesStruct),
-            ctypes.c_char_p,
-            ctypes.c_size_t,
-            ctypes.c_void_p,
-            ctypes.c_size_t,
-            ctypes.POINTER(ctypes.c_size_t),
-        ],
-    ),
-    "fe2o3_scram_server_first_with_rules": (
-        ctypes.c_uint32,
-        [
-            ctypes.POINTER(_ScramRulesStruct),
-            ctypes.POINTER(_ScramRecordStruct),
-            ctypes.POINTER(_ScramServerStruct),
-            ctypes.c_char_p,
-            ctypes.c_char_p,
-            ctypes.c_size_t,
-            ctypes.c_void_p,
-            ctypes.c_size_t,
-            ctypes.POINTER(ctypes.c_size_t),
-        ],
-    ),
-    "fe2o3_scram_server_final_with_rules": (
         ctypes.c_uint32,
         [
             ctypes.POINTER(_ScramRulesStruct),
@@ -311,17 +274,6 @@ _EXPORTS: dict[str, tuple[Any, list[Any]]] = {
         ctypes.c_uint32,
         [
             ctypes.POINTER(_ScramServerStruct),
-            ctypes.c_void_p,
-            ctypes.c_size_t,
-            ctypes.POINTER(ctypes.c_size_t),
-        ],
-    ),
-    "fe2o3_scram_server_claimed_identity": (
-        ctypes.c_uint32,
-        [
-            ctypes.POINTER(_ScramRulesStruct),
-            ctypes.c_char_p,
-            ctypes.c_size_t,
             ctypes.c_void_p,
             ctypes.c_size_t,
             ctypes.POINTER(ctypes.c_size_t),
@@ -449,54 +401,6 @@ _EXPORTS: dict[str, tuple[Any, list[Any]]] = {
         ],
     ),
     "fe2o3_sasl_end_of_input": (None, [ctypes.POINTER(_ConnectionStruct)]),
-    "fe2o3_sasl_client_step": (
-        ctypes.c_uint32,
-        [
-            ctypes.POINTER(_SaslLoginStruct),
-            ctypes.POINTER(_ScramClientStruct),
-            ctypes.c_char_p,
-            ctypes.c_size_t,
-            ctypes.c_char_p,
-            ctypes.POINTER(ctypes.c_uint32),
-            ctypes.c_void_p,
-            ctypes.c_size_t,
-            ctypes.POINTER(ctypes.c_size_t),
-        ],
-    ),
-    "fe2o3_sasl_server_offer": (
-        ctypes.c_uint32,
-        [
-            ctypes.POINTER(_SaslServerConfigStruct),
-            ctypes.c_void_p,
-            ctypes.c_size_t,
-            ctypes.POINTER(ctypes.c_size_t),
-        ],
-    ),
-    "fe2o3_sasl_server_step_claimed_user": (
-        ctypes.c_uint32,
-        [
-            ctypes.POINTER(_ScramServerStruct),
-            ctypes.c_char_p,
-            ctypes.c_size_t,
-            ctypes.c_void_p,
-            ctypes.c_size_t,
-            ctypes.POINTER(ctypes.c_size_t),
-        ],
-    ),
-    "fe2o3_sasl_server_step": (
-        ctypes.c_uint32,
-        [
-            ctypes.POINTER(_SaslServerConfigStruct),
-            ctypes.POINTER(_ScramServerStruct),
-            ctypes.c_char_p,
-            ctypes.c_size_t,
-            ctypes.c_char_p,
-            ctypes.POINTER(ctypes.c_uint32),
-            ctypes.c_void_p,
-            ctypes.c_size_t,
-            ctypes.POINTER(ctypes.c_size_t),
-        ],
-    ),
     "fe2o3_sasl_view_frame": (
         ctypes.c_uint32,
         [

@@ -19,7 +19,7 @@ Text = Union[str, bytes, bytearray, memoryview]
 Bytes = Union[bytes, bytearray, memoryview]
 
 #: The file of the library.
-_FILE = "libfe2o3_sasl.so.2"
+_FILE = "libfe2o3_sasl.so.3"
 #: The hashes, with the lengths of their digests in bytes.
 _DIGEST_LENGTHS = {SHA_1: 20, SHA_256: 32, SHA_512: 64}
 #: The longest identity that a client can act for, in bytes.

@@ -3,24 +3,24 @@
 from __future__ import annotations
 
 import ctypes
-from typing import Any, Callable, Optional
+from typing import Any, Optional
 
 from ._errors import Refused
 from ._frames import Frame, view_frame
-from ._native import Bytes, _bytes, _done, _library, _refusal, _written
+from ._native import Bytes, _bytes, _library, _refusal, _written
 from ._numbers import Progress, Status
 from ._objects import _Guarded
 
 
-class _Login(_Guarded):
-    """The progress of a login, on either side."""
+class _Connection(_Guarded):
+    """A login over the bytes of a connection, whose struct says how far it is, on either side."""
 
     __slots__ = ()
     _struct: Any
 
     def _ends(self) -> tuple[int, int]:
-        """How far the login is, and the status of why it failed."""
-        raise NotImplementedError
+        connection = self._struct.connection
+        return int(connection.progress), int(connection.why)
 
     @property
     def progress(self) -> int:
@@ -41,16 +41,6 @@ class _Login(_Guarded):
 
     def _shown(self) -> str:
         return f"progress={self._ends()[0]}"
-
-
-class _Connection(_Login):
-    """A login over the bytes of a connection, whose struct says how far it is."""
-
-    __slots__ = ()
-
-    def _ends(self) -> tuple[int, int]:
-        connection = self._struct.connection
-        return int(connection.progress), int(connection.why)
 
     def accept_extended_headers(self, accept: bool = True) -> None:
         """Sets whether this side accepts frames with an extended header, which a new connection does not. It then reads
@@ -93,26 +83,3 @@ class _Connection(_Login):
         """Returns the body of the frame that received bytes complete, which is empty if they complete none."""
         connection = ctypes.byref(self._struct.connection)
         return _written(508, lambda *room: _library.fe2o3_sasl_peek_frame(connection, data, len(data), *room))
-
-
-class _Steps(_Login):
-    """A login over frame bodies. The number of the last step says how far it is."""
-
-    __slots__ = ()
-    _progress: int
-
-    def _ends(self) -> tuple[int, int]:
-        return min(self._progress, int(Progress.FAILED)), self._progress
-
-    def _goes_on(self) -> None:
-        if self.progress != Progress.IN_PROGRESS:
-            _done(Status.ENDED)
-
-    @staticmethod
-    def _stepped(call: Callable[..., int]) -> tuple[bytes, int]:
-        """Returns the body that a step writes, and its number. `call` receives where the number goes, and what
-        `_written` passes."""
-        number = ctypes.c_uint32()
-        # 508 bytes are those of a frame of 512 without its size (AMQP 1.0, part 5, section 5.3.1).
-        answer = _written(508, lambda *room: call(ctypes.byref(number), *room))
-        return answer, number.value

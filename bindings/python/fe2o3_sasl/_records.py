@@ -109,7 +109,7 @@ class Record(_Stored):
         """Computes a mock record for a name without a record of this hash, so that the server answers it like one with a
         record. The login then fails at its proof. The secret is 32 or more random bytes, one value for all names, kept
         as long as the records. The salt length, at most 64, and the iteration count are those of the other records.
-        `ServerConnection` and `ServerSteps` make mock records themselves (`mock`), as does `RecordStore.record`."""
+        `ServerConnection` makes mock records itself (`mock`), as does `RecordStore.record`."""
         settings = _Mock((secret, salt_len, iterations))
         try:
             return cls._of(settings.record(_number(version), _text(username)))

@@ -69,7 +69,7 @@ class _ClaimedUser:
         """Returns the user name that a client-first message claims, without escapes. Nobody is authenticated yet: use
         it only to look up the record. Called on a server, it applies the rules of that server, such as its channels.
         Called on the class, it accepts the GS2 headers `n,,` and `y,,`."""
-        message, call, rules = _bytes(client_first), _library.fe2o3_scram_server_claimed_user_with_rules, rules_of()
+        message, call, rules = _bytes(client_first), _library.fe2o3_scram_server_claimed_user, rules_of()
         name = _written(256, lambda *room: call(rules, message, len(message), *room))
         return name.decode("utf-8")
 
@@ -128,7 +128,7 @@ class Server(_Guarded):
         the claimed user (`claimed_user`), or a mock record (`RecordStore.record`). With `accept_cbind_flag_y` the server
         accepts the GS2 header `y,,` for this exchange, if it has no `channels`."""
         message, nonce, opened = _bytes(client_first), secrets.token_bytes(32), _ScramServerStruct()
-        call, rules, known = _library.fe2o3_scram_server_first_with_rules, self._rules_copied(), record._copied()
+        call, rules, known = _library.fe2o3_scram_server_first, self._rules_copied(), record._copied()
         if accept_cbind_flag_y:
             rules.accept_cbind_flag_y = 1
         replaced = known, opened
@@ -147,7 +147,7 @@ class Server(_Guarded):
 
         `identities` are those that the user may act for besides itself (RFC 4422, section 2). A user who may not act for
         the identity that the client named gets `AuthenticationFailed` too."""
-        message, call = _bytes(client_final), _library.fe2o3_scram_server_final_with_rules
+        message, call = _bytes(client_final), _library.fe2o3_scram_server_final
         allowed = _joined(identities)
         with self._lock:
             known, opened, kept = self._exchange

@@ -1,4 +1,4 @@
-"""The server's side of a connection, over bytes and over frame bodies."""
+"""The server's side of a connection."""
 
 from __future__ import annotations
 
@@ -13,11 +13,11 @@ from ._frames import view_frame
 from ._native import Bytes, Text, _bytes, _callable, _count, _library, _name, _number, _refusal, _text, _wipe, _written
 from ._numbers import DEFAULT_ITERATIONS, Offer, Progress, Rejection, Status, _ServerState
 from ._objects import _Guard
-from ._progress import _Connection, _Login, _Steps
+from ._progress import _Connection
 from ._records import MockSettings, Record, _Mock
 from ._server import _channels_of, _identity_of, _joined
 from ._stores import _OFFERED
-from ._structs import _SaslServerConfigStruct, _SaslServerStruct, _ScramRecordStruct, _ScramServerStruct
+from ._structs import _SaslServerConfigStruct, _SaslServerStruct, _ScramRecordStruct
 
 
 class LoginAttempt(NamedTuple):
@@ -54,8 +54,9 @@ def _offered(mechanisms: int) -> int:
     return number
 
 
-class _ServerSide(_Login):
-    """A server's login: what it offers, and its records."""
+class ServerConnection(_Connection):
+    """The server's side of one AMQP 1.0 connection, from its first byte to the end of the login. It does no I/O, like
+    `ClientConnection`."""
 
     __slots__ = (
         "_attempt",
@@ -122,7 +123,7 @@ class _ServerSide(_Login):
         self._identities_of = identities_of
         self._records_of, self._mechanisms = records_of, _offered(mechanisms)
         self._iterations = _count(DEFAULT_ITERATIONS if iterations is None else iterations)
-        self._struct = self._fresh()
+        self._struct = _SaslServerStruct()
         self._external_authcid = _name("" if external_authcid is None else external_authcid)
         self._channels = _channels_of(channels)
         self._attempt: Optional[LoginAttempt] = None
@@ -130,12 +131,6 @@ class _ServerSide(_Login):
         # Why the last call rejects a login whose record is a mock record; None if it is not.
         self._mock_rejection: Optional[Rejection] = None
         self._lock = _Guard(self)
-
-    def _fresh(self) -> Any:
-        raise NotImplementedError
-
-    def _scram(self) -> Any:
-        raise NotImplementedError
 
     def _secrets(self) -> Iterable[Any]:
         return [self._struct] if self._mock is None else [self._struct, self._mock._secret]
@@ -158,7 +153,7 @@ class _ServerSide(_Login):
                 if copies:
                     reason = Rejection.NO_RECORD_FOR_HASH
                 # (the struct has the hash of the open challenge until the call rejects the login)
-                self._mock_rejection = reason if self._scram().version in lacked else None
+                self._mock_rejection = reason if self._struct.scram.version in lacked else None
                 for hash in lacked:
                     copies.append(self._mock.record(hash, known))
                     stack.callback(_wipe, copies[-1])
@@ -184,15 +179,42 @@ class _ServerSide(_Login):
                 identities_len=len(identities),
             )
 
-    @staticmethod
-    def _named(call: Callable[..., int]) -> Optional[str]:
-        """Returns the user that a call says is claimed, if any."""
+    def receive(self, data: Bytes) -> tuple[bytes, bytes]:
+        """Takes received bytes, and returns the bytes to send and the bytes that are left, like
+        `ClientConnection.receive`."""
+        rest, answers = _bytes(data), []
+        with self._lock:
+            while rest and self.progress == Progress.IN_PROGRESS:
+                answer, taken = self._step(rest)
+                answers.append(answer)
+                rest = rest[taken:]
+        return b"".join(answers), rest
+
+    def _step(self, data: bytes) -> tuple[bytes, int]:
+        name = self._named(data)
+        nonce, taken, body = secrets.token_bytes(32), ctypes.c_size_t(), self._peeked(data)
+        with self._config(name) as config:
+            answer = _written(
+                520,
+                lambda *room: _library.fe2o3_sasl_server_receive(
+                    config, self._struct, data, len(data), nonce, ctypes.byref(taken), *room
+                ),
+            )
+        if body:
+            self._claims(body, name)
+        return answer, taken.value
+
+    def _named(self, data: bytes) -> Optional[str]:
+        """Returns the user that the next frame claims, if received bytes complete one that does."""
         try:
-            return _written(512, call).decode("utf-8")
+            name = _written(
+                512, lambda *room: _library.fe2o3_sasl_server_claimed_user(self._struct, data, len(data), *room)
+            )
         except Refused as why:
             if why.status == Status.NAMES_NO_USER:
                 return None
             raise
+        return name.decode("utf-8")
 
     def last_attempt(self) -> Optional[LoginAttempt]:
         """Returns what the last init claims, also after a rejection, for a log. None before the first init. Nobody is
@@ -208,7 +230,7 @@ class _ServerSide(_Login):
         the hash (NO_RECORD_FOR_HASH) than for a wrong password (WRONG_PROOF). PLAIN has one for all of them,
         WRONG_PASSWORD."""
         with self._lock:
-            number = int(self._scram().rejection)
+            number = int(self._struct.scram.rejection)
             if self._mock_rejection is not None and number in (Rejection.WRONG_PROOF, Rejection.NO_RIGHT):
                 return self._mock_rejection
             # (a later library can have more reasons)
@@ -229,7 +251,7 @@ class _ServerSide(_Login):
         """Returns the name of the authenticated user, without escapes; None for ANONYMOUS. Raises `InvalidState` if no
         user is authenticated."""
         with self._lock:
-            scram = self._scram()
+            scram = self._struct.scram
             if self.progress == Progress.AUTHENTICATED and scram.state == _ServerState.INITIAL:
                 return None
             name = _written(
@@ -242,85 +264,7 @@ class _ServerSide(_Login):
         user acts for itself. The connection belongs to this identity, if there is one. Raises `InvalidState` if no user is
         authenticated."""
         with self._lock:
-            scram = self._scram()
+            scram = self._struct.scram
             if self.progress == Progress.AUTHENTICATED and scram.state == _ServerState.INITIAL:
                 return None
             return _identity_of(scram)
-
-
-class ServerConnection(_Connection, _ServerSide):
-    """The server's side of one AMQP 1.0 connection, from its first byte to the end of the login. It does no I/O, like
-    `ClientConnection`."""
-
-    __slots__ = ()
-
-    def _fresh(self) -> _SaslServerStruct:
-        return _SaslServerStruct()
-
-    def _scram(self) -> Any:
-        return self._struct.scram
-
-    def receive(self, data: Bytes) -> tuple[bytes, bytes]:
-        """Takes received bytes, and returns the bytes to send and the bytes that are left, like
-        `ClientConnection.receive`."""
-        rest, answers = _bytes(data), []
-        with self._lock:
-            while rest and self.progress == Progress.IN_PROGRESS:
-                answer, taken = self._step(rest)
-                answers.append(answer)
-                rest = rest[taken:]
-        return b"".join(answers), rest
-
-    def _step(self, data: bytes) -> tuple[bytes, int]:
-        name = self._named(lambda *room: _library.fe2o3_sasl_server_claimed_user(self._struct, data, len(data), *room))
-        nonce, taken, body = secrets.token_bytes(32), ctypes.c_size_t(), self._peeked(data)
-        with self._config(name) as config:
-            answer = _written(
-                520,
-                lambda *room: _library.fe2o3_sasl_server_receive(
-                    config, self._struct, data, len(data), nonce, ctypes.byref(taken), *room
-                ),
-            )
-        if body:
-            self._claims(body, name)
-        return answer, taken.value
-
-
-class ServerSteps(_Steps, _ServerSide):
-    """The server's side of one login over frame bodies, like `ClientSteps`.
-
-    A login takes two bodies of the client: its init, and for SCRAM a response. It takes one more with each of
-    `Offer.SIGNATURE_BY_CHALLENGE` and `Offer.INITIAL_RESPONSE_BY_CHALLENGE`. If you pass more of them, the client can
-    try passwords again and again.
-    """
-
-    __slots__ = ("_progress",)
-
-    def _fresh(self) -> _ScramServerStruct:
-        self._progress = 0
-        return _ScramServerStruct()
-
-    def _scram(self) -> Any:
-        return self._struct
-
-    def offer(self) -> bytes:
-        """Returns the frame body with which the server offers its mechanisms. Send it after the client's SASL
-        header."""
-        with self._lock, self._config(None) as config:
-            return _written(508, lambda *room: _library.fe2o3_sasl_server_offer(config, *room))
-
-    def on_frame(self, body: Bytes) -> bytes:
-        """Takes a received body, and returns the body to send: a challenge, or the outcome. Then `progress` says
-        how far the login is. If it raises, other than `OutOfMemory`, close the connection."""
-        came, nonce = _bytes(body), secrets.token_bytes(32)
-        with self._lock:
-            self._goes_on()
-            name = self._named(
-                lambda *room: _library.fe2o3_sasl_server_step_claimed_user(self._struct, came, len(came), *room)
-            )
-            with self._config(name) as config:
-                answer, self._progress = self._stepped(
-                    lambda *room: _library.fe2o3_sasl_server_step(config, self._struct, came, len(came), nonce, *room)
-                )
-            self._claims(came, name)
-            return answer

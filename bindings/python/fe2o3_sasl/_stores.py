@@ -49,7 +49,7 @@ class RecordStore(_Wipeable):
 
     def records(self, name: str) -> list[Record]:
         """Returns the records of a user, those of SHA-256 first, of which PLAIN takes the first; none for an unknown name.
-        Pass this method to `ServerConnection` or `ServerSteps`."""
+        Pass this method to `ServerConnection`."""
         return list(self._known().get(name, ()))
 
     def hashes(self) -> Offer:

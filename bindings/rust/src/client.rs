@@ -184,8 +184,8 @@ impl ScramClient {
         self
     }
 
-    /// With `accept`, [`crate::ClientNegotiation`] and [`crate::ClientSteps`] also accept the server's signature in a
-    /// challenge, before an outcome without data (RFC 4422, section 5).
+    /// With `accept`, a [`crate::ClientNegotiation`] also accepts the server's signature in a challenge, before an outcome
+    /// without data (RFC 4422, section 5).
     pub fn signature_by_challenge(mut self, accept: bool) -> Self {
         self.who.signature_by_challenge = accept;
         self

@@ -48,7 +48,6 @@ mod rejection;
 mod server;
 mod server_error;
 mod serving;
-mod steps;
 mod stores;
 #[allow(dead_code, missing_docs)]
 #[rustfmt::skip]
@@ -76,7 +75,6 @@ pub use rejection::Rejection;
 pub use server::{ScramAuthenticator, SingleScramCredential};
 pub use server_error::ServerError;
 pub use serving::{PasswordServer, PlainPasswords, ServerNegotiation};
-pub use steps::{Answered, ClientSteps, ServerSteps};
 pub use stores::RecordStore;
 /// [`UserRecords`] under the name of the crate fe2o3-amqp.
 #[doc(no_inline)]

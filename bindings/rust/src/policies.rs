@@ -6,9 +6,8 @@ use crate::{Channel, ConnectionError, Password, Progress, SaslProfile, ScramClie
 use std::iter::once;
 
 /// The profiles by which a client may log in, from the strongest to the weakest. It selects the first one whose mechanism
-/// the server offers ([`ClientNegotiation::select`](crate::ClientNegotiation::select),
-/// [`ClientSteps::select`](crate::ClientSteps::select)). An attacker can alter an offer, but the client never selects a
-/// mechanism that is not allowed here.
+/// the server offers ([`ClientNegotiation::select`](crate::ClientNegotiation::select)). An attacker can alter an offer, but
+/// the client never selects a mechanism that is not allowed here.
 ///
 /// ```
 /// use fe2o3_sasl_proved::*;

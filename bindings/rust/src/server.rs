@@ -236,7 +236,7 @@ impl<C: UserRecords + Clone> ScramAuthenticator<C> {
             // SAFETY: the rules, the record, the nonce and the message are borrowed and live through the call; the
             // state, the room and its length are borrowed for writing, and so overlap nothing.
             unsafe {
-                sys::fe2o3_scram_server_first_with_rules(
+                sys::fe2o3_scram_server_first(
                     &lent.rules,
                     &record.0,
                     state,
@@ -278,7 +278,7 @@ impl<C: UserRecords + Clone> ScramAuthenticator<C> {
             // SAFETY: the rules, the record and the message are borrowed and live through the call; the state, the room
             // and its length are borrowed for writing, and so overlap nothing.
             unsafe {
-                sys::fe2o3_scram_server_final_with_rules(
+                sys::fe2o3_scram_server_final(
                     &lent.rules,
                     &record.0,
                     state,
@@ -396,7 +396,7 @@ fn claimed_user(rules: &sys::ScramRules, client_first: &[u8]) -> Result<String, 
         // SAFETY: the rules are borrowed, and the message is a slice that lives through the call; the room and its
         // length are borrowed for writing, and so overlap nothing.
         unsafe {
-            sys::fe2o3_scram_server_claimed_user_with_rules(
+            sys::fe2o3_scram_server_claimed_user(
                 rules,
                 client_first.as_ptr(),
                 client_first.len(),

@@ -283,10 +283,7 @@ impl<R: UserRecords + Clone> PasswordServer<R> {
 }
 
 /// Returns the name that a call writes into a buffer of this size, if there is one.
-pub(crate) fn named(
-    room: usize,
-    call: impl FnMut(&mut [u8], &mut usize) -> u32,
-) -> Result<Option<String>, ConnectionError> {
+fn named(room: usize, call: impl FnMut(&mut [u8], &mut usize) -> u32) -> Result<Option<String>, ConnectionError> {
     match filled(room, call) {
         Ok(name) => Ok(String::from_utf8(name).ok()),
         Err(sys::NAMES_NO_USER) => Ok(None),

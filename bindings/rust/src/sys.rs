@@ -363,7 +363,8 @@ pub const OFFER_ANONYMOUS: u32 = 16;
 /// `offer`: EXTERNAL, if `external_authcid` is not empty.
 pub const OFFER_EXTERNAL: u32 = 32;
 
-/// `offer`: No mechanism: SCRAM also accepts the GS2 header `y,,`, like fe2o3_scram_server_first_with_cbind_flag_y.
+/// `offer`: No mechanism: SCRAM also accepts the GS2 header `y,,`: see the field `accept_cbind_flag_y` of struct
+/// fe2o3_scram_rules.
 pub const ACCEPT_CBIND_FLAG_Y: u32 = 64;
 
 /// `offer`: No mechanism: PLAIN tests the password as received, also a non-ASCII one. Clients prepare their passwords.
@@ -447,11 +448,11 @@ pub const SCRAM_SERVER_AUTHENTICATED: u32 = 2;
 pub const SCRAM_SERVER_CHALLENGE_OPEN_CBIND_FLAG_Y: u32 = 3;
 
 /// `scram_server_state`: The server's signature was sent to the user in a challenge. The user is authenticated once the
-/// client has answered it. Only on a connection, and for steps over frame bodies.
+/// client has answered it. Only on a connection.
 pub const SCRAM_SERVER_SIGNATURE_SENT: u32 = 4;
 
 /// `scram_server_state`: An empty challenge was sent for an init without an initial response. `first` is the name of
-/// the mechanism, and `nonce` the 32 bytes of the init's nonce. Only on a connection, and for steps over frame bodies.
+/// the mechanism, and `nonce` the 32 bytes of the init's nonce. Only on a connection.
 pub const SCRAM_SERVER_INITIAL_RESPONSE_ASKED: u32 = 5;
 
 /// `scram_server_state`: A challenge is open, to a client that binds the channel by `tls-unique`.
@@ -641,9 +642,9 @@ pub struct Login {
     ///
     /// - SCRAM sends it in the GS2 header (RFC 5802, section 7). A client that names one tests the extensions like one
     ///   that has a channel.
-    /// - PLAIN sends it as the first part of its message (RFC 4616, section 2), by `fe2o3_sasl_client_receive` and
-    ///   `fe2o3_sasl_client_step`. A client that names one tests its words like a strict one.
-    /// - ANONYMOUS and EXTERNAL do not send it: with one these calls return NOT_IMPLEMENTED. EXTERNAL_AS sends
+    /// - PLAIN sends it as the first part of its message (RFC 4616, section 2), by `fe2o3_sasl_client_receive`. A
+    ///   client that names one tests its words like a strict one.
+    /// - ANONYMOUS and EXTERNAL do not send it: with one this call returns NOT_IMPLEMENTED. EXTERNAL_AS sends
     ///   `username` as the identity.
     pub acts_for: *const u8,
     pub acts_for_len: usize,
@@ -655,7 +656,7 @@ pub struct Login {
     pub keys: *const ScramKeys,
     /// Whether the client accepts the server's signature in a challenge too, before an outcome without data (RFC 4422,
     /// section 5). 0 means that the signature has to come in the outcome. Any other value accepts it in both. Only
-    /// `fe2o3_sasl_client_receive` and `fe2o3_sasl_client_step` use this field.
+    /// `fe2o3_sasl_client_receive` uses this field.
     pub signature_by_challenge: u32,
     /// Whether the client is strict: it reads messages by the grammar of RFC 5802, section 7. 0 is no, any other value
     /// yes. The server's part of the nonce has to be printable and not empty (CLIENT_CLIENT_NONCE_MISMATCH), the
@@ -719,7 +720,7 @@ pub struct ScramServer {
     pub acts_for_len: u32,
     /// Why the last frame was answered by the outcome Auth, for the server's log only: one of the `rejection`
     /// constants, or the error of a SCRAM message, one of the `status` constants. Written by
-    /// `fe2o3_sasl_server_receive` and `fe2o3_sasl_server_step`.
+    /// `fe2o3_sasl_server_receive`.
     pub rejection: u32,
     /// The user name, without escapes. While a challenge is open the client only claims it; afterwards it is
     /// authenticated.
@@ -788,8 +789,8 @@ pub struct ScramRules {
     pub reject_misplaced: u32,
     /// The identities that the claimed user may act for besides itself (RFC 4422, section 2), without escapes, with a
     /// zero byte after each but the last, which may have one too. It is read with the client-final message: look up the
-    /// identities of the user (`fe2o3_scram_server_claimed_user_with_rules`), or only whether it may act for the one
-    /// that the client names (`fe2o3_scram_server_claimed_identity`). A user who may not act for the identity gets
+    /// identities of the user (`fe2o3_scram_server_claimed_user`), or only whether it may act for the one that the
+    /// client names (`fe2o3_scram_server_claimed_identity`). A user who may not act for the identity gets
     /// SERVER_AUTHENTICATION_FAILED, like one with a wrong password.
     pub identities: *const u8,
     pub identities_len: usize,
@@ -1187,63 +1188,14 @@ extern "C" {
 
     /// Writes the user name that a client-first message claims, without escapes. Nobody is authenticated yet: use it
     /// only to look up the record.
+    ///
+    /// `rules` are those for `fe2o3_scram_server_first` (RFC 5802, section 5.1). If the server binds channels, the GS2
+    /// header has to be one that `fe2o3_scram_server_first` accepts. Otherwise `n,,` and `y,,` are both accepted here,
+    /// whatever the rules say.
+    ///
+    /// The errors are those of `fe2o3_scram_server_first` from CHANNEL_DATA_LENGTH to SERVER_MISPLACED_ATTRIBUTE, in
+    /// the same order.
     pub fn fe2o3_scram_server_claimed_user(
-        client_first: *const u8,
-        client_first_len: usize,
-        out: *mut u8,
-        out_size: usize,
-        out_len: *mut usize) -> u32;
-
-    /// Answers a client-first message with the server-first message. This starts a new exchange, whatever the state of
-    /// the server is. The GS2 header of the message has to be `n,,`.
-    ///
-    /// `kept` is the record of the claimed user (`fe2o3_scram_server_claimed_user`), or a mock record
-    /// (`fe2o3_scram_record_mock`) for an unknown one. `nonce` is 32 fresh random bytes.
-    pub fn fe2o3_scram_server_first(
-        kept: *const ScramRecord,
-        server: *mut ScramServer,
-        nonce: *const [u8; 32],
-        client_first: *const u8,
-        client_first_len: usize,
-        out: *mut u8,
-        out_size: usize,
-        out_len: *mut usize) -> u32;
-
-    /// Answers a client-first message like `fe2o3_scram_server_first`, but also accepts the GS2 header `y,,`: the
-    /// client supports channel binding, and was offered no mechanism with `-PLUS` (RFC 5802, section 6). Only for a
-    /// server that offers none.
-    pub fn fe2o3_scram_server_first_with_cbind_flag_y(
-        kept: *const ScramRecord,
-        server: *mut ScramServer,
-        nonce: *const [u8; 32],
-        client_first: *const u8,
-        client_first_len: usize,
-        out: *mut u8,
-        out_size: usize,
-        out_len: *mut usize) -> u32;
-
-    /// Answers a client-final message with the server-final message, if its proof is right. Only OK means that the user
-    /// is authenticated.
-    ///
-    /// `kept` is the record that `fe2o3_scram_server_first` was called with. `out` needs 90 bytes, which is tested
-    /// before anything is hashed.
-    pub fn fe2o3_scram_server_final(
-        kept: *const ScramRecord,
-        server: *mut ScramServer,
-        client_final: *const u8,
-        client_final_len: usize,
-        out: *mut u8,
-        out_size: usize,
-        out_len: *mut usize) -> u32;
-
-    /// Writes the user name that a client-first message claims, like `fe2o3_scram_server_claimed_user`, by these rules
-    /// (RFC 5802, section 5.1). If the server binds channels, the GS2 header has to be one that
-    /// `fe2o3_scram_server_first_with_rules` accepts. Otherwise `n,,` and `y,,` are both accepted here, whatever the
-    /// rules say: with rules of zeros the call does what `fe2o3_scram_server_claimed_user` does.
-    ///
-    /// The errors are those of `fe2o3_scram_server_first_with_rules` from CHANNEL_DATA_LENGTH to
-    /// SERVER_MISPLACED_ATTRIBUTE, in the same order.
-    pub fn fe2o3_scram_server_claimed_user_with_rules(
         rules: *const ScramRules,
         client_first: *const u8,
         client_first_len: usize,
@@ -1251,9 +1203,23 @@ extern "C" {
         out_size: usize,
         out_len: *mut usize) -> u32;
 
-    /// Answers a client-first message like `fe2o3_scram_server_first`, by these rules (RFC 5802, section 5.1). Pass the
-    /// same rules to `fe2o3_scram_server_final_with_rules`. With rules of zeros the call does what
-    /// `fe2o3_scram_server_first` does.
+    /// Writes the identity that a client-first message names to act for, without escapes, or 0 bytes if the client acts
+    /// for itself. It is only claimed, like the user's name: use it only to look up whether the user may act for it.
+    /// The message is read like by `fe2o3_scram_server_claimed_user`, and the errors are the same.
+    pub fn fe2o3_scram_server_claimed_identity(
+        rules: *const ScramRules,
+        client_first: *const u8,
+        client_first_len: usize,
+        out: *mut u8,
+        out_size: usize,
+        out_len: *mut usize) -> u32;
+
+    /// Answers a client-first message with the server-first message (RFC 5802, section 5.1). This starts a new
+    /// exchange, whatever the state of the server is.
+    ///
+    /// Pass the same rules to `fe2o3_scram_server_final`. Rules of zeros are those of a server without options. `kept`
+    /// is the record of the claimed user (`fe2o3_scram_server_claimed_user`), or a mock record
+    /// (`fe2o3_scram_record_mock`) for an unknown one. `nonce` is 32 fresh random bytes.
     ///
     /// If the server binds channels, the GS2 header has to be `p=` with the name of a kind whose data the rules have
     /// (section 6). Otherwise it has to be `n,,`, or `y,,` if the rules accept that. It may name an identity to act
@@ -1271,7 +1237,7 @@ extern "C" {
     /// - NO_SUCH_VERSION and TOO_LONG if `kept` holds no record,
     /// - TOO_LONG if a text of the challenge does not fit into the struct,
     /// - ROOM_TOO_SMALL.
-    pub fn fe2o3_scram_server_first_with_rules(
+    pub fn fe2o3_scram_server_first(
         rules: *const ScramRules,
         kept: *const ScramRecord,
         server: *mut ScramServer,
@@ -1282,10 +1248,12 @@ extern "C" {
         out_size: usize,
         out_len: *mut usize) -> u32;
 
-    /// Answers a client-final message like `fe2o3_scram_server_final`, by the rules that
-    /// `fe2o3_scram_server_first_with_rules` was called with (RFC 5802, section 5.1). With rules of zeros the call does
-    /// what `fe2o3_scram_server_final` does. If the server binds channels, the message has to have the GS2 header of
-    /// the exchange and the server's data of its kind (section 6).
+    /// Answers a client-final message with the server-final message, if its proof is right (RFC 5802, section 5.1).
+    /// Only OK means that the user is authenticated.
+    ///
+    /// `rules` and `kept` are those that `fe2o3_scram_server_first` was called with. `out` needs 90 bytes, which is
+    /// tested before anything is hashed. If the server binds channels, the message has to have the GS2 header of the
+    /// exchange and the server's data of its kind (section 6).
     ///
     /// The errors are, in this order:
     ///
@@ -1304,7 +1272,7 @@ extern "C" {
     /// - SERVER_XOR_LENGTH_MISMATCH if the proof is not as long as a digest,
     /// - SERVER_AUTHENTICATION_FAILED if the proof is wrong, or the user may not act for the identity that the client
     ///   named (RFC 4422, section 2).
-    pub fn fe2o3_scram_server_final_with_rules(
+    pub fn fe2o3_scram_server_final(
         rules: *const ScramRules,
         kept: *const ScramRecord,
         server: *mut ScramServer,
@@ -1318,17 +1286,6 @@ extern "C" {
     /// user is authenticated.
     pub fn fe2o3_scram_server_authenticated_user(
         server: *const ScramServer,
-        out: *mut u8,
-        out_size: usize,
-        out_len: *mut usize) -> u32;
-
-    /// Writes the identity that a client-first message names to act for, without escapes, or 0 bytes if the client acts
-    /// for itself. It is only claimed, like the user's name: use it only to look up whether the user may act for it.
-    /// The message is read like by `fe2o3_scram_server_claimed_user_with_rules`, and the errors are the same.
-    pub fn fe2o3_scram_server_claimed_identity(
-        rules: *const ScramRules,
-        client_first: *const u8,
-        client_first_len: usize,
         out: *mut u8,
         out_size: usize,
         out_len: *mut usize) -> u32;
@@ -1520,75 +1477,6 @@ extern "C" {
     /// Ends a login after the other side has ended its stream (end of file). A login in progress fails with
     /// END_OF_INPUT. Otherwise nothing changes.
     pub fn fe2o3_sasl_end_of_input(connection: *mut Connection);
-
-    /// Takes a frame body that the server sent, without the four bytes of the frame's size, and writes the body to
-    /// send: the init for the mechanisms, the response for a challenge, and nothing (`out_len` is 0) for the outcome.
-    /// `out` needs 508 bytes, which is tested before anything is hashed. `nonce` is 32 fresh random bytes.
-    ///
-    /// `progress` is IN_PROGRESS while the login goes on, AUTHENTICATED once it is complete, and from REFUSED_AUTH to
-    /// REFUSED_SYS_TEMP if the outcome rejects it. Pass no body after that.
-    ///
-    /// This call is for programs that read frames themselves, reject those above 512 bytes, and limit their number. A
-    /// login takes three bodies of the server for SCRAM, four if the signature comes in a challenge
-    /// (`signature_by_challenge`), and two for the other mechanisms. A server that may send more can make the client
-    /// hash again and again. For SCRAM, AUTHENTICATED means that the server is authenticated (RFC 5802, section 5). The
-    /// other mechanisms accept any outcome, even one before the init.
-    pub fn fe2o3_sasl_client_step(
-        login: *const SaslLogin,
-        client: *mut ScramClient,
-        body: *const u8,
-        body_len: usize,
-        nonce: *const [u8; 32],
-        progress: *mut u32,
-        out: *mut u8,
-        out_size: usize,
-        out_len: *mut usize) -> u32;
-
-    /// Writes the frame body with which a server offers its mechanisms. Send it after the client's SASL header.
-    pub fn fe2o3_sasl_server_offer(
-        config: *const SaslServerConfig,
-        out: *mut u8,
-        out_size: usize,
-        out_len: *mut usize) -> u32;
-
-    /// Writes the user name that a frame body claims: that of an init for SCRAM or PLAIN, for a response that of the
-    /// open challenge of SCRAM, and for the response to an empty challenge that of the initial response. Nobody is
-    /// authenticated yet: use it only to look up the record for `fe2o3_sasl_server_step`. Returns NAMES_NO_USER if the
-    /// body claims no name; then no record is needed.
-    pub fn fe2o3_sasl_server_step_claimed_user(
-        server: *const ScramServer,
-        body: *const u8,
-        body_len: usize,
-        out: *mut u8,
-        out_size: usize,
-        out_len: *mut usize) -> u32;
-
-    /// Takes a frame body that the client sent, without the four bytes of the frame's size, and writes the body to
-    /// send: a challenge, or the outcome. `out` needs 508 bytes, which is tested before anything is hashed. `nonce` is
-    /// 32 fresh random bytes.
-    ///
-    /// Before the call, look up the record of the user that the body claims (`fe2o3_sasl_server_step_claimed_user`).
-    /// `progress` is IN_PROGRESS while the login goes on, AUTHENTICATED once it is complete, and from REFUSED_AUTH to
-    /// REFUSED_SYS_TEMP if the outcome rejects it. Send that outcome too, and pass no body after it. After a login by
-    /// any mechanism the struct holds the authenticated user (`fe2o3_scram_server_authenticated_user`). ANONYMOUS has
-    /// none.
-    ///
-    /// This call is for programs that read frames themselves, reject those above 512 bytes, and limit their number. A
-    /// login takes an init, and for SCRAM one response. SIGNATURE_BY_CHALLENGE adds one response for SCRAM, and
-    /// INITIAL_RESPONSE_BY_CHALLENGE one for SCRAM and PLAIN. A client that may send more can try passwords again and
-    /// again. A response without a challenge is answered by an outcome that is not OK. A frame that no client sends
-    /// returns NO_SASL_FRAME. If a name or a message does not fit into the struct, the call returns TOO_LONG, and you
-    /// have to close the connection.
-    pub fn fe2o3_sasl_server_step(
-        config: *const SaslServerConfig,
-        server: *mut ScramServer,
-        body: *const u8,
-        body_len: usize,
-        nonce: *const [u8; 32],
-        progress: *mut u32,
-        out: *mut u8,
-        out_size: usize,
-        out_len: *mut usize) -> u32;
 
     /// Parses a frame body, without the four bytes of the frame's size. It allocates no memory.
     pub fn fe2o3_sasl_view_frame(body: *const u8, body_len: usize, view: *mut SaslFrameView) -> u32;

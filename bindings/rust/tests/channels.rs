@@ -4,7 +4,7 @@
 
 mod common;
 
-use common::{log_in, text};
+use common::{log_in, text, ClientBodies};
 use fe2o3_sasl_proved::*;
 
 type Server = ScramAuthenticator<SingleScramCredential>;
@@ -345,15 +345,15 @@ fn channels_that_are_none() {
     assert_eq!(ChannelDataLength.to_string(), "Channel binding data of a wrong length");
 }
 
-/// The mechanism and the message of a client's init, over frame bodies.
+/// The mechanism and the message of a client's init.
 fn init(profile: impl Into<SaslProfile>, offered: &[&str]) -> Result<(String, String), ConnectionError> {
     let names: Vec<u8> = offered.iter().flat_map(|name| [&[name.len() as u8], name.as_bytes()].concat()).collect();
     let mut list = vec![0xe0, names.len() as u8 + 2, offered.len() as u8, 0xa3];
     list.extend(names);
     let mut body = vec![2, 1, 0, 0, 0, 0x53, 0x40, 0xc0, list.len() as u8 + 1, 1];
     body.extend(list);
-    let mut side = ClientSteps::new(profile, None);
-    match view_frame(&side.on_frame(&body)?.body)? {
+    let mut side = ClientBodies::new(profile, None);
+    match view_frame(&side.on_frame(&body)?)? {
         Frame::Init { mechanism, initial_response, .. } => {
             assert_eq!(side.mechanism(), Some(mechanism.as_str()));
             Ok((mechanism, text(&initial_response.unwrap()).split(',').next().unwrap().to_owned()))
@@ -385,15 +385,12 @@ fn all_of_it_may_go_to_another_thread() {
     may::<Server>();
 }
 
-/// Runs a login over frame bodies. Returns the mechanism and how the server ends.
-fn log_in_over_frames(client: &ScramClient, server: PasswordServer<SingleScramCredential>) -> (String, Progress) {
-    let (mut client, mut server) = (ClientSteps::new(client.clone(), None), ServerSteps::new(server));
-    let mut body = server.sasl_mechanisms().unwrap();
-    while let Ok(sent) = client.on_frame(&body) {
-        if sent.body.is_empty() {
-            break;
-        }
-        body = server.on_frame(&sent.body).unwrap().body;
+/// Runs a login on a connection. Returns the mechanism and how the server ends.
+fn connected(client: &ScramClient, server: PasswordServer<SingleScramCredential>) -> (String, Progress) {
+    let (mut client, mut server) = (ClientNegotiation::new(client.clone(), None), ServerNegotiation::new(server));
+    let mut to_server = ClientNegotiation::open();
+    while !to_server.is_empty() {
+        to_server = client.receive(&server.receive(&to_server).unwrap().sent).unwrap().sent;
     }
     (client.mechanism().unwrap().to_owned(), server.progress())
 }
@@ -416,13 +413,12 @@ fn servers_on_connections() {
                 (server().channels([other_data]), rejected),
                 (server().channels([]), rejected),
             ] {
-                assert_eq!(log_in_over_frames(&bound, server), (plus.clone(), progress));
+                assert_eq!(connected(&bound, server), (plus.clone(), progress));
             }
             // Without a channel, and with one but without -PLUS in the offer that arrives.
-            let unaware = log_in_over_frames(&client(version), server().channels([own]));
+            let unaware = connected(&client(version), server().channels([own]));
             assert_eq!(unaware, (name.to_owned(), Progress::Authenticated));
-            let told_none =
-                log_in_over_frames(&bound.channel_not_offered(), server().channels([own]).accept_cbind_flag_y());
+            let told_none = connected(&bound.channel_not_offered(), server().channels([own]).accept_cbind_flag_y());
             assert_eq!(told_none, (name.to_owned(), rejected));
         }
     }

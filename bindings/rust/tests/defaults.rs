@@ -6,7 +6,7 @@ mod common;
 #[allow(dead_code)]
 mod server;
 
-use common::{UsersFile, ADDED};
+use common::{ClientBodies, ServerBodies, UsersFile, ADDED};
 use fe2o3_sasl_proved::*;
 use std::collections::HashSet;
 use std::fs;
@@ -41,16 +41,16 @@ fn offer_of(name: &str) -> Vec<u8> {
 /// Joins both sides. The client reads that its mechanism is offered, also if it is not. Returns the bodies that the server
 /// sends.
 fn joined<R: UserRecords + Clone>(
-    side: &mut ServerSteps<R>,
+    side: &mut ServerBodies<R>,
     client: impl Into<SaslProfile>,
     name: &str,
 ) -> Vec<Vec<u8>> {
-    let mut client = ClientSteps::new(client, None);
+    let mut client = ClientBodies::new(client, None);
     let (mut sent, mut to_client) = (Vec::new(), offer_of(name));
     while client.progress() == Progress::InProgress {
-        let to_server = client.on_frame(&to_client).unwrap().body;
+        let to_server = client.on_frame(&to_client).unwrap();
         if !to_server.is_empty() {
-            to_client = side.on_frame(&to_server).unwrap().body;
+            to_client = side.on_frame(&to_server).unwrap();
             sent.push(to_client.clone());
         }
     }
@@ -65,14 +65,14 @@ fn scram<R: UserRecords + Clone>(
     password: &str,
     version: ScramVersion,
 ) -> (Vec<Vec<u8>>, bool) {
-    let mut side = ServerSteps::new(server.clone());
+    let mut side = ServerBodies::new(server.clone());
     let sent = joined(&mut side, ScramClient::new(user, password, version), version.mechanism());
     (sent, side.authenticated_user().as_deref() == Some(user))
 }
 
 /// A login by PLAIN, like [`scram`].
 fn plain<R: UserRecords + Clone>(server: &PasswordServer<R>, user: &str, password: &str) -> (Vec<Vec<u8>>, bool) {
-    let mut side = ServerSteps::new(server.clone());
+    let mut side = ServerBodies::new(server.clone());
     let profile = SaslProfile::Plain { username: user.to_owned(), password: password.to_owned() };
     (joined(&mut side, profile, "PLAIN"), side.authenticated_user().as_deref() == Some(user))
 }
@@ -92,7 +92,7 @@ fn parts(sent: &[Vec<u8>]) -> Vec<String> {
 fn logins_by_each_offered_hash() {
     let users = UsersFile::new("each", ADDED);
     let server = server::server_of(users.path()).unwrap().plain_under_tls(true);
-    let offer = ServerSteps::new(server.clone()).sasl_mechanisms().unwrap();
+    let offer = ServerBodies::new(server.clone()).offer;
     for (name, is_offered) in
         [("SCRAM-SHA-512", true), ("SCRAM-SHA-256", true), ("SCRAM-SHA-1", false), ("PLAIN", true)]
     {
@@ -113,7 +113,7 @@ fn users_of_an_older_file() {
     for lines in [OLDER, ONE, &(ADDED.to_owned() + ONE)] {
         let users = UsersFile::new("older", lines);
         let server = server::server_of(users.path()).unwrap();
-        let offer = ServerSteps::new(server.clone()).sasl_mechanisms().unwrap();
+        let offer = ServerBodies::new(server.clone()).offer;
         assert_eq!((offers(&offer, "SCRAM-SHA-256"), offers(&offer, "SCRAM-SHA-512")), (Ok(true), Ok(false)));
         for user in ["bob", "eve", "one", "user"].into_iter().filter(|user| lines.contains(user)) {
             let mut side = ServerNegotiation::new(server.clone());
@@ -163,7 +163,7 @@ fn reasons_of_rejections() {
             (client("nobody", "pencil").channel_not_offered(), Some(Channel)),
         ] {
             assert_eq!(reason(server.clone(), client.clone()), wanted);
-            let mut side = ServerSteps::new(server.clone());
+            let mut side = ServerBodies::new(server.clone());
             let sent = joined(&mut side, client, "SCRAM-SHA-512");
             assert_eq!(side.rejection(), wanted);
             // (the client receives the same outcome for each reason)
@@ -190,8 +190,8 @@ fn reasons_of_rejected_inits() {
         let (name_len, message_len) = (name.len() as u8, message.len() as u8);
         let fields = [&[0xa3, name_len], name.as_bytes(), &[0xa0, message_len], message.as_bytes()].concat();
         let init = [&[2, 1, 0, 0, 0, 0x53, 0x41, 0xc0, fields.len() as u8 + 1, 2], &fields[..]].concat();
-        let mut side = ServerSteps::new(server.clone());
-        assert_eq!(side.on_frame(&init).unwrap().body, AUTH);
+        let mut side = ServerBodies::new(server.clone());
+        assert_eq!(side.on_frame(&init).unwrap(), AUTH);
         assert_eq!(side.rejection(), Some(wanted));
     }
     assert_eq!(Scram(ServerScramErrorKind::AuthenticationFailed).to_string(), "SCRAM: Authentication failed");
@@ -211,7 +211,7 @@ fn names_are_not_shown() {
         (&of_older, ["bob", "eve", "nobody"]),
         (&of_older.clone().hashes(&SHA_512_AND_256), ["bob", "eve", "nobody"]),
     ] {
-        let offer = ServerSteps::new(server.clone()).sasl_mechanisms().unwrap();
+        let offer = ServerBodies::new(server.clone()).offer;
         for version in [ScramVersion::Sha512, ScramVersion::Sha256, ScramVersion::Sha1] {
             let found = names.map(|user| kinds(&scram(server, user, "wrong", version).0));
             assert_eq!(found, [(); 3].map(|()| found[0].clone()));

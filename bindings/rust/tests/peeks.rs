@@ -143,10 +143,6 @@ fn the_data_of_a_refusal() {
             client.receive(&[byte]).unwrap();
         }
         assert_eq!((client.progress() == Progress::Authenticated, client.refusal_data()), (code == 0, kept));
-        let mut steps = ClientSteps::new(SaslProfile::Anonymous, None);
-        steps.on_frame(&offer[12..]).unwrap();
-        steps.on_frame(&outcome(code, data)[4..]).unwrap();
-        assert_eq!((steps.progress(), steps.refusal_data()), (client.progress(), kept));
     }
 }
 
@@ -171,14 +167,9 @@ fn the_first_that_is_offered() {
         assert_eq!(client.mechanism(), None);
         let sent = [client.receive(first).unwrap().sent, client.receive(rest).unwrap().sent].concat();
         assert_eq!((client.mechanism(), &selected(&sent)[..]), (wanted, wanted.unwrap_or_default()));
-        let mut steps = ClientSteps::select(policy.clone(), None);
-        match (wanted, steps.on_frame(&offer[12..])) {
-            (Some(name), Ok(_)) => assert_eq!(steps.mechanism(), Some(name)),
-            (None, Err(why)) => {
-                assert_eq!(why, ConnectionError::NotImplemented);
-                assert_eq!((client.progress(), sent.len()), (Progress::Failed(why), 0));
-            }
-            other => panic!("{other:?}"),
+        if wanted.is_none() {
+            let rejected = Progress::Failed(ConnectionError::NotImplemented);
+            assert_eq!((client.progress(), sent.len()), (rejected, 0));
         }
     }
 }
@@ -217,9 +208,6 @@ fn what_an_init_claims() {
         assert_eq!(side.last_attempt(), None);
         side.receive(&[HEADER, &init(mechanism, response, "host")].concat()).unwrap();
         assert_eq!(side.last_attempt(), Some(&wanted));
-        let mut steps = ServerSteps::new(server());
-        steps.on_frame(&init(mechanism, response, "host")[4..]).unwrap();
-        assert_eq!(steps.last_attempt(), Some(&wanted));
     }
     let mut side = ServerNegotiation::new(server().initial_response_by_challenge(true));
     side.receive(&[HEADER, &init("SCRAM-SHA-256", None, "host")].concat()).unwrap();

@@ -1,6 +1,6 @@
 -- How far the login of a server has come, as a struct of a SCRAM server shows it.
 use Rattle.std.proofs.Common.{arith, refl, sym, ap, inl, inr, ◌∙◌, ◌≡◌, ◌≢◌, ◌⊎◌, ◌≤◌, ◌<◌, ◌-◌, ℕ, List, length}
-use Rattle.std.specs.Prelude.{true, false, Option, Some, None, MatchOption, IfSome, replicate, take}
+use Rattle.std.specs.Prelude.{true, false, Option, Some, None, replicate, take}
 use Rattle.std.specs.Str.{IsUtf8}
 use Rattle.std.proofs.lemmas.List.{length-take}
 use Rattle.std.proofs.lemmas.Str.{IsUtf8-from_ascii}
@@ -21,7 +21,7 @@ use Rattle.fe2o3_sasl_core.specs.declared.client_policy.Mechanism.TheVariants as
 use Rattle.fe2o3_sasl_core.specs.declared.server.ways.Way.{Way}
 use Rattle.fe2o3_sasl_core.specs.declared.server.ways.Way.TheVariants as ways
 use Rattle.sasl_c.specs.declared.server.ScramServer.{ScramServer as ScramStruct}
-use Rattle.sasl_c.specs.Server.{ChallengeHasRoom, HasAsked, HasSigned, IdentityHasRoom, IsLoggedIn, IsOpen, ShowsSigned, ShowsStage, ShowsUser, asked_struct, open_number, open_struct, stage_struct, struct_where, named_struct, fresh_server_struct}
+use Rattle.sasl_c.specs.Server.{ChallengeHasRoom, HasAsked, HasSigned, IdentityHasRoom, IsLoggedIn, IsOpen, ShowsSigned, ShowsStage, ShowsUser, asked_struct, open_number, struct_where, named_struct, fresh_server_struct}
 use Rattle.sasl_c.specs.Status.{version_number}
 use Rattle.sasl_c.proofs.StatusLemmas.{carried}
 

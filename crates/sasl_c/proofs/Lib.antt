@@ -25,7 +25,6 @@ pub mod PeekLemmas
 pub mod LoginLemmas
 pub mod ChannelLemmas
 pub mod SaslprepLemmas
-pub mod StepLemmas
 pub mod StatusTextLemmas
 pub mod FieldLemmas
 pub mod SaltedLemmas

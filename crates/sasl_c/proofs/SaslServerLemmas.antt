@@ -1,6 +1,6 @@
 -- What structs show of a server of a connection, and of which server they are (AMQP 1.0, part 5, section 5.3.2).
 use Rattle.std.proofs.Common.{arith, refl, sym, ap, inl, inr, ◌∙◌, ◌≡◌, ◌≢◌, ◌≤◌, ◌<◌, ◌⊎◌, ◌+◌, ◌*◌, ◌∷◌, ◌++◌, ℕ, List, [], length}
-use Rattle.std.specs.Prelude.{Bool, true, false, MatchOption, Option, Some, None, Err}
+use Rattle.std.specs.Prelude.{Bool, true, false, MatchOption, Option, Err}
 use Rattle.std.specs.Str.{IsUtf8}
 use Rattle.std.proofs.lemmas.List.{append-nil, append_assoc}
 use Rattle.fe2o3_scram.specs.declared.hmac.ScramVersion.{ScramVersion}
@@ -9,7 +9,7 @@ use Rattle.fe2o3_scram.specs.Credentials.{VersionedRecord}
 use Rattle.fe2o3_scram.specs.Mixed.{MultiRecords}
 use Rattle.fe2o3_scram.specs.Readings.{NoneHolds}
 use Rattle.fe2o3_sasl_core.specs.SavedServers.{KeptStage, kept_stage}
-use Rattle.fe2o3_sasl_core.specs.Servers.{NotStarted, ServerAt, ServerSettings, offers_any, settings_with}
+use Rattle.fe2o3_sasl_core.specs.Servers.{NotStarted, ServerAt, offers_any, settings_with}
 use Rattle.fe2o3_sasl_core.specs.declared.plain_server.passwords.PlainPasswords.{PlainPasswords}
 use Rattle.fe2o3_sasl_core.specs.declared.plain_server.passwords.PlainPasswords.TheVariants as forms
 use Rattle.fe2o3_sasl_negotiation.specs.Sides.{ServerConnectionSide, extended_in}
@@ -27,7 +27,7 @@ use Rattle.sasl_c.specs.declared.status.Status.TheVariants as statuses
 use Rattle.sasl_c.specs.Records.{ShowsRecord, SpellsStruct}
 use Rattle.sasl_c.specs.Rejections.{Logged, state_of}
 use Rattle.sasl_c.specs.Rules.{HasLongData}
-use Rattle.sasl_c.specs.SaslServer.{AddsRecord, AreSettings, HasNoServerWords, HasNone, HasRecords, IsNoConfig, IsPrepared, IsServer, RestoresStage, ServerIsReached, ShowRecords, ShowsBy, ShowsNext, ShowsProgress, ShowsSide, ShowsState, config_tests, mechanisms_sum, version_of_first, one_where, passwords_number, settings_for, side_in, side_struct, state_struct, struct_by, sum_of}
+use Rattle.sasl_c.specs.SaslServer.{AddsRecord, AreSettings, HasNoServerWords, HasNone, IsNoConfig, IsPrepared, IsServer, RestoresStage, ServerIsReached, ShowRecords, ShowsBy, ShowsNext, ShowsProgress, ShowsSide, ShowsState, config_tests, mechanisms_sum, version_of_first, one_where, passwords_number, side_in, side_struct, state_struct, struct_by, sum_of}
 use Rattle.sasl_c.specs.Server.{ShowsStage, fresh_server_struct}
 use Rattle.sasl_c.specs.Status.{version_number}
 use Rattle.sasl_c.proofs.ExchangeLemmas.{keeps_nothing}

@@ -1,6 +1,6 @@
 -- What a call makes of a server's side of a connection (AMQP 1.0, part 5, section 5.3.2).
-use Rattle.std.proofs.Common.{arith, Bool, refl, sym, ap, inl, inr, ◌∙◌, ◌≡◌, ◌≢◌, ◌≤◌, ◌⊎◌, ◌++◌, ℕ, List, [], length, IsTrue}
-use Rattle.std.specs.Prelude.{Option, Some, None, Result, Ok, Err, drop}
+use Rattle.std.proofs.Common.{arith, Bool, refl, sym, inl, inr, ◌∙◌, ◌≡◌, ◌≤◌, ◌⊎◌, ◌++◌, ℕ, List, [], length, IsTrue}
+use Rattle.std.specs.Prelude.{Option, Some, None, Ok, Err, drop}
 use Rattle.std.proofs.lemmas.List.{length-append}
 use Rattle.fe2o3_sasl_wire.specs.declared.amqp_types.SaslCode.TheVariants as outcomes
 use Rattle.fe2o3_sasl_wire.specs.declared.sasl_frames.error.Error.TheVariants as faults

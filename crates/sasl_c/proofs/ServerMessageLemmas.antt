@@ -1,6 +1,6 @@
 -- Calls over one struct of a server of SCRAM are calls of one server: `messages_are_of_server`.
-use Rattle.std.proofs.Common.{arith, refl, sym, ap, subst, ◌∙◌, ◌≡◌, ◌≢◌, ◌∷◌, ℕ, List, []}
-use Rattle.std.specs.Prelude.{Bool, true, false, nat_eq, if◌then◌else◌, Option, Some, None, Ok, Err}
+use Rattle.std.proofs.Common.{arith, inl, inr, refl, sym, ap, subst, ◌∙◌, ◌≡◌, ◌≢◌, ◌∷◌, ℕ, List, []}
+use Rattle.std.specs.Prelude.{Bool, true, false, nat_eq, if◌then◌else◌, Option, Some, None, Result, Ok, Err}
 use Rattle.std.specs.Cmp.Lexicographic.{pointwise}
 use Rattle.fe2o3_scram.specs.ActingRights.{may_act}
 use Rattle.fe2o3_scram.specs.ChannelBinding.{expected_header, is_strict}
@@ -16,8 +16,11 @@ use Rattle.fe2o3_scram.specs.declared.scram_messages.channel_binding_flag.Channe
 use Rattle.fe2o3_scram.proofs.lemmas.messages.OneValueLemmas.{one_client_first_value}
 use Rattle.sasl_c.specs.declared.records.ScramRecord.{ScramRecord as Kept}
 use Rattle.sasl_c.specs.declared.server.ScramServer.{ScramServer as Struct}
+use Rattle.sasl_c.specs.declared.status.Status.TheVariants.{ChannelDataLength}
+use Rattle.sasl_c.specs.declared.status.WriteError.{WriteError}
 use Rattle.sasl_c.specs.declared.status.WriteError.TheVariants.{RoomTooSmall, Other}
 use Rattle.sasl_c.specs.Acting.{rights_for}
+use Rattle.sasl_c.specs.Status.{text_answer_number}
 use Rattle.sasl_c.specs.Server.{ClaimedUser, Concludes, ConcludesLogin, IsLoggedIn, IsOpen, MakesChallenge, fresh_server_struct, struct_challenge}
 use Rattle.sasl_c.specs.ServerMessages.{CallsOfServer, CallsOverServer, ChallengeMessage, ChallengesReturn, HasRecordOf, MakesMessage, MessagesAreOfServer, OutcomeMessage, OutcomesReturn, PassesRecord, ServerMessage, ShowsServer, TakesMessage}
 use Rattle.sasl_c.proofs.CallNumberLemmas.{status_not_zero}
@@ -161,18 +164,32 @@ messages_are_of_server provider last calls over = calls_took provider fresh_serv
 
 -- ---- the numbers
 
+-- a number other than 0 that stands for data which are too long
+too_long : (answer : Result (Unit {0}) WriteError) (number : ℕ) (A B : Type 0) → number ≡ text_answer_number answer
+    → answer ≡ Err (Other ChannelDataLength) → B → (number ≡ 0 → A) × (number ≢ 0 → B)
+too_long (Ok done) number A B is same stays = absurd (cc)
+too_long (Err RoomTooSmall) number A B is same stays = absurd (cc)
+too_long (Err (Other status)) number A B is same stays =
+    ((λ zero. absurd (status_not_zero status (sym is ∙ zero))), λ not. stays)
+
 pub challenges_return : ChallengesReturn
-challenges_return rules kept identities nonce text before after number room left (Ok done, is, (fills, opens, asks)) =
+challenges_return rules kept nonce text before after number room left (answer, is, inl (long, same, stays)) =
+    too_long answer number _ (after ≡ before) is same stays.0
+challenges_return rules kept nonce text before after number room left (Ok done, is, inr (short, (fills, opens, asks))) =
     ((λ zero. (fills.0, (fills.1, opens), fills.3, fills.4)), λ not. absurd (not is))
-challenges_return rules kept identities nonce text before after number room left (Err RoomTooSmall, is, (fills, opens, asks)) =
-    ((λ zero. absurd (omega (arith, zero, is))), λ not. opens)
-challenges_return rules kept identities nonce text before after number room left
-    (Err (Other status), is, (fills, opens, asks)) = ((λ zero. absurd (status_not_zero status (sym is ∙ zero))), λ not. opens)
+challenges_return rules kept nonce text before after number room left
+    (Err RoomTooSmall, is, inr (short, (fills, opens, asks))) = ((λ zero. absurd (omega (arith, zero, is))), λ not. opens)
+challenges_return rules kept nonce text before after number room left
+    (Err (Other status), is, inr (short, (fills, opens, asks))) =
+    ((λ zero. absurd (status_not_zero status (sym is ∙ zero))), λ not. opens)
 
 pub outcomes_return : OutcomesReturn
-outcomes_return rules kept identities text before after number room left (Ok done, is, (fills, stays, asks)) =
+outcomes_return rules kept text before after number room left (answer, is, inl (long, same, stays)) =
+    too_long answer number _ (after ≡ before) is same stays.0
+outcomes_return rules kept text before after number room left (Ok done, is, inr (short, (fills, stays, asks))) =
     ((λ zero. (fills.0, fills.1, fills.3, fills.4)), λ not. absurd (not is))
-outcomes_return rules kept identities text before after number room left (Err RoomTooSmall, is, (fills, stays, asks)) =
-    ((λ zero. absurd (omega (arith, zero, is))), λ not. stays)
-outcomes_return rules kept identities text before after number room left (Err (Other status), is, (fills, stays, asks)) =
+outcomes_return rules kept text before after number room left
+    (Err RoomTooSmall, is, inr (short, (fills, stays, asks))) = ((λ zero. absurd (omega (arith, zero, is))), λ not. stays)
+outcomes_return rules kept text before after number room left
+    (Err (Other status), is, inr (short, (fills, stays, asks))) =
     ((λ zero. absurd (status_not_zero status (sym is ∙ zero))), λ not. stays)

@@ -1,16 +1,15 @@
 -- The server of a configuration after a reply: its settings are as before, and its stage is one that is restored as it is.
-use Rattle.std.proofs.Common.{refl, sym, ap, inl, inr, ◌∙◌, ◌≡◌, ◌⊎◌, ◌&&◌, ℕ, List}
-use Rattle.std.specs.Prelude.{Bool, true, false, not, is_some, if◌then◌else◌, Option, Some, None, Result, Ok, Err}
+use Rattle.std.proofs.Common.{refl, sym, ap, inl, inr, ◌∙◌, ◌≡◌, ◌⊎◌, ℕ, List}
+use Rattle.std.specs.Prelude.{Bool, true, false, if◌then◌else◌, Option, Some, None, Result, Ok, Err}
 use Rattle.fe2o3_sasl_wire.specs.declared.sasl_frames.error.Error.{Error}
-use Rattle.fe2o3_sasl_wire.specs.declared.sasl_frames.error.Error.TheVariants as faults
 use Rattle.fe2o3_sasl_wire.specs.SaslFrames as frames
 use Rattle.fe2o3_sasl_wire.specs.SaslFrames.{SaslFrame, canonical}
 use Rattle.fe2o3_scram.specs.ChannelBinding.{is_required}
 use Rattle.fe2o3_scram.specs.ServerFirst.{ServerChallenge}
 use Rattle.fe2o3_scram.specs.declared.hmac.ScramVersion.{ScramVersion}
-use Rattle.fe2o3_sasl_core.specs.Bodies.{carried as sent_or_not, server_says}
-use Rattle.fe2o3_sasl_core.specs.Events.{Given, ServerSays, Failed}
-use Rattle.fe2o3_sasl_core.specs.Runs.{AcceptorAnswers, AcceptorGives, AcceptorSteps}
+use Rattle.fe2o3_sasl_core.specs.Bodies.{carried as sent_or_not}
+use Rattle.fe2o3_sasl_core.specs.Events.{Given, ServerSays}
+use Rattle.fe2o3_sasl_core.specs.Runs.{AcceptorAnswers, AcceptorGives}
 use Rattle.fe2o3_sasl_core.specs.SavedServers.{IsRestored, KeptStage, KeptNothing, KeptAsked, KeptOpen, KeptSignature, KeptLogin, challenge_way, exchange_now, kept_stage, restored_stage}
 use Rattle.fe2o3_sasl_core.specs.Servers.{ExchangeOpen, NotStarted, ResponseAsked, ServerSettings, ServerStage, is_offered_by}
 use Rattle.fe2o3_sasl_core.specs.declared.server.ways.Way.{Way}

@@ -1,6 +1,6 @@
 -- The user name that a frame claims to a server (RFC 5802, section 7; RFC 4616, section 2).
 use Rattle.std.proofs.Common.{arith, ap, Bool, refl, sym, inl, inr, ◌∙◌, ◌≡◌, ◌≢◌, ℕ, List}
-use Rattle.std.specs.Prelude.{IfOk, MatchOption, Option, Some, None, Result, Ok, Err}
+use Rattle.std.specs.Prelude.{IfOk, MatchOption, Option, Some, Result, Ok, Err}
 use Rattle.fe2o3_sasl_wire.specs.declared.sasl_frames.error.Error.{Error}
 use Rattle.fe2o3_sasl_wire.specs.SaslFrames as frames
 use Rattle.fe2o3_sasl_wire.specs.SaslFrames.{SaslFrame, ReadsBody}

@@ -23,6 +23,5 @@ pub mod ClientCalls
 pub mod ClientMessages
 pub mod ServerMessages
 pub mod Peeks
-pub mod Steps
 pub mod Saslprep
 pub mod Texts

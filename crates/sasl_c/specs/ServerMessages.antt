@@ -7,9 +7,11 @@ use Rattle.fe2o3_scram.specs.ScramServer.{ChallengesFrom, ConcludesFrom, Initial
 use Rattle.fe2o3_scram.specs.ServerFirst.{ServerChallenge}
 use Rattle.fe2o3_scram.specs.declared.scram_messages.server_rules.ServerRules.{ServerRules}
 use Rattle.sasl_c.specs.declared.records.ScramRecord.{ScramRecord as Kept}
+use Rattle.sasl_c.specs.declared.rules.ScramRules.{ScramRules as Rules}
 use Rattle.sasl_c.specs.declared.server.ScramServer.{ScramServer as Struct}
 use Rattle.sasl_c.specs.Acting.{rights_for}
 use Rattle.sasl_c.specs.Records.{ShowsRecord}
+use Rattle.sasl_c.specs.Rules.{ByRules, rules_of}
 use Rattle.sasl_c.specs.Server.{Challenges, ClaimedUser, Concludes, FinalAsks, IsLoggedIn, IsOpen, OpensExchange, ReadsFirst, fresh_server_struct}
 use Rattle.sasl_c.specs.Status.{AnswersText, AsksText, Fills, FillsWithin, Room, with_written}
 
@@ -68,20 +70,28 @@ ShowsServer server Initial = server.state ≡ 0
 ShowsServer server (ServerFirstSent challenge stored) = IsOpen server challenge
 ShowsServer server (ServerFinalSent user acts_for) = IsLoggedIn server user acts_for
 
--- the contract of each call says by the number that it returns what it has done: with 0, FE2O3_OK, it is such a call, which
--- has written its message, and with another number it has not changed the struct
+-- a call has changed neither the struct nor its room
+abbrev pub Stays : Struct → Struct → Room → Room → Type 0
+Stays before after room left = (after ≡ before) × (left.bytes ≡ room.bytes) × (left.len ≡ room.len)
+
+-- the contract of each call says by the number that it returns what it has done: with 0, FE2O3_OK, it is such a call by the
+-- rules that its struct of rules means, which has written its message, and with another number it has not changed the struct
 abbrev pub ChallengesReturn : Type 0
-ChallengesReturn = (rules : ServerRules) (kept : Kept) (identities nonce text : List ℕ) (before after : Struct) (number : ℕ)
-    (room left : Room) → AnswersText number (λ answer. Fills (Challenges rules kept nonce text) room left answer
-    × OpensExchange rules kept nonce text before after answer × AsksText (ReadsFirst rules text) answer)
-    → (number ≡ 0 → (message : List ℕ) × MakesMessage rules kept identities (ChallengeMessage nonce text message) before after
+ChallengesReturn = (rules : Rules) (kept : Kept) (nonce text : List ℕ) (before after : Struct) (number : ℕ) (room left : Room)
+    → AnswersText number (λ answer. ByRules rules (Stays before after room left) (λ shown answer.
+    Fills (Challenges shown kept nonce text) room left answer × OpensExchange shown kept nonce text before after answer
+    × AsksText (ReadsFirst shown text) answer) answer)
+    → (number ≡ 0 → (message : List ℕ)
+    × MakesMessage (rules_of rules) kept rules.identities.now (ChallengeMessage nonce text message) before after
     × (left.bytes ≡ with_written message room.bytes) × (left.len ≡ length message)) × (number ≢ 0 → after ≡ before)
 
 abbrev pub OutcomesReturn : Type 0
-OutcomesReturn = (rules : ServerRules) (kept : Kept) (identities text : List ℕ) (before after : Struct) (number : ℕ)
-    (room left : Room) → AnswersText number (λ answer. FillsWithin 90 (Concludes rules identities kept text before after) room
-    left answer × OnErr answer (after ≡ before) × AsksText (FinalAsks rules kept text before) answer)
-    → (number ≡ 0 → (message : List ℕ) × MakesMessage rules kept identities (OutcomeMessage text message) before after
+OutcomesReturn = (rules : Rules) (kept : Kept) (text : List ℕ) (before after : Struct) (number : ℕ) (room left : Room)
+    → AnswersText number (λ answer. ByRules rules (Stays before after room left) (λ shown answer.
+    FillsWithin 90 (Concludes shown rules.identities.now kept text before after) room left answer
+    × OnErr answer (after ≡ before) × AsksText (FinalAsks shown kept text before) answer) answer)
+    → (number ≡ 0 → (message : List ℕ)
+    × MakesMessage (rules_of rules) kept rules.identities.now (OutcomeMessage text message) before after
     × (left.bytes ≡ with_written message room.bytes) × (left.len ≡ length message)) × (number ≢ 0 → after ≡ before)
 
 -- calls over one struct of zeros that are passed what a store has of each user that is named are calls of the library's server

@@ -109,7 +109,7 @@ fn of_code(code: SaslCode) -> Status
 }
 
 /// Returns why a profile rejects what the server sent, as a status.
-pub fn of_profile(fault: ProfileError) -> Status
+fn of_profile(fault: ProfileError) -> Status
     ensures { result ≡ profile_status fault }
 {
     match fault {
@@ -122,7 +122,7 @@ pub fn of_profile(fault: ProfileError) -> Status
 }
 
 /// Why a connection is to be closed, as a status.
-pub fn of_closed(why: CloseReason) -> Status
+fn of_closed(why: CloseReason) -> Status
     ensures { result ≡ closed_status why }
 {
     match why {

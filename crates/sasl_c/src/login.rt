@@ -51,9 +51,9 @@ pub struct Login<'a> {
     ///
     /// - SCRAM sends it in the GS2 header (RFC 5802, section 7). A client that names one tests the extensions like one
     ///   that has a channel.
-    /// - PLAIN sends it as the first part of its message (RFC 4616, section 2), by `fe2o3_sasl_client_receive` and
-    ///   `fe2o3_sasl_client_step`. A client that names one tests its words like a strict one.
-    /// - ANONYMOUS and EXTERNAL do not send it: with one these calls return FE2O3_NOT_IMPLEMENTED. FE2O3_EXTERNAL_AS sends
+    /// - PLAIN sends it as the first part of its message (RFC 4616, section 2), by `fe2o3_sasl_client_receive`. A client
+    ///   that names one tests its words like a strict one.
+    /// - ANONYMOUS and EXTERNAL do not send it: with one this call returns FE2O3_NOT_IMPLEMENTED. FE2O3_EXTERNAL_AS sends
     ///   `username` as the identity.
     pub acts_for: &'a [u8],
 
@@ -66,7 +66,7 @@ pub struct Login<'a> {
 
     /// Whether the client accepts the server's signature in a challenge too, before an outcome without data (RFC 4422,
     /// section 5). 0 means that the signature has to come in the outcome. Any other value accepts it in both. Only
-    /// `fe2o3_sasl_client_receive` and `fe2o3_sasl_client_step` use this field.
+    /// `fe2o3_sasl_client_receive` uses this field.
     pub signature_by_challenge: u32,
 
     /// Whether the client is strict: it reads messages by the grammar of RFC 5802, section 7. 0 is no, any other value

@@ -75,7 +75,7 @@ pub struct ScramRules<'a> {
 
     /// The identities that the claimed user may act for besides itself (RFC 4422, section 2), without escapes, with a zero
     /// byte after each but the last, which may have one too. It is read with the client-final message: look up the
-    /// identities of the user (`fe2o3_scram_server_claimed_user_with_rules`), or only whether it may act for the one that
+    /// identities of the user (`fe2o3_scram_server_claimed_user`), or only whether it may act for the one that
     /// the client names (`fe2o3_scram_server_claimed_identity`). A user who may not act for the identity gets
     /// FE2O3_SERVER_AUTHENTICATION_FAILED, like one with a wrong password.
     pub identities: &'a [u8],

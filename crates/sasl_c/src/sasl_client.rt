@@ -83,7 +83,7 @@ fn client_words<'a>(
 
 impl SaslLogin<'_> {
     /// Returns the hostname, if there is one.
-    pub fn hostname(&self, alloc: Global) -> Result<Option<String>, Status>
+    fn hostname(&self, alloc: Global) -> Result<Option<String>, Status>
         ensures ok { IfOk result (λ hostname. IsHostname self.now (option_map string_bytes hostname)) }
         ensures utf8 { IfOk result (λ _. ¬ HasNoHostname self.now) }
         ensures err { IfErr result (λ status. status ≢ StatusOutOfMemory → (status ≡ NotUtf8) × HasNoHostname self.now) }
@@ -184,7 +184,7 @@ impl SaslLogin<'_> {
 
     /// Returns the profile. That of SCRAM has the client of the struct.
     #[tactic(auto, using(crate::proofs::SaslClientLemmas::no_profiles))]
-    pub fn profile(&self, alloc: Global, scram: &ScramClient) -> Result<SaslProfile, Status>
+    fn profile(&self, alloc: Global, scram: &ScramClient) -> Result<SaslProfile, Status>
         ensures ok { IfOk result (λ profile. IsProfile self.now scram.now (profile_of profile)) }
         ensures err { IfErr result (λ status. status ≢ StatusOutOfMemory → IsNoProfile self.now status) }
     {
@@ -241,7 +241,7 @@ fn after_init(
 
 /// Returns the struct of a profile's SCRAM client, or a fresh one for another profile, whose state says whether an empty
 /// challenge is answered.
-pub fn scram_of(profile: &SaslProfile) -> Option<ScramClient>
+fn scram_of(profile: &SaslProfile) -> Option<ScramClient>
     ensures state { (login : LoginStruct) → ProfileIsReached login (profile_of profile.now)
         → MatchOption result ⊥ (λ scram. IsProfile login scram (profile_of profile.now)) }
     ensures writes { IfSome result (λ scram. WritesProfile scram (profile_of profile.now)) }

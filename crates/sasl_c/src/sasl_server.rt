@@ -194,7 +194,7 @@ impl Choice {
 
 /// What a server of a configuration borrows.
 #[derive(Drop)]
-pub struct Prepared<'a> {
+struct Prepared<'a> {
     records: MultiRecordStore,
     options: ServerOptions,
     transport: Transport<'a>,
@@ -208,19 +208,9 @@ impl Prepared<'_> {
         Server::new(&self.records, &self.options, self.transport).offers_any()
     }
 
-    /// The server before any init.
-    pub fn fresh(&self) -> LoggedServer<'_>
-        ensures { (sasl_server result.server).settings
-            ≡ settings_with self.now.records self.now.options self.now.transport }
-    {
-        LoggedServer {
-            server: Server::new(&self.records, &self.options, self.transport),
-        }
-    }
-
     /// The server that continues what the struct of SCRAM keeps of a login. It has no mock records, so that no HMAC value is
     /// made. `OutOfMemory` is the only error.
-    pub fn restored(&self, alloc: Global, scram: &ScramServer) -> Result<LoggedServer<'_>, Status>
+    fn restored(&self, alloc: Global, scram: &ScramServer) -> Result<LoggedServer<'_>, Status>
         ensures settings { IfOk result (λ made. (sasl_server made.server).settings
             ≡ settings_with self.now.records self.now.options self.now.transport) }
         ensures stage { IfOk result (λ made. RestoresStage scram.now (sasl_server made.server)) }
@@ -328,7 +318,7 @@ impl SaslServerConfig<'_> {
 
     /// What a server of the configuration borrows, if that offers a mechanism.
     #[tactic(auto, using(crate::proofs::SaslServerLemmas::no_offer))]
-    pub fn prepared(&self, alloc: Global) -> Result<Prepared<'_>, Status>
+    fn prepared(&self, alloc: Global) -> Result<Prepared<'_>, Status>
         ensures ok { IfOk result (λ prepared. IsPrepared self.now prepared) }
         ensures tests { IfOk result (λ _. NoneHolds (config_tests self.now)) }
         ensures err { IfErr result (λ status. status ≢ StatusOutOfMemory → IsNoConfig self.now status) }

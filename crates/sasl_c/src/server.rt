@@ -43,8 +43,7 @@ pub struct ScramServer {
     pub acts_for_len: u32,
 
     /// Why the last frame was answered by the outcome Auth, for the server's log only: one of enum fe2o3_rejection, or the
-    /// error of a SCRAM message, one of enum fe2o3_status. Written by `fe2o3_sasl_server_receive` and
-    /// `fe2o3_sasl_server_step`.
+    /// error of a SCRAM message, one of enum fe2o3_status. Written by `fe2o3_sasl_server_receive`.
     pub rejection: u32,
 
     /// The user name, without escapes. While a challenge is open the client only claims it; afterwards it is

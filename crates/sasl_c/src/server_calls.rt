@@ -1,7 +1,7 @@
 //! The calls of a SCRAM server whose state is a struct between them.
 
-ghost use Rattle.std.specs.Prelude.{◌≡◌, ◌≢◌, ◌≤◌, ◌^◌, [], List, ℕ, Option, None, length, Ok, Err, IfOk, IfErr, OnErr};
-ghost use Rattle.fe2o3_scram.specs.ClientFirst.{HasEscapes, client_first_values, default_rules, either_header};
+ghost use Rattle.std.specs.Prelude.{◌≡◌, ◌≢◌, ◌≤◌, ◌^◌, List, ℕ, Option, None, length, Ok, Err, IfOk, IfErr, OnErr};
+ghost use Rattle.fe2o3_scram.specs.ClientFirst.{HasEscapes, client_first_values};
 ghost use Rattle.fe2o3_scram.specs.Credentials.{Record};
 ghost use Rattle.fe2o3_scram.specs.ServerFirst.{ServerChallenge};
 ghost use Rattle.fe2o3_scram.specs.ScramServer.{Initial, ServerFirstSent, challenge_kept, provider_in, state_in, rules_in, mock_in};
@@ -25,15 +25,6 @@ use std::alloc::Global;
 
 /// A server of one user.
 type Machine = ScramAuthenticator<UserRecord>;
-
-/// The rules of a server that accepts both GS2 headers of clients that bind no channel.
-const EITHER_HEADER: ServerRules = ServerRules {
-    accept_cbind_flag_y: true,
-    strict: false,
-    reject_misplaced: false,
-    channels: None,
-    accept_authzid: false,
-};
 
 /// Returns a server over these credentials, with these rules for the messages of a client.
 pub fn server_over<C: ScramCredentialProvider>(
@@ -129,71 +120,12 @@ fn first_into(
     written
 }
 
-/// Answers a client-first message with the server-first message. This starts a new exchange, whatever the state of the
-/// server is. The GS2 header of the message has to be `n,,`.
+/// Answers a client-first message with the server-first message (RFC 5802, section 5.1). This starts a new exchange,
+/// whatever the state of the server is.
 ///
-/// `kept` is the record of the claimed user (`fe2o3_scram_server_claimed_user`), or a mock record
-/// (`fe2o3_scram_record_mock`) for an unknown one. `nonce` is 32 fresh random bytes.
-#[unsafe(no_mangle)]
-pub extern "C" fn fe2o3_scram_server_first(
-    alloc: Global,
-    kept: &ScramRecord,
-    server: &mut ScramServer,
-    nonce: &[u8; 32],
-    client_first: &[u8],
-    out: &mut [u8],
-    out_len: &mut usize,
-) -> u32
-    ensures { AnswersText result (λ answer. Fills (Challenges default_rules kept.now nonce.now client_first.now)
-        (record { bytes = out.old; len = out_len.old }) (record { bytes = out.new; len = out_len.new }) answer
-        × OpensExchange default_rules kept.now nonce.now client_first.now server.old server.new answer
-        × AsksText (ReadsFirst default_rules client_first.now) answer) }
-{
-    text_number(first_into(
-        alloc,
-        ServerRules::new(),
-        kept,
-        server,
-        nonce,
-        client_first,
-        out,
-        out_len,
-    ))
-}
-
-/// Answers a client-first message like `fe2o3_scram_server_first`, but also accepts the GS2 header `y,,`: the client
-/// supports channel binding, and was offered no mechanism with `-PLUS` (RFC 5802, section 6). Only for a server that
-/// offers none.
-#[unsafe(no_mangle)]
-pub extern "C" fn fe2o3_scram_server_first_with_cbind_flag_y(
-    alloc: Global,
-    kept: &ScramRecord,
-    server: &mut ScramServer,
-    nonce: &[u8; 32],
-    client_first: &[u8],
-    out: &mut [u8],
-    out_len: &mut usize,
-) -> u32
-    ensures { AnswersText result (λ answer. Fills (Challenges either_header kept.now nonce.now client_first.now)
-        (record { bytes = out.old; len = out_len.old }) (record { bytes = out.new; len = out_len.new }) answer
-        × OpensExchange either_header kept.now nonce.now client_first.now server.old server.new answer
-        × AsksText (ReadsFirst either_header client_first.now) answer) }
-{
-    text_number(first_into(
-        alloc,
-        EITHER_HEADER,
-        kept,
-        server,
-        nonce,
-        client_first,
-        out,
-        out_len,
-    ))
-}
-
-/// Answers a client-first message like `fe2o3_scram_server_first`, by these rules (RFC 5802, section 5.1). Pass the
-/// same rules to `fe2o3_scram_server_final_with_rules`. With rules of zeros the call does what
-/// `fe2o3_scram_server_first` does.
+/// Pass the same rules to `fe2o3_scram_server_final`. Rules of zeros are those of a server without options. `kept` is the
+/// record of the claimed user (`fe2o3_scram_server_claimed_user`), or a mock record (`fe2o3_scram_record_mock`) for an
+/// unknown one. `nonce` is 32 fresh random bytes.
 ///
 /// If the server binds channels, the GS2 header has to be `p=` with the name of a kind whose data the rules have
 /// (section 6). Otherwise it has to be `n,,`, or `y,,` if the rules accept that. It may name an identity to act for, as
@@ -212,7 +144,7 @@ pub extern "C" fn fe2o3_scram_server_first_with_cbind_flag_y(
 /// - FE2O3_TOO_LONG if a text of the challenge does not fit into the struct,
 /// - FE2O3_ROOM_TOO_SMALL.
 #[unsafe(no_mangle)]
-pub extern "C" fn fe2o3_scram_server_first_with_rules(
+pub extern "C" fn fe2o3_scram_server_first(
     alloc: Global,
     rules: &ScramRules<'_>,
     kept: &ScramRecord,
@@ -276,29 +208,15 @@ fn first_by_rules(
 
 /// Writes the user name that a client-first message claims, without escapes. Nobody is authenticated yet: use it only
 /// to look up the record.
-#[unsafe(no_mangle)]
-pub extern "C" fn fe2o3_scram_server_claimed_user(
-    alloc: Global,
-    client_first: &[u8],
-    out: &mut [u8],
-    out_len: &mut usize,
-) -> u32
-    ensures { AnswersText result (λ answer. Fills (ClaimedUser either_header client_first.now)
-        (record { bytes = out.old; len = out_len.old }) (record { bytes = out.new; len = out_len.new }) answer
-        × AsksText (HasEscapes either_header client_first.now) answer) }
-{
-    text_number(claimed_into(alloc, EITHER_HEADER, client_first, out, out_len))
-}
-
-/// Writes the user name that a client-first message claims, like `fe2o3_scram_server_claimed_user`, by these rules (RFC
-/// 5802, section 5.1). If the server binds channels, the GS2 header has to be one that
-/// `fe2o3_scram_server_first_with_rules` accepts. Otherwise `n,,` and `y,,` are both accepted here, whatever the rules
-/// say: with rules of zeros the call does what `fe2o3_scram_server_claimed_user` does.
 ///
-/// The errors are those of `fe2o3_scram_server_first_with_rules` from FE2O3_CHANNEL_DATA_LENGTH to
+/// `rules` are those for `fe2o3_scram_server_first` (RFC 5802, section 5.1). If the server binds channels, the GS2 header
+/// has to be one that `fe2o3_scram_server_first` accepts. Otherwise `n,,` and `y,,` are both accepted here, whatever the
+/// rules say.
+///
+/// The errors are those of `fe2o3_scram_server_first` from FE2O3_CHANNEL_DATA_LENGTH to
 /// FE2O3_SERVER_MISPLACED_ATTRIBUTE, in the same order.
 #[unsafe(no_mangle)]
-pub extern "C" fn fe2o3_scram_server_claimed_user_with_rules(
+pub extern "C" fn fe2o3_scram_server_claimed_user(
     alloc: Global,
     rules: &ScramRules<'_>,
     client_first: &[u8],
@@ -443,44 +361,12 @@ fn conclude(
     Ok(())
 }
 
-/// Answers a client-final message with the server-final message, if its proof is right. Only FE2O3_OK means that the
-/// user is authenticated.
+/// Answers a client-final message with the server-final message, if its proof is right (RFC 5802, section 5.1). Only
+/// FE2O3_OK means that the user is authenticated.
 ///
-/// `kept` is the record that `fe2o3_scram_server_first` was called with. `out` needs 90 bytes, which is tested before
-/// anything is hashed.
-#[unsafe(no_mangle)]
-pub extern "C" fn fe2o3_scram_server_final(
-    alloc: Global,
-    kept: &ScramRecord,
-    server: &mut ScramServer,
-    client_final: &[u8],
-    out: &mut [u8],
-    out_len: &mut usize,
-) -> u32
-    ensures { AnswersText result (λ answer. FillsWithin 90
-        (Concludes default_rules [] kept.now client_final.now server.old server.new)
-        (record { bytes = out.old; len = out_len.old }) (record { bytes = out.new; len = out_len.new }) answer
-        × OnErr answer (server.new ≡ server.old)
-        × AsksText (FinalAsks default_rules kept.now client_final.now server.old) answer) }
-{
-    let mut meter = Meter::new();
-    text_number(conclude(
-        alloc,
-        ServerRules::new(),
-        &[],
-        kept,
-        server,
-        client_final,
-        &mut meter,
-        out,
-        out_len,
-    ))
-}
-
-/// Answers a client-final message like `fe2o3_scram_server_final`, by the rules that
-/// `fe2o3_scram_server_first_with_rules` was called with (RFC 5802, section 5.1). With rules of zeros the call does what
-/// `fe2o3_scram_server_final` does. If the server binds channels, the message has to have the GS2 header of the exchange
-/// and the server's data of its kind (section 6).
+/// `rules` and `kept` are those that `fe2o3_scram_server_first` was called with. `out` needs 90 bytes, which is tested
+/// before anything is hashed. If the server binds channels, the message has to have the GS2 header of the exchange and
+/// the server's data of its kind (section 6).
 ///
 /// The errors are, in this order:
 ///
@@ -500,7 +386,7 @@ pub extern "C" fn fe2o3_scram_server_final(
 /// - FE2O3_SERVER_AUTHENTICATION_FAILED if the proof is wrong, or the user may not act for the identity that the client
 ///   named (RFC 4422, section 2).
 #[unsafe(no_mangle)]
-pub extern "C" fn fe2o3_scram_server_final_with_rules(
+pub extern "C" fn fe2o3_scram_server_final(
     alloc: Global,
     rules: &ScramRules<'_>,
     kept: &ScramRecord,

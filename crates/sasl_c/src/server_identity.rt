@@ -16,7 +16,7 @@ use std::alloc::Global;
 
 /// Writes the identity that a client-first message names to act for, without escapes, or 0 bytes if the client acts for
 /// itself. It is only claimed, like the user's name: use it only to look up whether the user may act for it. The message is
-/// read like by `fe2o3_scram_server_claimed_user_with_rules`, and the errors are the same.
+/// read like by `fe2o3_scram_server_claimed_user`, and the errors are the same.
 #[unsafe(no_mangle)]
 pub extern "C" fn fe2o3_scram_server_claimed_identity(
     alloc: Global,

@@ -23,11 +23,11 @@ pub fn server_calls()
     ensures stored { StoredUsersAreHad }
 {}
 
-/// Any number of calls of `fe2o3_scram_server_first_with_rules` and `fe2o3_scram_server_final_with_rules` over one struct that
+/// Any number of calls of `fe2o3_scram_server_first` and `fe2o3_scram_server_final` over one struct that
 /// begins with zeros, in any order, are calls of one `ScramAuthenticator`, if each call is passed the same rules and what one
 /// store has of the user that is named (`PassesRecord`). Each call that returned FE2O3_OK writes the same message. The
 /// struct after the calls shows the state of that server: the challenge that is open, or the user who has logged in and the
-/// identity that it acts for. The calls without rules are those with rules of zeros.
+/// identity that it acts for.
 ///
 /// `first` and `last` say by the number that a call returns what it has done. A call that returned an error does not
 /// change the struct.

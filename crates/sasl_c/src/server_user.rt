@@ -1,4 +1,4 @@
-//! The user name that the bytes of a connection, or a frame body, claim before a server takes them.
+//! The user name that the bytes of a connection claim before a server takes them.
 
 ghost use Rattle.std.specs.Prelude.{◌≡◌, ◌≢◌, ℕ, List, Some, string_bytes, IfOk, IfErr, OnErr, MatchOption};
 ghost use Rattle.sasl_c.specs.SaslServer.{AnswerNeedsMemory, AnswerNames, BodyAsks, BodyNames, BodyNamesNoUser, FrameAsks, FrameNames, Named, Names, NotNamed, ResponseAsks};
@@ -109,7 +109,7 @@ fn frame_user(
 /// Returns the user name that an expected frame body claims, or `None` if it claims none. `OutOfMemory` is the only
 /// error.
 #[tactic(auto, using(crate::proofs::ServerUserLemmas::body_user))]
-pub fn body_user(
+fn body_user(
     alloc: Global,
     scram: &ScramServer,
     turn: FrameKind,

@@ -300,23 +300,6 @@ class Meters(unittest.TestCase):
             ["receive: Meter::new", "receive: received x2"], C_CONNECTION, first("if out.len() < SENT_MOST {", step)
         )
 
-    def test_a_step_for_c_before_there_is_room(self):
-        for side, call in (
-            ("server", "compute_step(alloc, host, server, body, nonce, &mut Meter::new())"),
-            ("client", "compute_step(alloc, login, client, body, nonce, &mut Meter::new())"),
-        ):
-            path, export = f"crates/sasl_c/src/{side}_steps.rt", f"fe2o3_sasl_{side}_step"
-            step = f"let _ = {call};\n    "
-            with self.subTest(export):
-                self.refused(
-                    [f"{export}: Meter::new x2", f"{export}: compute_step"],
-                    path,
-                    first("let mut meter = Meter::new();", step),
-                )
-                self.refused(
-                    ["step: Meter::new", "step: compute_step x2"], path, first("has_room(out, out_len)?;", step)
-                )
-
     def test_keys_and_passwords_for_c_that_are_stretched_twice(self):
         again = (
             "let _ = CachedKeys::from_password(alloc, version, Password::Prepared(password), salt, iterations,"

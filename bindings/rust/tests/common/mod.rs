@@ -2,7 +2,80 @@
 #![allow(dead_code)]
 
 use fe2o3_sasl_proved::*;
+use std::ops::Deref;
 use std::{fs, path::PathBuf, process};
+
+/// What both sides of a connection send first.
+pub const HEADER: &[u8] = b"AMQP\x03\x01\x00\x00";
+
+/// A frame: its size and its body.
+pub fn sized(body: &[u8]) -> Vec<u8> {
+    [&(body.len() as u32 + 4).to_be_bytes(), body].concat()
+}
+
+/// The body that a side sends, or why its login has failed without an outcome.
+fn answered(sent: &[u8], progress: Progress) -> Result<Vec<u8>, ConnectionError> {
+    use ConnectionError::*;
+    match progress {
+        Progress::Failed(RefusedAuth | RefusedSys | RefusedSysPerm | RefusedSysTemp) => {}
+        Progress::Failed(why) => return Err(why),
+        Progress::InProgress | Progress::Authenticated => {}
+    }
+    Ok(sent.get(4..).unwrap_or_default().to_vec())
+}
+
+/// A client that is passed the bodies of frames: each with its size, after the header.
+pub struct ClientBodies(ClientNegotiation);
+
+impl ClientBodies {
+    pub fn new(profile: impl Into<SaslProfile>, hostname: Option<&str>) -> Self {
+        let mut side = ClientNegotiation::new(profile, hostname);
+        side.receive(HEADER).unwrap();
+        Self(side)
+    }
+
+    pub fn on_frame(&mut self, body: &[u8]) -> Result<Vec<u8>, ConnectionError> {
+        let sent = self.0.receive(&sized(body))?.sent;
+        answered(&sent, self.progress())
+    }
+}
+
+impl Deref for ClientBodies {
+    type Target = ClientNegotiation;
+
+    fn deref(&self) -> &ClientNegotiation {
+        &self.0
+    }
+}
+
+/// A server that is passed the bodies of frames, like [`ClientBodies`].
+pub struct ServerBodies<R: UserRecords + Clone> {
+    side: ServerNegotiation<R>,
+
+    /// The list of mechanisms that it has sent.
+    pub offer: Vec<u8>,
+}
+
+impl<R: UserRecords + Clone> ServerBodies<R> {
+    pub fn new(server: PasswordServer<R>) -> Self {
+        let mut side = ServerNegotiation::new(server);
+        let offer = side.receive(HEADER).unwrap().sent[12..].to_vec();
+        Self { side, offer }
+    }
+
+    pub fn on_frame(&mut self, body: &[u8]) -> Result<Vec<u8>, ConnectionError> {
+        let sent = self.side.receive(&sized(body))?.sent;
+        answered(&sent, self.progress())
+    }
+}
+
+impl<R: UserRecords + Clone> Deref for ServerBodies<R> {
+    type Target = ServerNegotiation<R>;
+
+    fn deref(&self) -> &ServerNegotiation<R> {
+        &self.side
+    }
+}
 
 /// The message as text.
 pub fn text(bytes: &[u8]) -> &str {

@@ -1,5 +1,6 @@
-/* Logins over the bodies of frames (AMQP 1.0, part 5, section 5.3.3), client and server in one program, by each
- * mechanism. Prints a line for each case, and ends with 1 where one of them is not as it should be. */
+/* Logins by each mechanism, client and server in one program, for callers that have the bodies of frames (AMQP 1.0, part 5,
+ * section 5.3.3): each body is passed with its size before it (`client_step`, `server_step`). Prints a line for each case,
+ * and ends with 1 where one of them is not as it should be. */
 #include "fe2o3_sasl.h"
 
 #include <stdio.h>
@@ -61,23 +62,32 @@ static const uint8_t salt[] = {0x5b, 0x6d, 0x99, 0x68, 0x9d, 0x12, 0x35, 0x8e, 0
 #define BARE_OK "\2\1\0\0\0\x53\x44\xc0\3\1\x50\0"
 #define BARE_AUTH "\2\1\0\0\0\x53\x44\xc0\3\1\x50\1"
 
+/* The header of SASL, which both sides send first. */
+#define SASL "AMQP\3\1\0\0"
+
 /* The most bytes of a body: those of a frame of 512 behind its size (part 5, section 5.3.1). */
 struct body {
     uint8_t bytes[508];
     size_t len;
 };
 
+/* The most bytes that a call takes or sends: those of a header and a frame. */
+struct frame {
+    uint8_t bytes[520];
+    size_t len;
+};
+
 /* What both sides of a login keep, and the bodies that were sent, of which the last may be empty. */
 struct exchange {
-    struct fe2o3_scram_client client, client_before;
-    struct fe2o3_scram_server server;
+    struct fe2o3_sasl_client client;
+    struct fe2o3_sasl_server server;
     uint32_t client_progress, server_progress;
     struct body sent[6];
     size_t count;
 };
 
-static const struct fe2o3_scram_client fresh_client;
-static const struct fe2o3_scram_server fresh_server;
+static const struct fe2o3_sasl_client fresh_client;
+static const struct fe2o3_sasl_server fresh_server;
 static const struct fe2o3_scram_keys no_keys;
 static const struct fe2o3_scram_record no_record;
 static int differences;
@@ -93,24 +103,93 @@ static int spells(const struct body *body, const uint8_t *bytes, size_t len)
     return body->len == len && memcmp(body->bytes, bytes, len) == 0;
 }
 
-static int names(const struct fe2o3_scram_server *server, const uint8_t *name, size_t len)
+static int names(const struct fe2o3_sasl_server *server, const uint8_t *name, size_t len)
 {
     struct body user;
-    return fe2o3_scram_server_authenticated_user(server, ROOM(user)) == FE2O3_OK && spells(&user, name, len)
-        && server->rejection == FE2O3_REJECTION_NONE;
+    return fe2o3_scram_server_authenticated_user(&server->scram, ROOM(user)) == FE2O3_OK && spells(&user, name, len)
+        && server->scram.rejection == FE2O3_REJECTION_NONE;
 }
 
-static int names_no_user(const struct fe2o3_scram_server *server)
+static int names_no_user(const struct fe2o3_sasl_server *server)
 {
-    return memcmp(server, &fresh_server, sizeof fresh_server) == 0;
+    return memcmp(&server->scram, &fresh_server.scram, sizeof fresh_server.scram) == 0;
 }
 
 /* Whether a server has rejected the last body for this reason, and keeps nothing else. */
-static int rejects(const struct fe2o3_scram_server *server, uint32_t reason)
+static int rejects(const struct fe2o3_sasl_server *server, uint32_t reason)
 {
-    struct fe2o3_scram_server rest = *server;
-    rest.rejection = FE2O3_REJECTION_NONE;
-    return server->rejection == reason && names_no_user(&rest);
+    struct fe2o3_sasl_server rest = *server;
+    rest.scram.rejection = FE2O3_REJECTION_NONE;
+    return server->scram.rejection == reason && names_no_user(&rest);
+}
+
+/* A frame: four bytes with its size, and its body. */
+static struct frame framed(const uint8_t *body, size_t len)
+{
+    struct frame frame = {{0, 0, (uint8_t)((len + 4) >> 8), (uint8_t)(len + 4)}, len + 4};
+    memcpy(frame.bytes + 4, body, len);
+    return frame;
+}
+
+/* What a call has made of a body that it was passed: the body to send, and how far the login is, or which outcome has
+ * rejected it. Answers the status of the call, or why the connection has failed without an outcome. */
+static uint32_t unframed(uint32_t status, const struct fe2o3_connection *connection, const struct frame *sent,
+    uint32_t *progress, struct body *out)
+{
+    uint32_t stands = connection->progress == FE2O3_FAILED ? connection->why : connection->progress;
+    if (status != FE2O3_OK)
+        return status;
+    if (connection->progress == FE2O3_FAILED && (stands < FE2O3_REFUSED_AUTH || stands > FE2O3_REFUSED_SYS_TEMP))
+        return stands;
+    *progress = stands;
+    out->len = sent->len == 0 ? 0 : sent->len - 4;
+    memcpy(out->bytes, sent->bytes + 4, out->len);
+    return FE2O3_OK;
+}
+
+/* A server takes the header, and sends its own and its list of mechanisms. */
+static uint32_t open_server(const struct fe2o3_sasl_server_config *config, struct fe2o3_sasl_server *server,
+    struct body *offer)
+{
+    struct frame sent;
+    size_t taken;
+    uint32_t status = fe2o3_sasl_server_receive(config, server, TEXT(SASL), server_nonce, &taken, ROOM(sent));
+    if (status == FE2O3_OK) {
+        offer->len = sent.len - 12;
+        memcpy(offer->bytes, sent.bytes + 12, offer->len);
+    }
+    return status;
+}
+
+static uint32_t server_step(const struct fe2o3_sasl_server_config *config, struct fe2o3_sasl_server *server,
+    const uint8_t *body, size_t len, const uint8_t nonce[32], uint32_t *progress, struct body *out)
+{
+    const struct frame came = framed(body, len);
+    struct frame sent;
+    size_t taken;
+    uint32_t status = fe2o3_sasl_server_receive(config, server, GIVEN(came), nonce, &taken, ROOM(sent));
+    return unframed(status, &server->connection, &sent, progress, out);
+}
+
+static uint32_t claimed_user(const struct fe2o3_sasl_server *server, const uint8_t *body, size_t len, struct body *name)
+{
+    const struct frame came = framed(body, len);
+    return fe2o3_sasl_server_claimed_user(server, GIVEN(came), ROOM(*name));
+}
+
+/* A client takes a body, and before the first one the header. */
+static uint32_t client_step(const struct fe2o3_sasl_login *login, struct fe2o3_sasl_client *client, const uint8_t *body,
+    size_t len, uint32_t *progress, struct body *out)
+{
+    const struct frame came = framed(body, len);
+    struct frame sent;
+    size_t taken;
+    uint32_t status = FE2O3_OK;
+    if (client->connection.expected == FE2O3_EXPECTED_HEADER)
+        status = fe2o3_sasl_client_receive(login, client, TEXT(SASL), client_nonce, &taken, ROOM(sent));
+    if (status == FE2O3_OK)
+        status = fe2o3_sasl_client_receive(login, client, GIVEN(came), client_nonce, &taken, ROOM(sent));
+    return unframed(status, &client->connection, &sent, progress, out);
 }
 
 /* A login of this mechanism, of SCRAM by the hash of this version. */
@@ -152,18 +231,34 @@ static struct fe2o3_sasl_server_config config_of(const struct fe2o3_scram_record
     return config;
 }
 
+/* A server of this config that has taken the header. */
+static struct fe2o3_sasl_server opened(const struct fe2o3_sasl_server_config *config)
+{
+    struct fe2o3_sasl_server server = fresh_server;
+    struct body offer;
+    open_server(config, &server, &offer);
+    return server;
+}
+
+/* The list of mechanisms of a config. */
+static uint32_t offer_by(const struct fe2o3_sasl_server_config *config, struct body *offer)
+{
+    struct fe2o3_sasl_server server = fresh_server;
+    return open_server(config, &server, offer);
+}
+
 /* What a server makes of a body, with the record of the user whom the body names, if the config knows one. */
 static uint32_t served(struct exchange *one, const struct fe2o3_sasl_server_config *config, const struct body *came,
     struct body *next)
 {
     struct fe2o3_sasl_server_config with = *config;
     struct body name;
-    uint32_t number = fe2o3_sasl_server_step_claimed_user(&one->server, GIVEN(*came), ROOM(name));
+    uint32_t number = claimed_user(&one->server, GIVEN(*came), &name);
     if (number != FE2O3_OK && number != FE2O3_NAMES_NO_USER)
         return number;
     if (number != FE2O3_OK || !spells(&name, config->username, config->username_len))
         with.records = &no_record;
-    return fe2o3_sasl_server_step(&with, &one->server, GIVEN(*came), server_nonce, &one->server_progress, ROOM(*next));
+    return server_step(&with, &one->server, GIVEN(*came), server_nonce, &one->server_progress, next);
 }
 
 /* A whole login, or one up to the call that is refused. Answers the number of its last call. */
@@ -172,16 +267,14 @@ static uint32_t run(struct exchange *one, const struct fe2o3_sasl_login *login,
 {
     uint32_t number;
     memset(one, 0, sizeof *one);
-    number = fe2o3_sasl_server_offer(config, ROOM(one->sent[0]));
+    number = open_server(config, &one->server, &one->sent[0]);
     while (number == FE2O3_OK && one->client_progress == FE2O3_IN_PROGRESS && ++one->count < 6) {
         const struct body *came = &one->sent[one->count - 1];
         struct body *next = &one->sent[one->count];
-        one->client_before = one->client;
         if (one->count % 2 == 0)
             number = served(one, config, came, next);
         else
-            number = fe2o3_sasl_client_step(login, &one->client, GIVEN(*came), client_nonce, &one->client_progress,
-                ROOM(*next));
+            number = client_step(login, &one->client, GIVEN(*came), &one->client_progress, next);
     }
     return number;
 }
@@ -193,7 +286,7 @@ static int ends(const struct fe2o3_sasl_login *login, const struct fe2o3_sasl_se
 {
     return run(one, login, config) == FE2O3_OK && one->client_progress == progress && one->server_progress == progress
         && one->count < 6 && one->sent[one->count].len == 0
-        && (one->server.rejection == FE2O3_REJECTION_NONE) == (progress == FE2O3_AUTHENTICATED);
+        && (one->server.scram.rejection == FE2O3_REJECTION_NONE) == (progress == FE2O3_AUTHENTICATED);
 }
 
 /* An init without its initial response, and the response that is its initial response. */
@@ -222,67 +315,33 @@ static int ends_late(const struct fe2o3_sasl_login *login, struct fe2o3_sasl_ser
     uint32_t number = FE2O3_OK;
     memset(&one, 0, sizeof one);
     config.mechanisms |= FE2O3_INITIAL_RESPONSE_BY_CHALLENGE;
-    if (fe2o3_sasl_server_offer(&config, ROOM(body)) != FE2O3_OK
-        || fe2o3_sasl_client_step(login, &one.client, GIVEN(body), client_nonce, &one.client_progress, ROOM(init))
-            != FE2O3_OK)
+    if (open_server(&config, &one.server, &body) != FE2O3_OK
+        || client_step(login, &one.client, GIVEN(body), &one.client_progress, &init) != FE2O3_OK)
         return 0;
     withhold(&init, &late, &body);
     if (served(&one, &config, &late, &asks) != FE2O3_OK || !spells(&asks, TEXT(EMPTY_CHALLENGE)))
         return 0;
     for (one.count = 0; number == FE2O3_OK && one.client_progress == FE2O3_IN_PROGRESS && one.count < 4; one.count++) {
         const struct body came = body;
-        number = one.count % 2 == 0
-            ? served(&one, &config, &came, &body)
-            : fe2o3_sasl_client_step(login, &one.client, GIVEN(came), client_nonce, &one.client_progress, ROOM(body));
+        number = one.count % 2 == 0 ? served(&one, &config, &came, &body)
+                                    : client_step(login, &one.client, GIVEN(came), &one.client_progress, &body);
     }
     return number == FE2O3_OK && one.client_progress == progress && one.server_progress == progress
-        && one.server.rejection == reason;
-}
-
-/* Each side with a room that is a byte too small, at a body that would bring it further. */
-static int too_little_room(const struct fe2o3_sasl_login *login, const struct fe2o3_sasl_server_config *config,
-    const struct exchange *whole)
-{
-    struct fe2o3_scram_client client = fresh_client;
-    struct fe2o3_scram_server server = fresh_server;
-    struct body out, before;
-    uint32_t progress = 9;
-    int holds;
-    memset(&out, 0xa5, sizeof out);
-    before = out;
-    holds =
-        fe2o3_sasl_client_step(login, &client, GIVEN(whole->sent[0]), client_nonce, &progress, out.bytes, 507, &out.len)
-            == FE2O3_ROOM_TOO_SMALL
-        && out.len == 508;
-    out.len = 0;
-    holds &= fe2o3_sasl_server_step(config, &server, GIVEN(whole->sent[1]), server_nonce, &progress, out.bytes, 507,
-                 &out.len)
-            == FE2O3_ROOM_TOO_SMALL
-        && out.len == 508;
-    holds &= fe2o3_sasl_server_offer(config, out.bytes, whole->sent[0].len - 1, &out.len) == FE2O3_ROOM_TOO_SMALL
-        && out.len == whole->sent[0].len;
-    holds &= fe2o3_sasl_server_step_claimed_user(&server, GIVEN(whole->sent[1]), out.bytes, 3, &out.len)
-            == FE2O3_ROOM_TOO_SMALL
-        && out.len == 4;
-    return holds && progress == 9 && memcmp(&client, &fresh_client, sizeof client) == 0
-        && memcmp(&server, &fresh_server, sizeof server) == 0 && memcmp(out.bytes, before.bytes, sizeof out.bytes) == 0;
+        && one.server.scram.rejection == reason;
 }
 
 /* The names of the bodies of a login: that of the init, and then that of the open challenge for any response. */
 static int bodies_name(const struct fe2o3_sasl_server_config *config, const struct exchange *whole)
 {
-    struct fe2o3_scram_server server = fresh_server;
+    struct fe2o3_sasl_server server = opened(config);
     struct body name, out;
     uint32_t progress = 9;
-    int holds = fe2o3_sasl_server_step_claimed_user(&server, GIVEN(whole->sent[1]), ROOM(name)) == FE2O3_OK
-        && spells(&name, TEXT("user"));
-    holds &= fe2o3_sasl_server_step_claimed_user(&server, GIVEN(whole->sent[3]), ROOM(name)) == FE2O3_NAMES_NO_USER;
-    holds &= fe2o3_sasl_server_step_claimed_user(&server, GIVEN(whole->sent[0]), ROOM(name)) == FE2O3_NAMES_NO_USER;
-    holds &=
-        fe2o3_sasl_server_step(config, &server, GIVEN(whole->sent[1]), server_nonce, &progress, ROOM(out)) == FE2O3_OK
+    int holds = claimed_user(&server, GIVEN(whole->sent[1]), &name) == FE2O3_OK && spells(&name, TEXT("user"));
+    holds &= claimed_user(&server, GIVEN(whole->sent[3]), &name) == FE2O3_NAMES_NO_USER;
+    holds &= claimed_user(&server, GIVEN(whole->sent[0]), &name) == FE2O3_NAMES_NO_USER;
+    holds &= server_step(config, &server, GIVEN(whole->sent[1]), server_nonce, &progress, &out) == FE2O3_OK
         && progress == FE2O3_IN_PROGRESS;
-    return holds && fe2o3_sasl_server_step_claimed_user(&server, GIVEN(whole->sent[3]), ROOM(name)) == FE2O3_OK
-        && spells(&name, TEXT("user"));
+    return holds && claimed_user(&server, GIVEN(whole->sent[3]), &name) == FE2O3_OK && spells(&name, TEXT("user"));
 }
 
 static void by_scram(const char *mechanism, uint32_t version)
@@ -295,13 +354,14 @@ static void by_scram(const char *mechanism, uint32_t version)
     told(mechanism, "a login",
         ends(&login, &config, FE2O3_AUTHENTICATED, &whole) && names(&whole.server, TEXT("user")));
     told(mechanism, "the login hands out its keys",
-        fe2o3_scram_client_get_keys(&whole.client, &keys) == FE2O3_OK
+        fe2o3_scram_client_get_keys(&whole.client.scram, &keys) == FE2O3_OK
             && fe2o3_scram_keys_make(version, FE2O3_TYPED, TEXT("pencil"), salt, sizeof salt, 4096, &made) == FE2O3_OK
             && memcmp(&keys, &made, sizeof keys) == 0);
     stranger.login.password_len--;
     told(mechanism, "a wrong password",
         ends(&stranger, &config, FE2O3_REFUSED_AUTH, &one) && rejects(&one.server, FE2O3_REJECTION_WRONG_PROOF)
-            && spells(&one.sent[4], TEXT(BARE_AUTH)) && fe2o3_scram_client_get_keys(&one.client, &keys) != FE2O3_OK);
+            && spells(&one.sent[4], TEXT(BARE_AUTH))
+            && fe2o3_scram_client_get_keys(&one.client.scram, &keys) != FE2O3_OK);
     stranger = login;
     stranger.login.username_len--;
     told(mechanism, "an unknown user",
@@ -316,10 +376,8 @@ static void by_scram(const char *mechanism, uint32_t version)
     other.server_key[0] ^= 1;
     told(mechanism, "a server without the verifier is not believed",
         run(&one, &login, &without_verifier) == FE2O3_CLIENT_SERVER_SIGNATURE_MISMATCH && one.count == 5
-            && one.client_progress == FE2O3_IN_PROGRESS
-            && memcmp(&one.client, &one.client_before, sizeof one.client) == 0
-            && fe2o3_scram_client_get_keys(&one.client, &keys) == FE2O3_CLIENT_ILLEGAL_CLIENT_STATE);
-    told(mechanism, "a room that is too small", too_little_room(&login, &config, &whole));
+            && one.client.connection.progress == FE2O3_FAILED
+            && fe2o3_scram_client_get_keys(&one.client.scram, &keys) == FE2O3_CLIENT_ILLEGAL_CLIENT_STATE);
     told(mechanism, "whom a body names", bodies_name(&config, &whole));
 }
 
@@ -331,7 +389,7 @@ static void by_several(void)
     struct fe2o3_sasl_login strong = login_by(FE2O3_SCRAM, FE2O3_SHA_512), usual = login_by(FE2O3_SCRAM, FE2O3_SHA_256);
     struct fe2o3_sasl_login weak = login_by(FE2O3_SCRAM, FE2O3_SHA_1), plain = login_by(FE2O3_PLAIN, 0);
     struct fe2o3_sasl_server_config config = config_of(&records[0]);
-    struct fe2o3_scram_server server = fresh_server;
+    struct fe2o3_sasl_server server = opened(&config);
     struct body out;
     struct exchange one;
     uint32_t progress = 9;
@@ -346,12 +404,12 @@ static void by_several(void)
         ends(&weak, &config, FE2O3_REFUSED_AUTH, &one) && rejects(&one.server, FE2O3_REJECTION_NO_RECORD_FOR_HASH));
     told("several hashes", "PLAIN", ends(&plain, &config, FE2O3_AUTHENTICATED, &one));
     told("several hashes", "the struct keeps the hash of the challenge",
-        fe2o3_sasl_server_step(&config, &server, TEXT(INIT), server_nonce, &progress, ROOM(out)) == FE2O3_OK
-            && spells(&out, TEXT(CHALLENGE)) && server.version == FE2O3_SHA_256
-            && server.rejection == FE2O3_REJECTION_NONE);
-    server.version = 3;
+        server_step(&config, &server, TEXT(INIT), server_nonce, &progress, &out) == FE2O3_OK
+            && spells(&out, TEXT(CHALLENGE)) && server.scram.version == FE2O3_SHA_256
+            && server.scram.rejection == FE2O3_REJECTION_NONE);
+    server.scram.version = 3;
     told("several hashes", "no challenge is open with another number",
-        fe2o3_sasl_server_step(&config, &server, TEXT(RESPONSE), server_nonce, &progress, ROOM(out)) == FE2O3_OK
+        server_step(&config, &server, TEXT(RESPONSE), server_nonce, &progress, &out) == FE2O3_OK
             && progress == FE2O3_REFUSED_AUTH && spells(&out, TEXT(BARE_AUTH))
             && rejects(&server, FE2O3_REJECTION_UNEXPECTED_RESPONSE));
     config.records_count = 0;
@@ -372,16 +430,15 @@ static void by_hand(void)
             && spells(&one.sent[1], TEXT(INIT)) && spells(&one.sent[2], TEXT(CHALLENGE))
             && spells(&one.sent[3], TEXT(RESPONSE)) && spells(&one.sent[4], TEXT(OUTCOME_OK)));
     config.mechanisms = FE2O3_OFFER_SCRAM_SHA_256;
-    told("SCRAM-SHA-256", "offered alone",
-        fe2o3_sasl_server_offer(&config, ROOM(offer)) == FE2O3_OK && spells(&offer, TEXT(OFFERS_SCRAM)));
+    told("SCRAM-SHA-256", "offered alone", offer_by(&config, &offer) == FE2O3_OK && spells(&offer, TEXT(OFFERS_SCRAM)));
     config.mechanisms = 0;
-    told("nothing", "offered", fe2o3_sasl_server_offer(&config, ROOM(offer)) == FE2O3_NO_SUCH_MECHANISM);
+    told("nothing", "offered", offer_by(&config, &offer) == FE2O3_NO_SUCH_MECHANISM);
 }
 
 /* EXTERNAL on a connection whose client the transport has not authenticated. */
 static void without_peer(const struct fe2o3_sasl_login *external, struct fe2o3_sasl_server_config config)
 {
-    struct fe2o3_scram_server server = fresh_server;
+    struct fe2o3_sasl_server server = opened(&config);
     struct body offer, out;
     struct exchange one;
     uint32_t progress = 0;
@@ -389,14 +446,13 @@ static void without_peer(const struct fe2o3_sasl_login *external, struct fe2o3_s
     config.mechanisms = FE2O3_OFFER_ANONYMOUS | FE2O3_OFFER_EXTERNAL;
     told("EXTERNAL", "not offered without a peer", run(&one, external, &config) == FE2O3_NOT_IMPLEMENTED);
     told("EXTERNAL", "an init without a peer",
-        fe2o3_sasl_server_step(&config, &server, TEXT("\2\1\0\0\0\x53\x41\xc0\x12\3\xa3\10EXTERNAL\x40\xa1\4host"),
-            server_nonce, &progress, ROOM(out))
+        server_step(&config, &server, TEXT("\2\1\0\0\0\x53\x41\xc0\x12\3\xa3\10EXTERNAL\x40\xa1\4host"), server_nonce,
+            &progress, &out)
                 == FE2O3_OK
             && progress == FE2O3_REFUSED_AUTH && spells(&out, TEXT(BARE_AUTH))
             && rejects(&server, FE2O3_REJECTION_MECHANISM_NOT_OFFERED));
     config.mechanisms = FE2O3_OFFER_EXTERNAL;
-    told("EXTERNAL", "nothing offered without a peer",
-        fe2o3_sasl_server_offer(&config, ROOM(offer)) == FE2O3_NO_SUCH_MECHANISM);
+    told("EXTERNAL", "nothing offered without a peer", offer_by(&config, &offer) == FE2O3_NO_SUCH_MECHANISM);
 }
 
 static void by_others(void)
@@ -405,6 +461,7 @@ static void by_others(void)
     struct fe2o3_sasl_login plain = login_by(FE2O3_PLAIN, 0), external = login_by(FE2O3_EXTERNAL, 0);
     struct fe2o3_sasl_login anonymous = login_by(FE2O3_ANONYMOUS, 0);
     struct fe2o3_sasl_server_config config = config_of(&record);
+    const struct fe2o3_sasl_server waiting = opened(&config);
     struct body name;
     struct exchange one;
     told("PLAIN", "a login",
@@ -412,8 +469,7 @@ static void by_others(void)
             && spells(&one.sent[1], TEXT("\2\1\0\0\0\x53\x41\xc0\x1c\3\xa3\5PLAIN\xa0\14\0user\0pencil\xa1\4host"))
             && spells(&one.sent[2], TEXT(BARE_OK)));
     told("PLAIN", "whom its init names",
-        fe2o3_sasl_server_step_claimed_user(&fresh_server, GIVEN(one.sent[1]), ROOM(name)) == FE2O3_OK
-            && spells(&name, TEXT("user")));
+        claimed_user(&waiting, GIVEN(one.sent[1]), &name) == FE2O3_OK && spells(&name, TEXT("user")));
     told("PLAIN", "a login without an initial response", ends_late(&plain, config, FE2O3_REJECTION_NONE));
     plain.login.password_len--;
     told("PLAIN", "a wrong password without an initial response",
@@ -431,12 +487,22 @@ static void by_others(void)
     without_peer(&external, config_of(&record));
 }
 
-/* What a client that has sent nothing makes of this body. */
-static uint32_t heard(const struct fe2o3_sasl_login *login, const uint8_t *body, size_t len, uint32_t *progress)
+/* What a client that has sent its header makes of this body. */
+static uint32_t heard(const struct fe2o3_sasl_login *login, const uint8_t *body, size_t len)
 {
-    struct fe2o3_scram_client client = fresh_client;
+    struct fe2o3_sasl_client client = fresh_client;
     struct body out;
-    return fe2o3_sasl_client_step(login, &client, body, len, client_nonce, progress, ROOM(out));
+    uint32_t progress;
+    return client_step(login, &client, body, len, &progress, &out);
+}
+
+/* What a server that has sent its offer makes of this body. */
+static uint32_t asked_of(const struct fe2o3_sasl_server_config *config, const uint8_t *body, size_t len)
+{
+    struct fe2o3_sasl_server server = opened(config);
+    struct body out;
+    uint32_t progress;
+    return server_step(config, &server, body, len, server_nonce, &progress, &out);
 }
 
 /* Bodies that come too soon, or to the wrong side. */
@@ -445,32 +511,21 @@ static void out_of_turn(void)
     struct fe2o3_scram_record record = record_by(FE2O3_SHA_256);
     struct fe2o3_sasl_login scram = login_by(FE2O3_SCRAM, FE2O3_SHA_256), plain = login_by(FE2O3_PLAIN, 0);
     struct fe2o3_sasl_server_config config = config_of(&record);
-    struct fe2o3_scram_server server = fresh_server;
+    struct fe2o3_sasl_server server = opened(&config);
     struct body out;
     uint32_t progress = 9;
     told("SCRAM-SHA-256", "an outcome Ok first is not believed",
-        heard(&scram, TEXT(OUTCOME_OK), &progress) == FE2O3_CLIENT_ILLEGAL_CLIENT_STATE
-            && heard(&scram, TEXT(BARE_OK), &progress) == FE2O3_CLIENT_SERVER_SIGNATURE_MISMATCH && progress == 9);
+        heard(&scram, TEXT(OUTCOME_OK)) == FE2O3_UNEXPECTED_FRAME
+            && heard(&scram, TEXT(BARE_OK)) == FE2O3_UNEXPECTED_FRAME);
     told("SCRAM-SHA-256", "a challenge first is not answered",
-        heard(&scram, TEXT(CHALLENGE), &progress) == FE2O3_CLIENT_ILLEGAL_CLIENT_STATE && progress == 9);
-    told("PLAIN", "an outcome Ok first is believed",
-        heard(&plain, TEXT(BARE_OK), &progress) == FE2O3_OK && progress == FE2O3_AUTHENTICATED);
-    progress = 9;
-    told("PLAIN", "a challenge is not answered",
-        heard(&plain, TEXT(CHALLENGE), &progress) == FE2O3_NOT_IMPLEMENTED && progress == 9);
-    told("a client", "a body that is none of a frame",
-        heard(&plain, TEXT("\2\1\0"), &progress) == FE2O3_MALFORMED_FRAME && progress == 9);
-    told("a server", "a frame that no client sends",
-        fe2o3_sasl_server_step(&config, &server, TEXT(CHALLENGE), server_nonce, &progress, ROOM(out))
-                == FE2O3_NO_SASL_FRAME
-            && progress == 9);
-    told("a server", "a response without a challenge is refused by an outcome",
-        fe2o3_sasl_server_step(&config, &server, TEXT(RESPONSE), server_nonce, &progress, ROOM(out)) == FE2O3_OK
-            && progress == FE2O3_REFUSED_AUTH && spells(&out, TEXT(BARE_AUTH))
-            && rejects(&server, FE2O3_REJECTION_UNEXPECTED_RESPONSE));
+        heard(&scram, TEXT(CHALLENGE)) == FE2O3_UNEXPECTED_FRAME);
+    told("PLAIN", "an outcome Ok first is not believed", heard(&plain, TEXT(BARE_OK)) == FE2O3_UNEXPECTED_FRAME);
+    told("a client", "a body that is none of a frame", heard(&plain, TEXT("\2\1\0\0")) == FE2O3_MALFORMED_FRAME);
+    told("a server", "a frame that no client sends", asked_of(&config, TEXT(CHALLENGE)) == FE2O3_UNEXPECTED_FRAME);
+    told("a server", "a response without a challenge", asked_of(&config, TEXT(RESPONSE)) == FE2O3_UNEXPECTED_FRAME);
     config.mechanisms = FE2O3_OFFER_PLAIN;
     told("a server", "an init of a mechanism that it does not offer",
-        fe2o3_sasl_server_step(&config, &server, TEXT(INIT), server_nonce, &progress, ROOM(out)) == FE2O3_OK
+        server_step(&config, &server, TEXT(INIT), server_nonce, &progress, &out) == FE2O3_OK
             && progress == FE2O3_REFUSED_AUTH && spells(&out, TEXT(BARE_AUTH))
             && rejects(&server, FE2O3_REJECTION_MECHANISM_NOT_OFFERED));
 }
@@ -480,25 +535,22 @@ static void cbind_flag_y(void)
 {
     struct fe2o3_scram_record record = record_by(FE2O3_SHA_256);
     struct fe2o3_sasl_server_config config = config_of(&record);
-    struct fe2o3_scram_server server = fresh_server;
+    struct fe2o3_sasl_server server = opened(&config);
     struct body out;
     uint32_t progress = 9;
     told("SCRAM-SHA-256", "the header `y,,` is refused",
-        fe2o3_sasl_server_step(&config, &server, TEXT(CBIND_FLAG_Y_INIT), server_nonce, &progress, ROOM(out))
-                == FE2O3_OK
+        server_step(&config, &server, TEXT(CBIND_FLAG_Y_INIT), server_nonce, &progress, &out) == FE2O3_OK
             && progress == FE2O3_REFUSED_AUTH && spells(&out, TEXT(BARE_AUTH))
             && rejects(&server, FE2O3_REJECTION_CHANNEL));
     config.mechanisms = FE2O3_OFFER_SCRAM_SHA_256 | FE2O3_ACCEPT_CBIND_FLAG_Y;
+    server = opened(&config);
     told("SCRAM-SHA-256", "the header `y,,` is taken on wish",
-        fe2o3_sasl_server_step(&config, &server, TEXT(CBIND_FLAG_Y_INIT), server_nonce, &progress, ROOM(out))
-                == FE2O3_OK
+        server_step(&config, &server, TEXT(CBIND_FLAG_Y_INIT), server_nonce, &progress, &out) == FE2O3_OK
             && progress == FE2O3_IN_PROGRESS && spells(&out, TEXT(CHALLENGE))
-            && fe2o3_sasl_server_step(&config, &server, TEXT(CBIND_FLAG_Y_RESPONSE), server_nonce, &progress, ROOM(out))
-                == FE2O3_OK
+            && server_step(&config, &server, TEXT(CBIND_FLAG_Y_RESPONSE), server_nonce, &progress, &out) == FE2O3_OK
             && progress == FE2O3_AUTHENTICATED && spells(&out, TEXT(CBIND_FLAG_Y_OK)) && names(&server, TEXT("user")));
     config.mechanisms = FE2O3_ACCEPT_CBIND_FLAG_Y;
-    told("nothing", "offered, but to take `y,,`",
-        fe2o3_sasl_server_offer(&config, ROOM(out)) == FE2O3_NO_SUCH_MECHANISM);
+    told("nothing", "offered, but to take `y,,`", offer_by(&config, &out) == FE2O3_NO_SUCH_MECHANISM);
 }
 
 /* Attributes in the place of extensions, at a server that is not strict and at one that is. */
@@ -506,26 +558,26 @@ static void strict(void)
 {
     struct fe2o3_scram_record record = record_by(FE2O3_SHA_256);
     struct fe2o3_sasl_server_config config = config_of(&record);
-    struct fe2o3_scram_server server = fresh_server;
+    struct fe2o3_sasl_server server = opened(&config);
     struct body out;
     uint32_t progress = 9;
     config.mechanisms = FE2O3_OFFER_SCRAM_SHA_256;
     told("SCRAM-SHA-256", "an attribute of RFC 5802 is ignored as an extension",
-        fe2o3_sasl_server_step(&config, &server, TEXT(ATTRIBUTE_INIT), server_nonce, &progress, ROOM(out)) == FE2O3_OK
+        server_step(&config, &server, TEXT(ATTRIBUTE_INIT), server_nonce, &progress, &out) == FE2O3_OK
             && progress == FE2O3_IN_PROGRESS && spells(&out, TEXT(CHALLENGE)));
     config.mechanisms |= FE2O3_STRICT;
-    server = fresh_server;
+    server = opened(&config);
     told("SCRAM-SHA-256", "a strict server rejects it",
-        fe2o3_sasl_server_step(&config, &server, TEXT(ATTRIBUTE_INIT), server_nonce, &progress, ROOM(out)) == FE2O3_OK
+        server_step(&config, &server, TEXT(ATTRIBUTE_INIT), server_nonce, &progress, &out) == FE2O3_OK
             && progress == FE2O3_REFUSED_AUTH && spells(&out, TEXT(BARE_AUTH))
             && rejects(&server, FE2O3_SERVER_MISPLACED_ATTRIBUTE));
+    server = opened(&config);
     told("SCRAM-SHA-256", "a strict server ignores an extension",
-        fe2o3_sasl_server_step(&config, &server, TEXT(EXTENSION_INIT), server_nonce, &progress, ROOM(out)) == FE2O3_OK
+        server_step(&config, &server, TEXT(EXTENSION_INIT), server_nonce, &progress, &out) == FE2O3_OK
             && progress == FE2O3_IN_PROGRESS && spells(&out, TEXT(CHALLENGE))
-            && server.rejection == FE2O3_REJECTION_NONE);
+            && server.scram.rejection == FE2O3_REJECTION_NONE);
     config.mechanisms = FE2O3_STRICT;
-    told("nothing", "offered, but to be strict",
-        fe2o3_sasl_server_offer(&config, ROOM(out)) == FE2O3_NO_SUCH_MECHANISM);
+    told("nothing", "offered, but to be strict", offer_by(&config, &out) == FE2O3_NO_SUCH_MECHANISM);
 }
 
 /* A server that sends its signature in a challenge. */
@@ -533,64 +585,65 @@ static void signature_by_challenge(void)
 {
     struct fe2o3_scram_record record = record_by(FE2O3_SHA_256);
     struct fe2o3_sasl_server_config config = config_of(&record);
-    struct fe2o3_scram_server server = fresh_server, other;
+    struct fe2o3_sasl_server server = opened(&config), other;
     struct body out;
     uint32_t progress = 9;
     config.mechanisms |= FE2O3_SIGNATURE_BY_CHALLENGE;
     told("SCRAM-SHA-256", "the signature in a challenge",
-        fe2o3_sasl_server_step(&config, &server, TEXT(INIT), server_nonce, &progress, ROOM(out)) == FE2O3_OK
+        server_step(&config, &server, TEXT(INIT), server_nonce, &progress, &out) == FE2O3_OK
             && spells(&out, TEXT(CHALLENGE))
-            && fe2o3_sasl_server_step(&config, &server, TEXT(RESPONSE), server_nonce, &progress, ROOM(out)) == FE2O3_OK
+            && server_step(&config, &server, TEXT(RESPONSE), server_nonce, &progress, &out) == FE2O3_OK
             && progress == FE2O3_IN_PROGRESS && spells(&out, TEXT(SIGNED))
-            && server.state == FE2O3_SCRAM_SERVER_SIGNATURE_SENT && server.rejection == FE2O3_REJECTION_NONE
-            && fe2o3_scram_server_authenticated_user(&server, ROOM(out)) == FE2O3_SERVER_ILLEGAL_AUTHENTICATOR_STATE);
+            && server.scram.state == FE2O3_SCRAM_SERVER_SIGNATURE_SENT && server.scram.rejection == FE2O3_REJECTION_NONE
+            && fe2o3_scram_server_authenticated_user(&server.scram, ROOM(out))
+                == FE2O3_SERVER_ILLEGAL_AUTHENTICATOR_STATE);
     other = server;
     told("SCRAM-SHA-256", "the response to it names no user",
-        fe2o3_sasl_server_step_claimed_user(&server, TEXT(EMPTY_RESPONSE), ROOM(out)) == FE2O3_NAMES_NO_USER);
+        claimed_user(&server, TEXT(EMPTY_RESPONSE), &out) == FE2O3_NAMES_NO_USER);
     told("SCRAM-SHA-256", "an empty response to it logs in",
-        fe2o3_sasl_server_step(&config, &server, TEXT(EMPTY_RESPONSE), server_nonce, &progress, ROOM(out)) == FE2O3_OK
+        server_step(&config, &server, TEXT(EMPTY_RESPONSE), server_nonce, &progress, &out) == FE2O3_OK
             && progress == FE2O3_AUTHENTICATED && spells(&out, TEXT(BARE_OK)) && names(&server, TEXT("user")));
     told("SCRAM-SHA-256", "any other response does not",
-        fe2o3_sasl_server_step(&config, &other, TEXT(RESPONSE), server_nonce, &progress, ROOM(out)) == FE2O3_OK
+        server_step(&config, &other, TEXT(RESPONSE), server_nonce, &progress, &out) == FE2O3_OK
             && progress == FE2O3_REFUSED_AUTH && spells(&out, TEXT(BARE_AUTH))
             && rejects(&other, FE2O3_REJECTION_UNEXPECTED_RESPONSE));
 }
 
 /* A server that has asked for the initial response of SCRAM-SHA-256. */
-static struct fe2o3_scram_server asked(void)
+static struct fe2o3_sasl_server asked(void)
 {
-    struct fe2o3_scram_server server = fresh_server;
-    server.state = FE2O3_SCRAM_SERVER_INITIAL_RESPONSE_ASKED;
-    server.first_len = (uint32_t)sizeof "SCRAM-SHA-256" - 1;
-    memcpy(server.first, "SCRAM-SHA-256", server.first_len);
-    server.nonce_len = (uint32_t)sizeof server_nonce;
-    memcpy(server.nonce, server_nonce, sizeof server_nonce);
+    struct fe2o3_sasl_server server = fresh_server;
+    server.connection.expected = FE2O3_EXPECTED_RESPONSE;
+    server.scram.state = FE2O3_SCRAM_SERVER_INITIAL_RESPONSE_ASKED;
+    server.scram.first_len = (uint32_t)sizeof "SCRAM-SHA-256" - 1;
+    memcpy(server.scram.first, "SCRAM-SHA-256", server.scram.first_len);
+    server.scram.nonce_len = (uint32_t)sizeof server_nonce;
+    memcpy(server.scram.nonce, server_nonce, sizeof server_nonce);
     return server;
 }
 
 /* Whether a server answers a body by this one, with this progress. */
-static int answers(struct fe2o3_scram_server *server, const struct fe2o3_sasl_server_config *config,
-    const uint8_t *came, size_t came_len, const uint8_t *answer, size_t answer_len, uint32_t wanted)
+static int answers(struct fe2o3_sasl_server *server, const struct fe2o3_sasl_server_config *config, const uint8_t *came,
+    size_t came_len, const uint8_t *answer, size_t answer_len, uint32_t wanted)
 {
     struct body out;
     uint32_t progress = 9;
-    return fe2o3_sasl_server_step(config, server, came, came_len, server_nonce, &progress, ROOM(out)) == FE2O3_OK
-        && progress == wanted && spells(&out, answer, answer_len)
-        && (server->rejection == FE2O3_REJECTION_NONE) == (wanted != FE2O3_REFUSED_AUTH);
+    return server_step(config, server, came, came_len, server_nonce, &progress, &out) == FE2O3_OK && progress == wanted
+        && spells(&out, answer, answer_len)
+        && (server->scram.rejection == FE2O3_REJECTION_NONE) == (wanted != FE2O3_REFUSED_AUTH);
 }
 
 /* The end of a login whose initial response came in a response, at a server that was saved before it. */
-static void after_an_empty_challenge(const struct fe2o3_sasl_server_config *config, struct fe2o3_scram_server saved)
+static void after_an_empty_challenge(const struct fe2o3_sasl_server_config *config, struct fe2o3_sasl_server saved)
 {
-    struct fe2o3_scram_server server = saved;
+    struct fe2o3_sasl_server server = saved;
     struct fe2o3_sasl_server_config signing = *config;
     struct body out;
     uint32_t progress = 9;
     told("SCRAM-SHA-256", "the response names the user",
-        fe2o3_sasl_server_step_claimed_user(&server, TEXT(LATE_FIRST), ROOM(out)) == FE2O3_OK
-            && spells(&out, TEXT("user")));
+        claimed_user(&server, TEXT(LATE_FIRST), &out) == FE2O3_OK && spells(&out, TEXT("user")));
     told("SCRAM-SHA-256", "the response is the initial response, with the nonce of the init",
-        fe2o3_sasl_server_step(config, &server, TEXT(LATE_FIRST), client_nonce, &progress, ROOM(out)) == FE2O3_OK
+        server_step(config, &server, TEXT(LATE_FIRST), client_nonce, &progress, &out) == FE2O3_OK
             && progress == FE2O3_IN_PROGRESS && spells(&out, TEXT(CHALLENGE))
             && answers(&server, config, TEXT(RESPONSE), TEXT(OUTCOME_OK), FE2O3_AUTHENTICATED)
             && names(&server, TEXT("user")));
@@ -603,16 +656,14 @@ static void after_an_empty_challenge(const struct fe2o3_sasl_server_config *conf
             && names(&server, TEXT("user")));
     server = saved;
     told("SCRAM-SHA-256", "a second init after the empty challenge",
-        fe2o3_sasl_server_step_claimed_user(&server, TEXT(LATE_INIT), ROOM(out)) == FE2O3_NAMES_NO_USER
-            && answers(&server, config, TEXT(LATE_INIT), TEXT(BARE_AUTH), FE2O3_REFUSED_AUTH)
-            && rejects(&server, FE2O3_REJECTION_UNEXPECTED_INIT));
+        claimed_user(&server, TEXT(LATE_INIT), &out) == FE2O3_NAMES_NO_USER
+            && server_step(config, &server, TEXT(LATE_INIT), server_nonce, &progress, &out) == FE2O3_UNEXPECTED_FRAME);
     server = saved;
     told("SCRAM-SHA-256", "a second init with an initial response",
-        answers(&server, config, TEXT(INIT), TEXT(BARE_AUTH), FE2O3_REFUSED_AUTH)
-            && rejects(&server, FE2O3_REJECTION_UNEXPECTED_INIT));
+        server_step(config, &server, TEXT(INIT), server_nonce, &progress, &out) == FE2O3_UNEXPECTED_FRAME);
     server = saved;
     told("SCRAM-SHA-256", "an empty response to the empty challenge",
-        fe2o3_sasl_server_step_claimed_user(&server, TEXT(EMPTY_RESPONSE), ROOM(out)) == FE2O3_NAMES_NO_USER
+        claimed_user(&server, TEXT(EMPTY_RESPONSE), &out) == FE2O3_NAMES_NO_USER
             && answers(&server, config, TEXT(EMPTY_RESPONSE), TEXT(BARE_AUTH), FE2O3_REFUSED_AUTH)
             && rejects(&server, FE2O3_SERVER_CANNOT_PARSE_GS2_HEADER));
 }
@@ -622,40 +673,41 @@ static void initial_response_by_challenge(void)
 {
     struct fe2o3_scram_record record = record_by(FE2O3_SHA_256);
     struct fe2o3_sasl_server_config config = config_of(&record);
-    struct fe2o3_scram_server server = fresh_server, wanted = asked();
+    struct fe2o3_sasl_server server = opened(&config), wanted = asked();
     struct body out;
     told("SCRAM-SHA-256", "no initial response, which is not asked for",
         answers(&server, &config, TEXT(LATE_INIT), TEXT(BARE_AUTH), FE2O3_REFUSED_AUTH)
             && rejects(&server, FE2O3_REJECTION_NO_INITIAL_RESPONSE));
     config.mechanisms |= FE2O3_INITIAL_RESPONSE_BY_CHALLENGE;
+    server = opened(&config);
     told("SCRAM-SHA-256", "an init without an initial response",
-        fe2o3_sasl_server_step_claimed_user(&server, TEXT(LATE_INIT), ROOM(out)) == FE2O3_NAMES_NO_USER
+        claimed_user(&server, TEXT(LATE_INIT), &out) == FE2O3_NAMES_NO_USER
             && answers(&server, &config, TEXT(LATE_INIT), TEXT(EMPTY_CHALLENGE), FE2O3_IN_PROGRESS)
             && memcmp(&server, &wanted, sizeof server) == 0
-            && fe2o3_scram_server_authenticated_user(&server, ROOM(out)) == FE2O3_SERVER_ILLEGAL_AUTHENTICATOR_STATE);
+            && fe2o3_scram_server_authenticated_user(&server.scram, ROOM(out))
+                == FE2O3_SERVER_ILLEGAL_AUTHENTICATOR_STATE);
     after_an_empty_challenge(&config, server);
-    server = fresh_server;
+    server = opened(&config);
     told("SCRAM-SHA-256", "an init without a hostname too",
         answers(&server, &config, TEXT(LATE_INIT_WITHOUT_HOST), TEXT(EMPTY_CHALLENGE), FE2O3_IN_PROGRESS)
             && memcmp(&server, &wanted, sizeof server) == 0
             && answers(&server, &config, TEXT(LATE_FIRST), TEXT(CHALLENGE), FE2O3_IN_PROGRESS)
             && answers(&server, &config, TEXT(RESPONSE), TEXT(OUTCOME_OK), FE2O3_AUTHENTICATED));
-    server = fresh_server;
+    server = opened(&config);
     told("SCRAM-SHA-256", "an init with its initial response is not asked for it",
         answers(&server, &config, TEXT(INIT), TEXT(CHALLENGE), FE2O3_IN_PROGRESS));
-    server = fresh_server;
+    server = opened(&config);
     told("PLAIN", "an init without an initial response",
         answers(&server, &config, TEXT(LATE_PLAIN_INIT), TEXT(EMPTY_CHALLENGE), FE2O3_IN_PROGRESS)
-            && fe2o3_sasl_server_step_claimed_user(&server, TEXT(LATE_PLAIN), ROOM(out)) == FE2O3_OK
-            && spells(&out, TEXT("user"))
+            && claimed_user(&server, TEXT(LATE_PLAIN), &out) == FE2O3_OK && spells(&out, TEXT("user"))
             && answers(&server, &config, TEXT(LATE_PLAIN), TEXT(BARE_OK), FE2O3_AUTHENTICATED)
             && names(&server, TEXT("user")));
-    server = fresh_server;
+    server = opened(&config);
     told("ANONYMOUS", "an init without an initial response is not asked for it",
         answers(&server, &config, TEXT("\2\1\0\0\0\x53\x41\xc0\14\1\xa3\11ANONYMOUS"), TEXT(BARE_OK),
             FE2O3_AUTHENTICATED));
     server = asked();
-    server.state = 6;
+    server.scram.state = 6;
     told("SCRAM-SHA-256", "a state of before counts as the initial one",
         answers(&server, &config, TEXT(LATE_FIRST), TEXT(BARE_AUTH), FE2O3_REFUSED_AUTH)
             && rejects(&server, FE2O3_REJECTION_UNEXPECTED_RESPONSE));
@@ -665,14 +717,13 @@ static void initial_response_by_challenge(void)
         answers(&server, &config, TEXT(LATE_FIRST), TEXT(BARE_AUTH), FE2O3_REFUSED_AUTH)
             && rejects(&server, FE2O3_REJECTION_UNEXPECTED_RESPONSE));
     config.mechanisms = FE2O3_INITIAL_RESPONSE_BY_CHALLENGE;
-    told("nothing", "offered, but to ask for initial responses",
-        fe2o3_sasl_server_offer(&config, ROOM(out)) == FE2O3_NO_SUCH_MECHANISM);
+    told("nothing", "offered, but to ask for initial responses", offer_by(&config, &out) == FE2O3_NO_SUCH_MECHANISM);
 }
 
-static int acts_for(const struct fe2o3_scram_server *server, const uint8_t *name, size_t len)
+static int acts_for(const struct fe2o3_sasl_server *server, const uint8_t *name, size_t len)
 {
     struct body identity;
-    return fe2o3_scram_server_acts_for(server, ROOM(identity)) == FE2O3_OK && spells(&identity, name, len);
+    return fe2o3_scram_server_acts_for(&server->scram, ROOM(identity)) == FE2O3_OK && spells(&identity, name, len);
 }
 
 /* Logins that ask to act for an identity (RFC 4422, section 2). */
@@ -777,8 +828,7 @@ static void channels(const char *mechanism, uint32_t version)
     told(mechanism, "a client that has seen no -PLUS",
         ends(&login, &config, FE2O3_REFUSED_AUTH, &one) && rejects(&one.server, FE2O3_REJECTION_CHANNEL));
     config.channels.tls_exporter_len = 65;
-    told(mechanism, "data of the channel that are too long",
-        fe2o3_sasl_server_offer(&config, ROOM(offer)) == FE2O3_CHANNEL_DATA_LENGTH);
+    told(mechanism, "data of the channel that are too long", offer_by(&config, &offer) == FE2O3_CHANNEL_DATA_LENGTH);
     config.channels.binds_channel = 0;
     told(mechanism, "which play no part where no channel is bound", ends(&login, &config, FE2O3_AUTHENTICATED, &one));
 }
