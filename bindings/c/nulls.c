@@ -87,12 +87,13 @@ static void messages(void)
     EXPECT(fe2o3_scram_client_first(&login, &client, nonce, one, sizeof one, &one_len), FE2O3_OK);
     EXPECT(fe2o3_scram_server_claimed_identity(&rules, one, one_len, NULL, 0, &two_len), FE2O3_OK);
     EXPECT(two_len, 0);
-    EXPECT(fe2o3_scram_server_first(&record, &server, nonce, NOTHING, two, sizeof two, &two_len),
+    EXPECT(fe2o3_scram_server_first(&rules, &record, &server, nonce, NOTHING, two, sizeof two, &two_len),
         FE2O3_SERVER_CANNOT_PARSE_GS2_HEADER);
-    EXPECT(fe2o3_scram_server_first(&record, &server, nonce, one, one_len, two, sizeof two, &two_len), FE2O3_OK);
+    EXPECT(fe2o3_scram_server_first(&rules, &record, &server, nonce, one, one_len, two, sizeof two, &two_len),
+        FE2O3_OK);
     EXPECT(fe2o3_scram_client_final(&login, &client, NOTHING, NULL, 0, &one_len), FE2O3_ROOM_TOO_SMALL);
     EXPECT(fe2o3_scram_client_final(&login, &client, two, two_len, one, sizeof one, &one_len), FE2O3_OK);
-    EXPECT(fe2o3_scram_server_final(&record, &server, one, one_len, two, sizeof two, &two_len), FE2O3_OK);
+    EXPECT(fe2o3_scram_server_final(&rules, &record, &server, one, one_len, two, sizeof two, &two_len), FE2O3_OK);
     EXPECT(fe2o3_scram_client_verify(&login, &client, NOTHING), FE2O3_CLIENT_SERVER_SIGNATURE_MISMATCH);
     EXPECT(fe2o3_scram_client_verify(&login, &client, two, two_len), FE2O3_OK);
     EXPECT(fe2o3_scram_server_authenticated_user(&server, NULL, 0, &one_len), FE2O3_OK);
