@@ -8,8 +8,7 @@ use crate::frames::view_frame;
 use crate::peeks::{end_of_input, foreign_header, peek_body, wants_nonce};
 use crate::records::ScramRecord;
 use crate::server::{acts_for, authenticated_user, joined, MockSettings, NO_CHALLENGE};
-pub(crate) use crate::users::UserRecords;
-use crate::users::{NotFound, StoreError};
+use crate::users::{NotFound, StoreError, UserRecords};
 use crate::{
     generate_nonce, sys, Channel, ConnectionError, Frame, LoginAttempt, Rejection, ScramVersion,
     DEFAULT_SCRAM_ITERATIONS,
@@ -249,11 +248,6 @@ impl<R: UserRecords + Clone> PasswordServer<R> {
             0 => Ok(Vec::new()),
             _ => self.records.identities(name).map(|identities| joined(&identities)),
         }
-    }
-
-    /// Returns the identities of the claimed user, whom [`Self::records`] has found.
-    pub(crate) fn identities(&self, name: Option<&str>) -> Vec<u8> {
-        name.and_then(|name| self.identities_of(name).ok()).unwrap_or_default()
     }
 
     /// Returns the configuration with the records of a user, and the identities that the user may act for.
