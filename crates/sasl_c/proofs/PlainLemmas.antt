@@ -1,6 +1,6 @@
 -- Messages of PLAIN, and whom they log in (RFC 4616, section 2).
 use Rattle.std.proofs.Common.{arith, true, false, inl, inr, refl, sym, ap, ◌∙◌, ◌+◌, cond, ◌≡◌, ◌≢◌, ◌∷◌, ℕ, List, []}
-use Rattle.std.specs.Prelude.{Bool, Err, Ok, Option, None, Some, IsTrue, ◌↔◌, nat_eq}
+use Rattle.std.specs.Prelude.{Bool, Err, Ok, Option, None, Some, nat_eq}
 use Rattle.std.specs.Cmp.Lexicographic.{pointwise}
 use Rattle.std.proofs.lemmas.Slice.Eq.{bytes_eq-Decides}
 use Rattle.std.specs.Str.{IsUtf8}

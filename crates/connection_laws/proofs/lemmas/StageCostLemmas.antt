@@ -1,6 +1,6 @@
 -- What the answers of a server of all mechanisms cost from a stage on.
 use Rattle.std.proofs.Common.{◌≡◌, ◌⊎◌, ◌+◌, ◌<◌, ◌≤◌, ℕ, Bool, true, false, Option, Some, None, List, [], ◌∷◌, Result, Ok, Err, ap, refl, inl, inr, arith}
-use Rattle.std.specs.Prelude.{MatchOption, codes, option_map}
+use Rattle.std.specs.Prelude.{MatchOption, option_map}
 use Rattle.std.proofs.Math.Nat.{le-max_left, le-max_right}
 use Rattle.std.proofs.lemmas.Bool.{cases_lt}
 use Rattle.fe2o3_sasl_wire.specs.SaslFrames as frames

@@ -1,6 +1,6 @@
 -- A server that knows a name by its mock records makes as many HMAC values: `unknown_names_cost_alike`; and whom PLAIN logs in.
 use Rattle.std.proofs.Common.{◌≡◌, ◌∙◌, ℕ, Bool, true, false, Option, Some, None, List, ap, sym, subst, refl, inl, inr}
-use Rattle.std.specs.Prelude.{MatchOption, codes, if◌then◌else◌, nat_eq}
+use Rattle.std.specs.Prelude.{MatchOption, if◌then◌else◌, nat_eq}
 use Rattle.std.specs.Cmp.Lexicographic.{pointwise}
 use Rattle.fe2o3_sasl_wire.specs.SaslFrames as frames
 use Rattle.fe2o3_sasl_wire.specs.SaslFrames.{SaslFrame}

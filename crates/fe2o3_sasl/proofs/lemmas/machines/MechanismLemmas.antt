@@ -1,5 +1,5 @@
 -- Acceptors and profiles of one mechanism find each other, and PLAIN and ANONYMOUS let in whom they should.
-use Rattle.std.proofs.Common.{◌≡◌, ◌≢◌, ℕ, zero, suc, Bool, true, false, true≢false, Some, None, List, [], ◌∷◌, ◌++◌, get_or, length, if◌then◌else◌, refl, sym, ap, ◌∙◌, subst, arith, codes, inl, inr}
+use Rattle.std.proofs.Common.{◌≡◌, ◌≢◌, ℕ, zero, suc, Bool, true, false, true≢false, None, List, [], ◌∷◌, ◌++◌, get_or, length, if◌then◌else◌, refl, sym, ap, ◌∙◌, subst, arith, codes, inl, inr}
 use Rattle.std.specs.Prelude.{is_some, nat_eq, nat_lt}
 use Rattle.std.specs.List.{Contains}
 use Rattle.std.specs.Cmp.Lexicographic.{pointwise}
