@@ -1,8 +1,5 @@
 pub mod FramesLemmas
 pub mod ServerLemmas
-pub mod OneFrameLemmas
-pub mod ActsAsLemmas
-pub mod StayLemmas
 pub mod PairLemmas
 pub mod BoundPairLemmas
 pub mod ExchangedLemmas
@@ -12,7 +9,6 @@ pub mod CutStepLemmas
 pub mod CutConnectionLemmas
 pub mod RestLemmas
 pub mod CutCallLemmas
-pub mod FunctionLemmas
 pub mod HostileLemmas
 pub mod SmallReplyLemmas
 pub mod ExactSideLemmas

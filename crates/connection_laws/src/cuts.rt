@@ -1,12 +1,9 @@
 //! What two divisions of one stream of bytes into calls have in common.
 
-ghost use Rattle.fe2o3_sasl_core.specs.ExternalServer.{external_machine};
-ghost use Rattle.fe2o3_sasl_core.specs.PlainServer.{plain_machine};
 ghost use Rattle.fe2o3_sasl_core.specs.SaslAcceptor.{acceptor_names, acceptor_machine};
 ghost use Rattle.fe2o3_sasl_core.specs.Servers.{sasl_machine};
 ghost use Rattle.connection_laws.specs.CallPieces.{ClientCallsConnect, ServerCallsConnect};
 ghost use Rattle.connection_laws.specs.Cuts.{IsFunction};
-ghost use Rattle.connection_laws.specs.Functions.{AnyMechanismIsFunction};
 ghost use Rattle.connection_laws.specs.Cuts.{FunctionCallsEndEqually, ServerCallsEndEqually, ClientCallsEndEqually};
 ghost use Rattle.connection_laws.specs.Cuts.{FunctionsEndEqually, ServersEndEqually, ClientsEndEqually};
 ghost use Rattle.connection_laws.specs.Cuts.{FunctionsNegotiateEqually, ServersNegotiateEqually, ClientsNegotiateEqually};
@@ -44,16 +41,12 @@ pub fn one_negotiation<A: HasMechanism>()
     ensures clients { ClientsNegotiateEqually }
 {}
 
-/// States which acceptors have at most one reply to each frame and one state after it, as [`one_result`] requires.
-/// Those of SCRAM, PLAIN and ANONYMOUS do, with mock authentication too, and so do EXTERNAL, PLAIN over records, and a
-/// `Server` of all mechanisms. A server of two acceptors does if both do. Every server that is built of these gives one
+/// States which acceptors have at most one reply to each frame and one state after it, as [`one_result`] requires. Those of
+/// SCRAM, PLAIN and ANONYMOUS do, with mock authentication too, and so does a `Server` of all mechanisms. So each gives one
 /// result for every division of a stream.
-pub fn functions<A: HasMechanism, B: HasMechanism>()
+pub fn functions()
     ensures acceptors { IsFunction acceptor_machine }
-    ensures external { IsFunction external_machine }
-    ensures plain { IsFunction plain_machine }
     ensures server { IsFunction sasl_machine }
-    ensures any_mechanism { AnyMechanismIsFunction A.names B.names A.machine B.machine }
 {}
 
 /// States in which call each byte of a connection arrived, for every acceptor and every client. The calls over a stream make a

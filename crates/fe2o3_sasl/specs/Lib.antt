@@ -26,7 +26,6 @@ pub use Rattle.fe2o3_sasl_core.specs.UnalteredRuns
 pub use Rattle.fe2o3_sasl_core.specs.Laws
 pub use Rattle.fe2o3_sasl_core.specs.MechanismLaws
 pub use Rattle.fe2o3_sasl_core.specs.AnyMechanismLaws
-pub use Rattle.fe2o3_sasl_core.specs.AnyMechanismUsers
 pub use Rattle.fe2o3_sasl_core.specs.StepLaws
 pub use Rattle.fe2o3_sasl_core.specs.CostLaws
 pub use Rattle.fe2o3_sasl_core.specs.UnknownUsers

@@ -9,10 +9,9 @@ ghost use Rattle.fe2o3_sasl.specs.examples.MemoryExamples.{AcceptorsAskForNone, 
 ghost use Rattle.fe2o3_sasl_core.specs.Profiles.{StepAllocates, ViewAllocates};
 ghost use Rattle.fe2o3_sasl_core.specs.Headline.{AnswersOkExactly, ReportsOkExactly, TakenVerifiersAgree};
 ghost use Rattle.fe2o3_sasl_core.specs.CostLaws.{ServerRunsCost, ClientRunsCost};
-ghost use Rattle.fe2o3_sasl_core.specs.AnyMechanismLaws.{AnyMechanismRunsAreSplit, ScramFirstAnswersOkExactly, ScramSecondAnswersOkExactly};
-ghost use Rattle.fe2o3_sasl_core.specs.AnyMechanismUsers.{AnyMechanismNamesUsers};
-ghost use Rattle.fe2o3_sasl_core.specs.UnknownUsers.{MockRecordIsMet, SaltTextsDiffer, UnknownCostsAsMock, UnknownIsMock, UnknownIsMockInBoth};
-ghost use Rattle.fe2o3_sasl_core.specs.StepLaws.{OksLogIn, PlainOksLogIn, ReportedOksAreSigned, VerifiedOnSignature};
+ghost use Rattle.fe2o3_sasl_core.specs.AnyMechanismLaws.{AnyMechanismRunsAreSplit};
+ghost use Rattle.fe2o3_sasl_core.specs.UnknownUsers.{MockRecordIsMet, SaltTextsDiffer, UnknownCostsAsMock, UnknownIsMock};
+ghost use Rattle.fe2o3_sasl_core.specs.StepLaws.{OksLogIn, ReportedOksAreSigned, VerifiedOnSignature};
 ghost use Rattle.fe2o3_sasl_core.specs.Laws.{EveryServer, EveryClient, OneServerHistory, OneClientHistory, SomeServerHistory, SomeClientHistory, AcceptorRunsAreHistories, AcceptorRunsNameUsers, AgreedUsersAreNamed, ProfileRunsAreHistories, KeyedRunsAreRuns, KeyedRunsAreHistories, OksWithinChallenges, RepeatedResponsesAreRefused, OneResponseOneNonce, RefusalsLeaveOpen, PositionsAreUsedOnce, EqualMessagesAgree, NoShortExtensions, OneStrictSideIsEnough, EqualMessagesBindOneChannel, TakenVerifiersAreJudged, ShownProofsAreJudged, OneVerdictEach, OneAuditEach, RepeatedClientPositions, RepeatedServerPositions, RepeatedClientFindings, RepeatedServerFindings, ClientsLogIn, ServersLogIn, ServersWantMemory, ClientsWantMemory, ProfilesWantMemory};
 
 use fe2o3_sasl_core::any_mechanism::HasMechanism;
@@ -54,16 +53,13 @@ pub fn runs_are_histories()
 ///
 /// - SCRAM server: it answers Ok only if a challenge is open, and the body is a response to it whose proof meets the
 ///   record of its user. The acceptor then names that user.
-/// - PLAIN server over records: it answers Ok only if the body is an init with the password of its user's record.
 /// - SCRAM client: it reports Ok only on the signature of the answer that it waits on. That is in the outcome or, if
 ///   the client accepts that, in a challenge before an outcome without data (RFC 4422, section 5).
 ///
-/// A caller's own proof cites them as `oks_log_in`, `plain_oks_log_in` and `reported_oks_are_signed` of
-/// `StepLawLemmas.antt`, and `verified_on_signature` of `SignatureStepLemmas.antt`. Both files are in
-/// `proofs/lemmas/steps` of `fe2o3_sasl_core`.
+/// A caller's own proof cites them as `oks_log_in` and `reported_oks_are_signed` of `StepLawLemmas.antt`, and
+/// `verified_on_signature` of `SignatureStepLemmas.antt`. Both files are in `proofs/lemmas/steps` of `fe2o3_sasl_core`.
 pub fn steps()
     ensures server { OksLogIn }
-    ensures plain { PlainOksLogIn }
     ensures client { ReportedOksAreSigned }
     ensures verified { VerifiedOnSignature }
 {}
@@ -86,7 +82,7 @@ pub fn users()
     ensures agreed { AgreedUsersAreNamed }
 {}
 
-/// A server of several mechanisms, over any list of bodies: each body goes where `part_for` sends it in the state
+/// A server of two acceptors, over any list of bodies: each body goes where `part_for` sends it in the state
 /// before it, to one of the two acceptors or to neither. What goes to one is a run of that one by itself. What
 /// goes to neither is rejected. A proof of your own cites `any_mechanism_runs` of `AnyMechanismLemmas.antt` in
 /// `fe2o3_sasl_core`.
@@ -94,25 +90,12 @@ pub fn any_mechanism<A: HasMechanism, B: HasMechanism>()
     ensures { AnyMechanismRunsAreSplit A.names B.names A.machine B.machine }
 {}
 
-/// A SCRAM acceptor in a server of several mechanisms, over the bodies that go to it: it answers Ok exactly as the
-/// headline says and names exactly the user who has logged in, for any other acceptor.
-pub fn scram_in_any_mechanism<A: HasMechanism>()
-    ensures first { ScramFirstAnswersOkExactly A.names A.machine }
-    ensures second { ScramSecondAnswersOkExactly A.names A.machine }
-{}
-
-/// States which user a server of several mechanisms names after a run. The name is that by the acceptor that was asked
-/// last, and an init of the run asked it, by a mechanism of that acceptor. The run of that acceptor is in
-/// `any_mechanism`.
-pub fn any_mechanism_users<A: HasMechanism, B: HasMechanism>()
-    ensures { AnyMechanismNamesUsers A.names B.names A.machine B.machine }
-{}
-
 /// States what a server with mock authentication shows of an unknown user. Without a record of a name it gives the same
 /// replies to the same events as with the mock record of that name, in every state, with as many HMAC values for each.
-/// A server of two mechanisms, each over its own store, gives the same replies too. A stranger can thus learn of a name
-/// no more than whether its record is the mock record: a salt and two keys that are HMAC values under the server's
-/// secret, and the mock count. The salts of two mechanisms, or of two names, are HMAC values of two different texts.
+/// A stranger can thus learn of a name no more than whether its record is the mock record: a salt and two keys that are
+/// HMAC values under the server's secret, and the mock count. The salts of two mechanisms, or of two names, are HMAC
+/// values of two different texts. `server_logins::unknown_names` of `connection_laws` says this of a `Server` of all
+/// mechanisms.
 ///
 /// A server with mock authentication is a SCRAM server like any other: its provider has a record for each name, and
 /// every law of SCRAM servers holds of it. It accepts an unknown user only by a proof whose key has the mock StoredKey
@@ -120,7 +103,6 @@ pub fn any_mechanism_users<A: HasMechanism, B: HasMechanism>()
 pub fn unknown_users()
     ensures one { UnknownIsMock }
     ensures cost { UnknownCostsAsMock }
-    ensures both { UnknownIsMockInBoth }
     ensures salts { SaltTextsDiffer }
     ensures met { MockRecordIsMet }
 {}
@@ -236,7 +218,7 @@ pub fn worked_clients()
 /// - A server offers what a profile asks for exactly if both are of one mechanism.
 /// - PLAIN lets in the same user with the same password and rejects all others, in words without zero bytes (RFC 4616,
 ///   section 2).
-/// - A server of PLAIN over records names the user and the identity of the profile that it logs in.
+/// - A message of PLAIN that logs its user in by a record names the user and the identity of the profile that sent it.
 /// - ANONYMOUS lets in each client that asks for it.
 /// - A server always offers something, and the six profiles have six names.
 pub fn mechanisms()

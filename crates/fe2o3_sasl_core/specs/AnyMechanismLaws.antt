@@ -1,20 +1,15 @@
--- Laws of a server of several mechanisms, over any list of bodies. Each is the contract of a clause of
--- `laws::any_mechanism`, `laws::scram_in_any_mechanism` or `laws::restrict_mechanisms`.
-use Rattle.std.specs.Prelude.{◌≡◌, ◌↔◌, ℕ, Bool, true, false, not, cond, Option, Some, None, List, [], ◌∷◌, length, zip, Result, Ok}
+-- How a run of a server of two acceptors splits into runs of the two, over any list of bodies: the contract of
+-- `laws::any_mechanism`.
+use Rattle.std.specs.Prelude.{◌≡◌, ℕ, Bool, true, false, cond, Option, Some, None, List, [], ◌∷◌, length, zip, Result, Ok}
 use Rattle.std.specs.List.{AllByRecursion}
 use Rattle.fe2o3_sasl_wire.specs.declared.amqp_types.SaslCode.TheVariants as outcomes
 use Rattle.fe2o3_sasl_wire.specs.declared.sasl_frames.error.Error.{Error}
 use Rattle.fe2o3_sasl_wire.specs.SaslFrames as frames
 use Rattle.fe2o3_sasl_wire.specs.SaslFrames.{SaslFrame}
-use Rattle.fe2o3_scram.specs.Credentials.{Provider}
-use Rattle.fe2o3_scram.specs.ScramServer as server_states
 use Rattle.fe2o3_sasl_core.specs.Bodies.{SpellsBody}
 use Rattle.fe2o3_sasl_core.specs.Events.{Given, ServerSays, Concluded, Failed}
-use Rattle.fe2o3_sasl_core.specs.Headline.{AnswersOkExactly}
 use Rattle.fe2o3_sasl_core.specs.AnyMechanism.{BothStates, any_mechanism_machine, part_for}
 use Rattle.fe2o3_sasl_core.specs.Runs.{Runs, AcceptorGives, AcceptorSteps}
-use Rattle.fe2o3_sasl_core.specs.SaslAcceptor.{Acceptor, ScramAcceptor, acceptor_machine, acceptor_names, acceptor_user}
-use Rattle.fe2o3_sasl_core.specs.ServerHistory.{LoggedIn}
 use Rattle.fe2o3_sasl_core.specs.declared.any_mechanism.Selected.{Selected}
 use Rattle.fe2o3_sasl_core.specs.declared.any_mechanism.Selected.TheVariants.{First, Second}
 
@@ -91,35 +86,3 @@ AnyMechanismRunsAreSplit {S} {T} names others machine other =
     (parts last : BothStates S T) (events : List Given) (replies : List ServerSays)
     → Runs (AcceptorSteps (any_mechanism_machine names others machine other)) parts events replies last
     → (marks : List (Option Selected)) × Splits names others machine other parts events replies last marks
-
--- SCRAM over these bodies, from its first state to this one: it answers Ok exactly as the headline says, and names
--- exactly the user who has logged in
-pub record AnswersAsScram (provider : Provider) (events : List Given) (replies : List ServerSays) (last : Acceptor)
-    : Type 0 where
-  pub exactly : AnswersOkExactly provider events replies
-  pub names : (user : List ℕ)
-      → (acceptor_user last ≡ Some user) ↔ LoggedIn provider events replies (length replies) user
-
--- SCRAM as the first of two acceptors answers as SCRAM over the bodies that went to it
-abbrev pub ScramFirstAnswersOkExactly : {T : Type 0} → (T → List (List ℕ)) → Machine T → Type 0
-ScramFirstAnswersOkExactly {T} others other = (provider : Provider) (second : T) (last : BothStates Acceptor T)
-    (events : List Given) (replies : List ServerSays)
-    → Runs (AcceptorSteps (any_mechanism_machine acceptor_names others acceptor_machine other))
-    (record { first = ScramAcceptor provider server_states.Initial; second = second; selected = None }) events replies last
-    → (marks : List (Option Selected))
-    × Splits acceptor_names others acceptor_machine other
-    (record { first = ScramAcceptor provider server_states.Initial; second = second; selected = None }) events replies last
-    marks
-    × AnswersAsScram provider (those to_first marks events) (those to_first marks replies) last.first
-
--- SCRAM as the second of two acceptors answers as SCRAM over the bodies that went to it
-abbrev pub ScramSecondAnswersOkExactly : {S : Type 0} → (S → List (List ℕ)) → Machine S → Type 0
-ScramSecondAnswersOkExactly {S} names machine = (provider : Provider) (first : S) (last : BothStates S Acceptor)
-    (events : List Given) (replies : List ServerSays)
-    → Runs (AcceptorSteps (any_mechanism_machine names acceptor_names machine acceptor_machine))
-    (record { first = first; second = ScramAcceptor provider server_states.Initial; selected = None }) events replies last
-    → (marks : List (Option Selected))
-    × Splits names acceptor_names machine acceptor_machine
-    (record { first = first; second = ScramAcceptor provider server_states.Initial; selected = None }) events replies last
-    marks
-    × AnswersAsScram provider (those to_second marks events) (those to_second marks replies) last.second

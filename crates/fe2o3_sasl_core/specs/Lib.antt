@@ -27,7 +27,6 @@ pub mod UnalteredRuns
 pub mod Laws
 pub mod MechanismLaws
 pub mod AnyMechanismLaws
-pub mod AnyMechanismUsers
 pub mod LoginAttemptLaws
 pub mod ChallengeCounts
 pub mod StepLaws

@@ -1,6 +1,6 @@
 -- Laws of every acceptor and every profile, of SCRAM and of the other mechanisms. Each is the contract of a clause of
 -- `laws::mechanisms`, `laws::replies` or `laws::users`.
-use Rattle.std.specs.Prelude.{◌≡◌, ◌≢◌, ◌⊎◌, ℕ, Bool, true, false, Option, Some, None, List, [], ◌∷◌, ◌++◌, codes, is_some, map, slice_get, Result, Ok}
+use Rattle.std.specs.Prelude.{◌≡◌, ◌≢◌, ◌⊎◌, ℕ, Bool, true, false, Option, Some, None, List, [], ◌∷◌, ◌++◌, is_some, map, slice_get, Result, Ok}
 use Rattle.std.specs.List.{AllByRecursion, Contains}
 use Rattle.fe2o3_sasl_wire.specs.declared.amqp_types.SaslCode.{SaslCode}
 use Rattle.fe2o3_sasl_wire.specs.declared.amqp_types.SaslCode.TheVariants as outcomes
@@ -13,7 +13,7 @@ use Rattle.fe2o3_sasl_core.specs.ActingProfiles.{CanActFor}
 use Rattle.fe2o3_sasl_core.specs.Events.{Given, Login, ServerSays, Concluded}
 use Rattle.fe2o3_sasl_core.specs.Runs.{Runs, AcceptorSteps}
 use Rattle.fe2o3_sasl_core.specs.SaslAcceptor.{Acceptor, ScramAcceptor, PlainAcceptor, AnonymousAcceptor, acceptor_machine, acceptor_names, acceptor_user, offered, ends_with, NoZero}
-use Rattle.fe2o3_sasl_core.specs.PlainServer.{PlainState, plain_machine}
+use Rattle.fe2o3_sasl_core.specs.PlainServer.{PlainLogsIn, PlainParts, PlainRules, asked_identity}
 use Rattle.fe2o3_sasl_core.specs.Profiles.{Profile, ScramProfile, PlainProfile, AnonymousProfile, ExternalProfile, MessageProfile, AnonymousMessage, initial_response, profile_machine, profile_name, scram_profile}
 use Rattle.fe2o3_sasl_core.specs.declared.sasl_profile.error.ProfileError.{ProfileError}
 
@@ -80,15 +80,13 @@ PlainRefuses = (user password other secret : List ℕ) (accepted : Bool) → NoZ
     → EndsWith (PlainAcceptor user password accepted) (PlainProfile [] other secret) outcomes.Auth
     (PlainAcceptor user password accepted)
 
--- a server of PLAIN over records that answers Ok to the init of a profile names the profile's user and identity, in words
--- that a message can have (RFC 4616, section 2)
+-- a message that a profile of PLAIN sends, and that logs its user in, names the profile's user and identity, in words that a
+-- message can have (RFC 4616, section 2)
 abbrev pub PlainIdentitiesAgree : Type 0
-PlainIdentitiesAgree = (server next : PlainState) (identity user password client_nonce server_nonce : List ℕ)
-    (hostname : Option (List ℕ)) → CanActFor (PlainProfile [] user password) identity
-    → plain_machine server server_nonce
-    (frames.Init (codes "PLAIN") (initial_response (PlainProfile identity user password) client_nonce) hostname)
-    (ends_with outcomes.Ok) next
-    → (next.user ≡ Some user) × (next.acts_for ≡ identity_named (Some identity))
+PlainIdentitiesAgree = (rules : PlainRules) (parts : PlainParts) (identity user password nonce text : List ℕ)
+    → CanActFor (PlainProfile [] user password) identity
+    → initial_response (PlainProfile identity user password) nonce ≡ Some text → PlainLogsIn rules text parts
+    → (parts.user ≡ user) × (asked_identity parts ≡ identity_named (Some identity))
 
 -- ANONYMOUS lets in every client that asks for it (RFC 4505, section 2)
 abbrev pub AnonymousLetsIn : Type 0

@@ -1,39 +1,31 @@
--- What a server answers to PLAIN that tests the password against its users' records (RFC 4616).
-use Rattle.std.specs.Prelude.{◌≡◌, ◌≢◌, ◌⊎◌, ◌≤◌, ◌+◌, ℕ, Bool, true, false, Option, Some, None, List, [], ◌∷◌, ◌++◌, chars, codes, encode_utf8_all, length, option_map, string_bytes}
-use Rattle.std.specs.Arc.{arc_value}
+-- What PLAIN makes of a message: the test of its password against the records of users, and of its identity (RFC 4616).
+use Rattle.std.specs.Prelude.{◌≡◌, ◌≢◌, ◌⊎◌, ◌≤◌, ◌+◌, ℕ, Bool, true, false, Option, Some, None, List, [], ◌∷◌, ◌++◌, chars, encode_utf8_all, length}
 use Rattle.std.specs.Str.{IsAscii, IsUtf8}
 use Rattle.saslprep.specs.Saslprep.{prepared, refusal}
 use Rattle.saslprep.specs.declared.Unassigned.TheVariants.{Allowed}
-use Rattle.fe2o3_sasl_wire.specs.declared.amqp_types.SaslCode.TheVariants as outcomes
-use Rattle.fe2o3_sasl_wire.specs.SaslFrames as frames
-use Rattle.fe2o3_sasl_wire.specs.SaslFrames.{SaslFrame}
-use Rattle.fe2o3_scram.specs.ActingRights.{Rights, may_act, some_rights}
+use Rattle.fe2o3_scram.specs.ActingRights.{Rights, may_act}
 use Rattle.fe2o3_scram.specs.Credentials.{CheckingCosts, MeetsRecord, Store, Record, making_tests, record_at}
 use Rattle.fe2o3_scram.specs.Passwords.{PasswordText, Typed, Prepared}
 use Rattle.fe2o3_scram.specs.Readings.{NoneHolds}
 use Rattle.fe2o3_scram.specs.ScramClient.{identity_named}
 use Rattle.fe2o3_scram.specs.Texts.{Without}
-use Rattle.fe2o3_sasl_core.specs.SaslAcceptor.{InitRejected, ends_with}
 use Rattle.fe2o3_sasl_core.specs.declared.rejection.Rejection.{Rejection}
 use Rattle.fe2o3_sasl_core.specs.declared.rejection.Rejection.TheVariants as reasons
 use Rattle.fe2o3_sasl_core.specs.declared.plain_server.passwords.PlainPasswords.{PlainPasswords}
 use Rattle.fe2o3_sasl_core.specs.declared.plain_server.passwords.PlainPasswords.TheVariants as forms
 use Rattle.fe2o3_sasl_core.specs.declared.plain_server.passwords.PreparedPassword.{PreparedPassword}
 use Rattle.fe2o3_sasl_core.specs.declared.plain_server.passwords.PreparedPassword.TheVariants as texts
-use Rattle.fe2o3_sasl_core.specs.declared.plain_server.PlainServer.{PlainServer}
+use Rattle.fe2o3_sasl_core.specs.declared.plain_server.PlainTest.{PlainTest}
 use Rattle.fe2o3_sasl_core.specs.declared.plain_server.PlainMessage.{PlainMessage}
 
--- a server of PLAIN over records: its provider, its iteration count for an unknown user, the form of its passwords, whether
--- a client may name an identity other than its user, who may act as whom, and the user who has logged in, with the identity
--- that the user acts for
-pub record PlainState : Type 0 where
+-- what a message is tested by: a provider of records, the iteration count for an unknown user, the form of passwords, whether
+-- a message may name an identity other than its user, and who may act as whom
+pub record PlainRules : Type 0 where
   pub provider : Store
   pub count : ℕ
   pub passwords : PlainPasswords
   pub accept_authzid : Bool
   pub rights : Rights
-  pub user : Option (List ℕ)
-  pub acts_for : Option (List ℕ)
 
 -- the parts of a message (RFC 4616, section 2): the identity to act as, or nothing, the user's name, and the password
 pub record PlainParts : Type 0 where
@@ -50,23 +42,15 @@ SpellsPlain message text = IsUtf8 text × Without 0 message.identity × Without 
 abbrev pub asked_identity : PlainParts → Option (List ℕ)
 asked_identity message = identity_named (Some message.identity)
 
--- the identity of a message is one that a server tests: every one, or only the user's own, by whether the server accepts
--- identities
+-- the identity of a message is one that is tested: every one, or only the user's own, by whether identities are accepted
 abbrev pub TakesAuthzid : Bool → PlainParts → Type 0
 TakesAuthzid true message = Unit {0}
 TakesAuthzid false message = (message.identity ≡ []) ⊎ (message.identity ≡ message.user)
 
--- a message that is accepted for a test, by whether the server accepts identities: of some user, with a password of 1 to
--- 1024 bytes
+-- a message that is accepted for a test, by whether identities are accepted: of some user, with a password of 1 to 1024 bytes
 abbrev pub IsTaken : Bool → PlainParts → Type 0
 IsTaken accepts message = TakesAuthzid accepts message × (message.user ≢ []) × (message.password ≢ [])
     × (length message.password ≤ 1024)
-
--- the frame is an init of PLAIN with this message, which is accepted for a test
-abbrev pub AsksPlain : Bool → SaslFrame → PlainParts → Type 0
-AsksPlain accepts (frames.Init mechanism (Some text) hostname) message =
-    (mechanism ≡ codes "PLAIN") × SpellsPlain message text × IsTaken accepts message
-AsksPlain accepts frame message = ⊥
 
 -- the text that SASLprep prepares a text to (RFC 4013, sections 2.1 and 2.2)
 abbrev pub saslprep_text : List ℕ → List ℕ
@@ -93,56 +77,40 @@ HasPassword passwords provider message = (password : PasswordText)
 
 -- a message logs its user in: it has the user's password, and the user may act for the identity that it asks for (RFC
 -- 4616, section 2)
-abbrev pub IsLetIn : PlainState → PlainParts → Type 0
-IsLetIn server message = HasPassword server.passwords server.provider message
-    × (may_act server.rights message.user (asked_identity message) ≡ true)
+abbrev pub IsLetIn : PlainRules → PlainParts → Type 0
+IsLetIn rules message = HasPassword rules.passwords rules.provider message
+    × (may_act rules.rights message.user (asked_identity message) ≡ true)
 
--- the frame logs in the user of this message
-abbrev pub PlainLogsIn : PlainState → SaslFrame → PlainParts → Type 0
-PlainLogsIn server frame message = AsksPlain server.accept_authzid frame message × IsLetIn server message
-
--- the machine of a server of PLAIN: a frame that logs a user in is answered by Ok, and every other by Auth
-abbrev pub plain_machine : PlainState → List ℕ → SaslFrame → SaslFrame → PlainState → Type 0
-plain_machine server nonce frame reply next =
-    ((message : PlainParts) × PlainLogsIn server frame message × (reply ≡ ends_with outcomes.Ok)
-    × (next ≡ record server { user = Some message.user; acts_for = asked_identity message }))
-    ⊎ (((message : PlainParts) → ¬ PlainLogsIn server frame message) × (reply ≡ ends_with outcomes.Auth)
-    × (next ≡ server))
+-- the text is a message that logs its user in: it is accepted for a test, and is let in
+abbrev pub PlainLogsIn : PlainRules → List ℕ → PlainParts → Type 0
+PlainLogsIn rules text message =
+    SpellsPlain message text × IsTaken rules.accept_authzid message × IsLetIn rules message
 
 -- a message is rejected that is not accepted for a test, or whose user does not have its password or may not act for its
 -- identity
-abbrev pub MessageRejected : PlainState → List ℕ → Rejection → Type 0
-MessageRejected server text reasons.InvalidMessage =
-    (message : PlainParts) → SpellsPlain message text → ¬ IsTaken server.accept_authzid message
-MessageRejected server text reasons.WrongPassword = (message : PlainParts) × SpellsPlain message text
-    × IsTaken server.accept_authzid message × ¬ IsLetIn server message
-MessageRejected server text reason = ⊥
+abbrev pub MessageRejected : PlainRules → List ℕ → Rejection → Type 0
+MessageRejected rules text reasons.InvalidMessage =
+    (message : PlainParts) → SpellsPlain message text → ¬ IsTaken rules.accept_authzid message
+MessageRejected rules text reasons.WrongPassword = (message : PlainParts) × SpellsPlain message text
+    × IsTaken rules.accept_authzid message × ¬ IsLetIn rules message
+MessageRejected rules text reason = ⊥
 
--- why a server of PLAIN rejects a frame
-abbrev pub plain_reasons : PlainState → SaslFrame → Rejection → Type 0
-plain_reasons server (frames.Init mechanism response hostname) reason =
-    InitRejected (codes "PLAIN") (MessageRejected server) mechanism response reason
-plain_reasons server frame reason = reason ≡ reasons.UnexpectedResponse
-
--- memory is requested to prepare a password: the server prepares it, and it is not ASCII
-abbrev pub PreparesPassword : PlainState → SaslFrame → Type 0
-PreparesPassword server frame = (server.passwords ≡ forms.Saslprep)
-    × ((message : PlainParts) × AsksPlain server.accept_authzid frame message × ¬ IsAscii message.password)
-
--- where a server of PLAIN allocates: to prepare a password, and to keep the names of a login
-abbrev pub plain_allocates : PlainState → SaslFrame → Type 0
-plain_allocates server frame = PreparesPassword server frame ⊎ ((message : PlainParts) × PlainLogsIn server frame message)
+-- memory is requested to prepare a password: passwords are prepared, and it is not ASCII
+abbrev pub PreparesPassword : PlainRules → List ℕ → Type 0
+PreparesPassword rules text = (rules.passwords ≡ forms.Saslprep) × ((message : PlainParts)
+    × SpellsPlain message text × IsTaken rules.accept_authzid message × ¬ IsAscii message.password)
 
 -- the iteration count of the record, or this one if there is none
 abbrev pub count_or : ℕ → Option Record → ℕ
 count_or count (Some stored) = stored.count
 count_or count None = count
 
--- the frame reaches the test of a password, against a record with this count
-abbrev pub TestsPassword : PlainState → SaslFrame → ℕ → Type 0
-TestsPassword server frame count = (message : PlainParts) × (password : PasswordText)
-    × AsksPlain server.accept_authzid frame message × TestedPassword server.passwords message.password password
-    × (count ≡ count_or server.count (record_at server.provider.records message.user))
+-- the text reaches the test of a password, against a record with this count
+abbrev pub TestsPassword : PlainRules → List ℕ → ℕ → Type 0
+TestsPassword rules text count = (message : PlainParts) × (password : PasswordText)
+    × SpellsPlain message text × IsTaken rules.accept_authzid message
+    × TestedPassword rules.passwords message.password password
+    × (count ≡ count_or rules.count (record_at rules.provider.records message.user))
     × NoneHolds (making_tests password count)
 
 -- the HMAC values of testing the password of a message, as a meter shows them before and after: those of testing the
@@ -152,24 +120,22 @@ TestingCosts passwords text count before after =
     ((password : PasswordText) → TestedPassword passwords text password → CheckingCosts password count before after)
     × (((password : PasswordText) → ¬ TestedPassword passwords text password) → after ≡ before)
 
--- how many HMAC values a server of PLAIN makes (RFC 5802, section 3): to test a password those of making its record, of
--- an unknown user too, and otherwise none
-abbrev pub plain_hmacs : PlainState → SaslFrame → ℕ → Type 0
-plain_hmacs server frame n = ((count : ℕ) × TestsPassword server frame count × (n ≡ count + 2))
-    ⊎ (((count : ℕ) → ¬ TestsPassword server frame count) × (n ≡ 0))
+-- how many HMAC values a message takes (RFC 5802, section 3): to test a password those of making its record, of an unknown
+-- user too, and otherwise none
+abbrev pub plain_hmacs : PlainRules → List ℕ → ℕ → Type 0
+plain_hmacs rules text n = ((count : ℕ) × TestsPassword rules text count × (n ≡ count + 2))
+    ⊎ (((count : ℕ) → ¬ TestsPassword rules text count) × (n ≡ 0))
 
 -- ---- the code's values
 
--- the server that a value is, for this meaning of its store
-abbrev pub plain_state : {C : Type 0} → (C → Store) → PlainServer C → PlainState
-plain_state meaning plain = record {
-  provider = meaning plain.credentials;
-  count = plain.iterations;
-  passwords = plain.passwords;
-  accept_authzid = plain.accept_authzid;
-  rights = some_rights (option_map arc_value plain.rights);
-  user = option_map string_bytes plain.user;
-  acts_for = option_map string_bytes plain.acts_for;
+-- the rules that a test is by, for this meaning of its store
+abbrev pub plain_rules : {C : Type 0} → (C → Store) → PlainTest C → PlainRules
+plain_rules meaning test = record {
+  provider = meaning test.credentials.now;
+  count = test.iterations;
+  passwords = test.passwords;
+  accept_authzid = test.accept_authzid;
+  rights = test.rights.now;
 }
 
 -- the text of a prepared password

@@ -24,7 +24,7 @@ use Rattle.fe2o3_sasl_core.specs.Costs.{acceptor_hmacs}
 use Rattle.fe2o3_sasl_core.specs.ExternalServer.{AsksFor}
 use Rattle.fe2o3_sasl_core.specs.LoginAttempts.{Attempt, IsInitFrame, LateAllocates, RecordsFrame, attempt_of}
 use Rattle.fe2o3_sasl_core.specs.MockChoices.{MockChoice, count_of_unknown, mock_for}
-use Rattle.fe2o3_sasl_core.specs.PlainServer.{IsLetIn, IsTaken, MessageRejected, PlainParts, PlainState, PreparesPassword, SpellsPlain, asked_identity, plain_hmacs}
+use Rattle.fe2o3_sasl_core.specs.PlainServer.{MessageRejected, PlainLogsIn, PlainParts, PlainRules, PreparesPassword, asked_identity, plain_hmacs}
 use Rattle.fe2o3_sasl_core.specs.Runs.{server_reply}
 use Rattle.fe2o3_sasl_core.specs.SaslAcceptor.{ScramAcceptor, ends_with}
 use Rattle.fe2o3_sasl_core.specs.ScramRejections.{FinalRejected, FirstRejected, KnownUsers}
@@ -171,15 +171,13 @@ provider_by settings version plus = mocking (option_map (mock_for version) setti
     (serving (rules_by plus settings.rules) (provider_for version settings.records))
 
 -- and PLAIN a message by this
-abbrev pub plain_by_settings : ServerSettings → PlainState
+abbrev pub plain_by_settings : ServerSettings → PlainRules
 plain_by_settings settings = record {
   provider = provider_for settings.plain_version settings.records;
   count = count_of_unknown settings.plain_count settings.mock;
   passwords = settings.plain_passwords;
   accept_authzid = settings.rules.accept_authzid;
   rights = settings.rights;
-  user = None;
-  acts_for = None;
 }
 
 -- ---- how far a login has come
@@ -254,8 +252,7 @@ ScramInitAnswers settings version plus kept nonce text reply next =
 -- a message of PLAIN logs its user in (RFC 4616, section 2): it is one of these parts, which is accepted for a test; it has
 -- the user's password; and the user may act for the identity that it asks for
 abbrev pub MessageLetsIn : ServerSettings → List ℕ → PlainParts → Type 0
-MessageLetsIn settings text parts = SpellsPlain parts text × IsTaken settings.rules.accept_authzid parts
-    × IsLetIn (plain_by_settings settings) parts
+MessageLetsIn settings text parts = PlainLogsIn (plain_by_settings settings) text parts
 
 -- an init of PLAIN with this message
 abbrev pub PlainInitAnswers : ServerSettings → ServerStage → List ℕ → SaslFrame → ServerStage → Type 0
@@ -406,8 +403,7 @@ sasl_reasons server frame reason = ⊥
 abbrev pub InitAllocates : ServerSettings → Way → Option (List ℕ) → Type 0
 InitAllocates settings ways.External response = AsksFor settings.external response
 InitAllocates settings ways.Plain (Some text) =
-    PreparesPassword (plain_by_settings settings) (frames.Init (codes "PLAIN") (Some text) None)
-    ⊎ ((parts : PlainParts) × MessageLetsIn settings text parts)
+    PreparesPassword (plain_by_settings settings) text ⊎ ((parts : PlainParts) × MessageLetsIn settings text parts)
 InitAllocates settings (ways.Scram version plus) (Some text) = ReachesChallenge (provider_by settings version plus) text
 InitAllocates settings way response = ⊥
 
@@ -431,8 +427,7 @@ abbrev pub init_hmacs : ServerSettings → Way → Option (List ℕ) → ℕ →
 init_hmacs settings (ways.Scram version plus) (Some text) n = let provider = provider_by settings version plus in
     acceptor_hmacs (ScramAcceptor provider Initial)
     (frames.Init (server_mechanism provider.version provider.rules) (Some text) None) n
-init_hmacs settings ways.Plain (Some text) n =
-    plain_hmacs (plain_by_settings settings) (frames.Init (codes "PLAIN") (Some text) None) n
+init_hmacs settings ways.Plain (Some text) n = plain_hmacs (plain_by_settings settings) text n
 init_hmacs settings way response n = n ≡ 0
 
 abbrev pub init_where_hmacs : Bool → ServerSettings → List ℕ → Option (List ℕ) → ℕ → Type 0

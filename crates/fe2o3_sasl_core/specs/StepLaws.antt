@@ -2,7 +2,6 @@
 use Rattle.std.specs.Prelude.{◌≡◌, ◌⊎◌, ℕ, Bool, true, Option, Some, None, List, Ok}
 use Rattle.fe2o3_sasl_wire.specs.declared.amqp_types.SaslCode.TheVariants as outcomes
 use Rattle.fe2o3_sasl_wire.specs.SaslFrames as frames
-use Rattle.fe2o3_sasl_wire.specs.SaslFrames.{SaslFrame}
 use Rattle.fe2o3_scram.specs.declared.scram_messages.server_rules.ServerRules.{ServerRules}
 use Rattle.fe2o3_scram.specs.ActingRights.{Rights}
 use Rattle.fe2o3_scram.specs.ClientKeys.{ClientKeys}
@@ -13,7 +12,6 @@ use Rattle.fe2o3_scram.specs.ScramClient.{ClientSide, ClientState, SignatureVeri
 use Rattle.fe2o3_scram.specs.ScramServer.{ServerState, ServerFinalSent}
 use Rattle.fe2o3_sasl_core.specs.Bodies.{SpellsBody}
 use Rattle.fe2o3_sasl_core.specs.Events.{Given, ClientSays, Answered, Concluded, Reported}
-use Rattle.fe2o3_sasl_core.specs.PlainServer.{PlainLogsIn, PlainParts, PlainState, asked_identity, plain_machine}
 use Rattle.fe2o3_sasl_core.specs.Profiles.{Profile, ScramProfile}
 use Rattle.fe2o3_sasl_core.specs.Runs.{AcceptorSteps, ProfileSteps}
 use Rattle.fe2o3_sasl_core.specs.SaslAcceptor.{Acceptor, ScramAcceptor, acceptor_machine}
@@ -31,14 +29,6 @@ OksLogIn = (provider : Provider) (state : ServerState) (event : Given) (body : L
     → (user : List ℕ) × (acts_for : Option (List ℕ))
     × BodyLogsIn provider.version provider.rules provider.rights state event.body user acts_for
     × (next ≡ ScramAcceptor provider (ServerFinalSent user acts_for))
-
--- an acceptor of PLAIN over records answers Ok only to a body that logs a user in, and then names that user and the identity
--- that the user acts for
-abbrev pub PlainOksLogIn : Type 0
-PlainOksLogIn = (server next : PlainState) (event : Given) (body : List ℕ)
-    → AcceptorSteps plain_machine server event (Concluded outcomes.Ok body) next
-    → (frame : SaslFrame) × (message : PlainParts) × SpellsBody event.body (Ok frame) × PlainLogsIn server frame message
-    × (next ≡ record server { user = Some message.user; acts_for = asked_identity message })
 
 -- an outcome Ok with this data shows a SCRAM client in this state, strict or not, the signature that it waits for (RFC
 -- 5802, section 5);

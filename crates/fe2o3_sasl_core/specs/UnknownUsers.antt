@@ -1,7 +1,7 @@
 -- Unknown users of a server with mock authentication, as a law of pairs: what a stranger sees of a server that does not
 -- know a name is what it sees of one that has the mock record of that name (`mock_record`). RFC 5802 leaves open what
 -- a server answers to an unknown user. Each is the contract of a clause of `laws::unknown_users`.
-use Rattle.std.specs.Prelude.{◌≡◌, ◌↔◌, ◌++◌, ℕ, List, Option, Some, None, codes, take}
+use Rattle.std.specs.Prelude.{◌≡◌, ◌↔◌, ◌++◌, ℕ, List, Some, None, codes, take}
 use Rattle.fe2o3_sasl_wire.specs.SaslFrames.{SaslFrame}
 use Rattle.fe2o3_scram.specs.declared.scram_messages.server_rules.ServerRules.{ServerRules}
 use Rattle.fe2o3_scram.specs.declared.hmac.ScramVersion.{ScramVersion}
@@ -12,14 +12,12 @@ use Rattle.fe2o3_scram.specs.Credentials.{Provider, Store, records_with, records
 use Rattle.fe2o3_scram.specs.Hmac.{digest, hmac_of}
 use Rattle.fe2o3_scram.specs.MockSettings.{MockSettings, mock_record, mocking}
 use Rattle.fe2o3_scram.specs.ScramServer.{ServerState}
-use Rattle.fe2o3_sasl_core.specs.AnyMechanism.{any_mechanism_machine}
 use Rattle.fe2o3_sasl_core.specs.AnyMechanismLaws.{Machine}
 use Rattle.fe2o3_sasl_core.specs.Costs.{acceptor_hmacs}
 use Rattle.fe2o3_sasl_core.specs.Events.{Given, ServerSays}
 use Rattle.fe2o3_sasl_core.specs.Runs.{Runs, AcceptorSteps}
-use Rattle.fe2o3_sasl_core.specs.SaslAcceptor.{Acceptor, ScramAcceptor, acceptor_machine, acceptor_names}
+use Rattle.fe2o3_sasl_core.specs.SaslAcceptor.{Acceptor, ScramAcceptor, acceptor_machine}
 use Rattle.fe2o3_sasl_core.specs.ServerHistory.{Accepted, AcceptsAt, server_at}
-use Rattle.fe2o3_sasl_core.specs.declared.any_mechanism.Selected.{Selected}
 
 -- a server in this state gives these replies to these events
 abbrev pub GivesReplies : {S : Type 0} → Machine S → S → List Given → List ServerSays → Type 0
@@ -65,23 +63,6 @@ UnknownCostsAsMock = (rules : ServerRules) (rights : Rights) (mock : MockSetting
     (state : ServerState) (frame : SaslFrame) (n : ℕ)
     → acceptor_hmacs (mock_server rules rights mock (without_user store name) state) frame n
     ↔ acceptor_hmacs (mock_server rules rights mock (with_mock store mock name) state) frame n
-
--- a server of two mechanisms, each over its own store, that has the name in neither store gives the replies of one that
--- has its mock records
-abbrev pub UnknownIsMockInBoth : Type 0
-UnknownIsMockInBoth = (rules other_rules : ServerRules) (rights other_rights : Rights) (mock other_mock : MockSettings)
-    (store other : Store) (name : List ℕ) (state other_state : ServerState) (asked : Option Selected)
-    → GivesAlike (any_mechanism_machine acceptor_names acceptor_names acceptor_machine acceptor_machine)
-    (record {
-      first = mock_server rules rights mock (without_user store name) state;
-      second = mock_server other_rules other_rights other_mock (without_user other name) other_state;
-      selected = asked;
-    })
-    (record {
-      first = mock_server rules rights mock (with_mock store mock name) state;
-      second = mock_server other_rules other_rights other_mock (with_mock other other_mock name) other_state;
-      selected = asked;
-    })
 
 -- an unknown user is accepted only by a proof whose key has the mock StoredKey as its digest, the HMAC value of the
 -- name after a label

@@ -9,7 +9,6 @@ pub mod any_mechanism;
 pub mod client_options;
 pub mod client_policy;
 pub mod events;
-pub mod external_server;
 pub mod login_attempts;
 mod mechanism_names;
 pub mod plain_server;
@@ -25,9 +24,8 @@ pub use crate::any_mechanism::{AnyMechanism, HasMechanism, Selected};
 pub use crate::client_options::ClientOptions;
 pub use crate::client_policy::{ChoiceError, ClientPolicy, Mechanism, select_mechanism};
 pub use crate::events::{ClientReply, Event, EventError, ServerReply};
-pub use crate::external_server::{ExternalServer, NoExternalIdentity};
 pub use crate::login_attempts::{LoginAttempt, claimed_user};
-pub use crate::plain_server::{MAX_PASSWORD_LEN, PlainPasswords, PlainServer};
+pub use crate::plain_server::{MAX_PASSWORD_LEN, PlainPasswords};
 pub use crate::rejection::Rejection;
 pub use crate::sasl_acceptor::{
     AuthenticatedUser, SaslAcceptor, SaslAcceptorExt, SaslAnonymousMechanism, SaslPlainMechanism,

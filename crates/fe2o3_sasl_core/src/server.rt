@@ -22,6 +22,7 @@ mod stage;
 mod ways;
 
 use crate::OutOfMemory;
+use crate::any_mechanism::HasMechanism;
 use crate::client_policy::Mechanism;
 use crate::events::ServerReply;
 use crate::login_attempts::{LoginAttempt, rejection_of, response_of, with_late};
@@ -520,5 +521,11 @@ impl AuthenticatedUser for Server<'_> {
             Some(login) => login.acts_for.as_deref(),
             None => None,
         }
+    }
+}
+
+impl HasMechanism for Server<'_> {
+    fn has_mechanism(&self, name: &str) -> bool {
+        self.asked(name).is_some()
     }
 }

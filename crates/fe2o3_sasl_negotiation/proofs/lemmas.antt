@@ -16,7 +16,6 @@ pub mod ConnectionLemmas
 pub mod ServerConnectionLemmas
 pub mod ClientConnectionLemmas
 pub mod LoginLemmas
-pub mod NamedUserLemmas
 pub mod ContinueLemmas
 pub mod CostLemmas
 pub mod AnsweredProfileLemmas

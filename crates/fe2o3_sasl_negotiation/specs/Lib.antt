@@ -8,7 +8,6 @@ pub mod Laws
 pub mod Connections
 pub mod Pieces
 pub mod ScramConnections
-pub mod NamedUsers
 pub mod private
 pub mod CostLaws
 pub mod Memory

@@ -10,11 +10,10 @@ ghost use Rattle.fe2o3_sasl_negotiation.specs.Connections.{ServersConnect, Clien
 ghost use Rattle.fe2o3_sasl_negotiation.specs.CostLaws.{ServersCost, ClientsCost, ServersOfAreBounded, ServersAreBounded, ClientsAreBounded};
 ghost use Rattle.fe2o3_sasl_negotiation.specs.ExtendedHeaders.{ExtendedHeadersAreIgnored, ClientsIgnoreExtendedHeaders, PolicyClientsIgnoreExtendedHeaders};
 ghost use Rattle.fe2o3_sasl_negotiation.specs.Laws.{CutsDoNotMatter, ClientCutsDoNotMatter};
-ghost use Rattle.fe2o3_sasl_negotiation.specs.NamedUsers.{AnyMechanismServersLogIn, AnyMechanismStepsLogIn};
 ghost use Rattle.fe2o3_sasl_negotiation.specs.ScramConnections.{ScramServersServe, ScramClientsReport};
 ghost use Rattle.fe2o3_sasl_negotiation.specs.ServerNegotiation.{ServerSideAnswers, ServerReceives};
 
-use fe2o3_sasl_core::{AuthenticatedUser, HasMechanism};
+use fe2o3_sasl_core::AuthenticatedUser;
 
 /// The division of a stream of bytes into calls does not matter: the bytes that the calls take are answered like the
 /// whole, unit by unit, each with the nonce of a call, in order. Which call that is for a frame, [`server_connections`]
@@ -66,14 +65,6 @@ pub fn client_connections()
     ensures connects { ClientsConnect ProfileSteps ClientReceives }
     ensures logged_in { ClientConnectionsLogIn ProfileSteps }
     ensures scram { ScramClientsReport ProfileSteps scram_profile }
-{}
-
-/// The user that a server of several mechanisms has logged in, whatever its bytes are: the init asks for a mechanism
-/// that it offers, the acceptor that has this mechanism answers Ok to the last frame from some state of it, and the server
-/// names that acceptor's user. Which state that is, `any_mechanism` of `connection_laws` says.
-pub fn users_of_any_mechanism<A: HasMechanism, B: HasMechanism>()
-    ensures connections { AnyMechanismServersLogIn A.names B.names A.machine B.machine }
-    ensures steps { AnyMechanismStepsLogIn A.names B.names A.machine B.machine }
 {}
 
 /// Bounds what a connection costs, whatever its bytes are and in whatever calls they are passed. A SCRAM server makes

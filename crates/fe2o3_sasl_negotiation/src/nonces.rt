@@ -1,14 +1,11 @@
 //! Laws of calls that use no nonce. A function with an empty body states its contract, which the check has proved for
 //! every list of bytes.
 
-ghost use Rattle.fe2o3_sasl_core.specs.AnyMechanism.{any_mechanism_machine};
-ghost use Rattle.fe2o3_sasl_core.specs.ExternalServer.{external_machine};
-ghost use Rattle.fe2o3_sasl_core.specs.PlainServer.{plain_machine};
 ghost use Rattle.fe2o3_sasl_core.specs.SaslAcceptor.{acceptor_machine};
 ghost use Rattle.fe2o3_sasl_core.specs.Servers.{sasl_machine};
 ghost use Rattle.fe2o3_sasl_negotiation.specs.Nonces.{ClientsIgnoreNonces, IgnoresResponseNonce, ServersIgnoreNonces};
 
-use fe2o3_sasl_core::{AuthenticatedUser, HasMechanism};
+use fe2o3_sasl_core::AuthenticatedUser;
 
 /// States that a call does the same with every nonce where `wants_nonce` of its side is false. There the nonce needs no
 /// fresh random bytes.
@@ -19,13 +16,9 @@ pub fn unused_nonces<A: AuthenticatedUser>()
     ensures client { ClientsIgnoreNonces }
 {}
 
-/// States which acceptors answer a response alike with every nonce: SCRAM, PLAIN, ANONYMOUS and EXTERNAL, servers of
-/// several of them, and a `Server`. One that asks for an initial response uses the nonce of the init.
-pub fn response_nonces<A: HasMechanism, B: HasMechanism>()
+/// States which acceptors answer a response alike with every nonce: those of SCRAM, PLAIN and ANONYMOUS, and a `Server`. A
+/// `Server` that asks for an initial response uses the nonce of the init.
+pub fn response_nonces()
     ensures acceptors { IgnoresResponseNonce acceptor_machine }
-    ensures external { IgnoresResponseNonce external_machine }
-    ensures plain { IgnoresResponseNonce plain_machine }
-    ensures any_mechanism { IgnoresResponseNonce A.machine → IgnoresResponseNonce B.machine
-        → IgnoresResponseNonce (any_mechanism_machine A.names B.names A.machine B.machine) }
     ensures server { IgnoresResponseNonce sasl_machine }
 {}

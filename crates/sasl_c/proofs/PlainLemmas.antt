@@ -1,6 +1,6 @@
 -- Messages of PLAIN, and whom they log in (RFC 4616, section 2).
 use Rattle.std.proofs.Common.{arith, true, false, inl, inr, refl, sym, ap, ◌∙◌, ◌+◌, cond, ◌≡◌, ◌≢◌, ◌∷◌, ℕ, List, []}
-use Rattle.std.specs.Prelude.{Bool, Err, Ok, Option, None, Some, IsTrue, ◌↔◌, nat_eq}
+use Rattle.std.specs.Prelude.{Bool, Err, Ok, Option, None, Some, nat_eq}
 use Rattle.std.specs.Cmp.Lexicographic.{pointwise}
 use Rattle.std.proofs.lemmas.Slice.Eq.{bytes_eq-Decides}
 use Rattle.std.specs.Str.{IsUtf8}
@@ -12,15 +12,12 @@ use Rattle.fe2o3_scram.specs.declared.scram_messages.error.ServerScramErrorKind.
 use Rattle.fe2o3_scram.specs.ActingRights.{may_act}
 use Rattle.fe2o3_scram.specs.ScramClient.{identity_named}
 use Rattle.fe2o3_scram.specs.Credentials.{MeetsRecord, Record, VersionedRecord}
-use Rattle.fe2o3_sasl_core.specs.PlainServer.{IsTaken, PlainLogsIn, PlainParts, PlainState, SpellsPlain, asked_identity, plain_hmacs, plain_machine}
-use Rattle.fe2o3_sasl_core.specs.SaslAcceptor.{ends_with}
-use Rattle.fe2o3_sasl_wire.specs.SaslFrames.{SaslFrame}
-use Rattle.fe2o3_sasl_wire.specs.declared.amqp_types.SaslCode.TheVariants as outcomes
+use Rattle.fe2o3_sasl_core.specs.PlainServer.{IsTaken, PlainLogsIn, PlainParts, PlainRules, SpellsPlain, asked_identity, plain_hmacs}
 use Rattle.fe2o3_sasl_core.specs.declared.plain_server.passwords.PlainPasswords.{PlainPasswords}
 use Rattle.fe2o3_sasl_core.specs.declared.plain_server.passwords.PlainPasswords.TheVariants as forms
 use Rattle.fe2o3_sasl_core.proofs.lemmas.machines.PlainMessageLemmas.{one_message}
 use Rattle.sasl_c.specs.Acting.{rights_for}
-use Rattle.sasl_c.specs.Plain.{AreTerms, ClaimsPlainIdentity, FirstShown, HasUsersPassword, PlainTerms, VerifiesPlain, VerifyingCosts, form_number, plain_init, plain_server_of, store_of, word_tests}
+use Rattle.sasl_c.specs.Plain.{AreTerms, ClaimsPlainIdentity, FirstShown, HasUsersPassword, PlainTerms, VerifiesPlain, VerifyingCosts, form_number, plain_rules_of, store_of, word_tests}
 use Rattle.sasl_c.specs.Records.{ShowsRecord, stored_of}
 use Rattle.sasl_c.proofs.FieldLemmas.{one_number}
 use Rattle.sasl_c.proofs.StatusLemmas.{carried}
@@ -64,24 +61,6 @@ one_first (kept ∷ rest) found other (inr (none, later)) (inr (also, too)) = on
 
 -- ---- whom a message logs in
 
--- the answer of the server
-pub answers : (server : PlainState) (message nonce : List ℕ) (frame reply : SaslFrame) (next : PlainState) (is : Bool)
-    → frame ≡ plain_init message → plain_machine server nonce frame reply next
-    → (reply ≡ ends_with outcomes.Ok → IsTrue is) → (reply ≡ ends_with outcomes.Auth → ¬ IsTrue is)
-    → IsTrue is ↔ ((parts : PlainParts) × PlainLogsIn server (plain_init message) parts)
-answers server message nonce frame reply next is given machine accepted refused =
-    go (carried (λ (f : SaslFrame). plain_machine server nonce f reply next) frame (plain_init message) given machine)
-  where
-    go : plain_machine server nonce (plain_init message) reply next
-        → IsTrue is ↔ ((parts : PlainParts) × PlainLogsIn server (plain_init message) parts)
-    go (inl (parts, logs, ok, then)) = ((λ held. (parts, logs)), (λ logs. accepted ok))
-    go (inr (none, auth, then)) = ((λ held. absurd (refused auth held)), (λ (parts, logs). absurd (none parts logs)))
-
-pub answer_costs : (server : PlainState) (message : List ℕ) (frame : SaslFrame) (n : ℕ) → frame ≡ plain_init message
-    → plain_hmacs server (plain_init message) n → plain_hmacs server frame n
-answer_costs server message frame n given makes =
-    carried (λ (f : SaslFrame). plain_hmacs server f n) (plain_init message) frame (sym given) makes
-
 found_in : (test : Bool) (mine stored : Record) → cond test (Some mine) None ≡ Some stored → stored ≡ mine
 found_in true mine stored is = cc
 found_in false mine stored is = absurd (cc)
@@ -97,24 +76,23 @@ MayAct terms parts user = may_act (rights_for user terms.identities) parts.user 
 
 -- a message that logs in has its user's password
 pub has_password : (terms : PlainTerms) (records : List Struct) (message user : List ℕ) (parts : PlainParts)
-    (found : Option VersionedRecord) (server : PlainState) → SpellsPlain parts message → user ≡ parts.user
-    → FirstShown records found → server ≡ plain_server_of terms user (store_of user found)
-    → ((other : PlainParts) × PlainLogsIn server (plain_init message) other) → HasUsersPassword terms records message
-has_password terms records message user parts found server is named first same logs =
-    go found first (carried (λ (s : PlainState). (other : PlainParts) × PlainLogsIn s (plain_init message) other) server
-    (plain_server_of terms user (store_of user found)) same logs)
+    (found : Option VersionedRecord) (rules : PlainRules) → SpellsPlain parts message → user ≡ parts.user
+    → FirstShown records found → rules ≡ plain_rules_of terms user (store_of user found)
+    → ((other : PlainParts) × PlainLogsIn rules message other) → HasUsersPassword terms records message
+has_password terms records message user parts found rules is named first same logs =
+    go found first (carried (λ (r : PlainRules). (other : PlainParts) × PlainLogsIn r message other) rules
+    (plain_rules_of terms user (store_of user found)) same logs)
   where
     go : (found : Option VersionedRecord) → FirstShown records found
-        → ((other : PlainParts) × PlainLogsIn (plain_server_of terms user (store_of user found)) (plain_init message) other)
+        → ((other : PlainParts) × PlainLogsIn (plain_rules_of terms user (store_of user found)) message other)
         → HasUsersPassword terms records message
-    go None first (other, logs) = let at = logs.1.0.2.1 in absurd (cc)
+    go None first (other, logs) = let at = logs.2.0.2.1 in absurd (cc)
     go (Some shown) first (other, logs) =
-        let asks = logs.0 in
-        let has = logs.1.0 in (
+        let has = logs.2.0 in (
           other,
           shown,
-          asks.1,
-          asks.2,
+          logs.0,
+          logs.1,
           first,
           (
             has.0,
@@ -122,47 +100,48 @@ has_password terms records message user parts found server is named first same l
             carried (λ (s : Record). MeetsRecord shown.version has.0 s) has.2.0 shown.stored
                 (found_in (pointwise nat_eq user other.user) shown.stored has.2.0 has.2.1) has.2.2,
           ),
-          carried (MayAct terms other) user other.user (one_user message user parts other is named asks.1) logs.1.1,
+          carried (MayAct terms other) user other.user (one_user message user parts other is named logs.0) logs.2.1,
         )
 
 -- and one that has it logs in
 pub password_logs_in : (terms : PlainTerms) (records : List Struct) (message user : List ℕ) (parts : PlainParts)
-    (found : Option VersionedRecord) (server : PlainState) → SpellsPlain parts message → user ≡ parts.user
-    → FirstShown records found → server ≡ plain_server_of terms user (store_of user found)
-    → HasUsersPassword terms records message → (other : PlainParts) × PlainLogsIn server (plain_init message) other
-password_logs_in terms records message user parts found server is named first same
+    (found : Option VersionedRecord) (rules : PlainRules) → SpellsPlain parts message → user ≡ parts.user
+    → FirstShown records found → rules ≡ plain_rules_of terms user (store_of user found)
+    → HasUsersPassword terms records message → (other : PlainParts) × PlainLogsIn rules message other
+password_logs_in terms records message user parts found rules is named first same
     (other, shown, spells, taken, found_first, (password, tested, meets), may) =
     let one = one_first records found (Some shown) first found_first in
     let own : user ≡ other.user = one_user message user parts other is named spells in
     let here : pointwise nat_eq user other.user ≡ true = (bytes_eq-Decides user other.user).1 own in
     let at = carried (λ test. cond test (Some shown.stored) None ≡ Some shown.stored) true
     (pointwise nat_eq user other.user) (sym here) refl in
-    carried (λ (s : PlainState). (other : PlainParts) × PlainLogsIn s (plain_init message) other)
-    (plain_server_of terms user (store_of user (Some shown))) server
-    (sym (same ∙ ap (λ (f : Option VersionedRecord). plain_server_of terms user (store_of user f)) one)) (
+    carried (λ (r : PlainRules). (other : PlainParts) × PlainLogsIn r message other)
+    (plain_rules_of terms user (store_of user (Some shown))) rules
+    (sym (same ∙ ap (λ (f : Option VersionedRecord). plain_rules_of terms user (store_of user f)) one)) (
       other,
       (
-        (refl, spells, taken),
+        spells,
+        taken,
         ((password, tested, (shown.stored, at, meets)), carried (MayAct terms other) other.user user (sym own) may),
       ),
     )
 
 -- what the test costs
 pub costs : (terms : PlainTerms) (records : List Struct) (message user : List ℕ) (parts : PlainParts)
-    (found : Option VersionedRecord) (server : PlainState) (before after : ℕ) → SpellsPlain parts message
+    (found : Option VersionedRecord) (rules : PlainRules) (before after : ℕ) → SpellsPlain parts message
     → IsTaken true parts → user ≡ parts.user → FirstShown records found
-    → server ≡ plain_server_of terms user (store_of user found)
-    → ((n : ℕ) → plain_hmacs server (plain_init message) n → after ≡ before + n)
+    → rules ≡ plain_rules_of terms user (store_of user found)
+    → ((n : ℕ) → plain_hmacs rules message n → after ≡ before + n)
     → VerifyingCosts terms records message before after
-costs terms records message user parts found server before after is taken named first same cost = (
+costs terms records message user parts found rules before after is taken named first same cost = (
   λ name other n (parts2, spells, taken2, called) first2 makes.
       let one = one_first records other found first2 first in
       let own : name ≡ user =
       called ∙ (ap (λ (p : PlainParts). p.user) (one_message message parts2 parts spells is) ∙ sym named) in
-      cost n (carried (λ (s : PlainState). plain_hmacs s (plain_init message) n)
-      (plain_server_of terms name (store_of name other)) server
-      (ap (λ (u : List ℕ). plain_server_of terms u (store_of u other)) own
-      ∙ (ap (λ (f : Option VersionedRecord). plain_server_of terms user (store_of user f)) one ∙ sym same)) makes),
+      cost n (carried (λ (r : PlainRules). plain_hmacs r message n)
+      (plain_rules_of terms name (store_of name other)) rules
+      (ap (λ (u : List ℕ). plain_rules_of terms u (store_of u other)) own
+      ∙ (ap (λ (f : Option VersionedRecord). plain_rules_of terms user (store_of user f)) one ∙ sym same)) makes),
   λ none. absurd (none user (parts, is, taken, named)),
 )
 

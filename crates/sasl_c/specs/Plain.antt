@@ -1,8 +1,6 @@
 -- Messages of PLAIN over texts: what a client writes, and what a server makes of them (RFC 4616, section 2).
-use Rattle.std.specs.Prelude.{◌≡◌, ◌≢◌, ◌<◌, ◌⊎◌, ◌+◌, ℕ, Bool, true, length, List, [], ◌∷◌, ◌++◌, Option, Some, None, Result, Ok, Err, codes}
+use Rattle.std.specs.Prelude.{◌≡◌, ◌≢◌, ◌<◌, ◌⊎◌, ◌+◌, ℕ, Bool, true, length, List, [], ◌∷◌, ◌++◌, Option, Some, None, Result, Ok, Err}
 use Rattle.std.specs.Str.{IsUtf8}
-use Rattle.fe2o3_sasl_wire.specs.SaslFrames as frames
-use Rattle.fe2o3_sasl_wire.specs.SaslFrames.{SaslFrame}
 use Rattle.fe2o3_scram.specs.declared.hmac.ScramVersion.TheVariants.{Sha256}
 use Rattle.fe2o3_scram.specs.declared.scram_messages.error.ServerScramErrorKind.TheVariants.{AuthenticationFailed}
 use Rattle.fe2o3_scram.specs.ActingRights.{may_act}
@@ -10,7 +8,7 @@ use Rattle.fe2o3_scram.specs.Credentials.{MeetsRecord, Store, VersionedRecord}
 use Rattle.fe2o3_scram.specs.Passwords.{PasswordText}
 use Rattle.fe2o3_scram.specs.Readings.{IsFirst, Reads}
 use Rattle.fe2o3_scram.specs.Texts.{Without}
-use Rattle.fe2o3_sasl_core.specs.PlainServer.{IsTaken, PlainParts, PlainState, SpellsPlain, TestedPassword, asked_identity, plain_hmacs}
+use Rattle.fe2o3_sasl_core.specs.PlainServer.{IsTaken, PlainParts, PlainRules, SpellsPlain, TestedPassword, asked_identity, plain_hmacs}
 use Rattle.fe2o3_sasl_core.specs.declared.plain_server.passwords.PlainPasswords.{PlainPasswords}
 use Rattle.fe2o3_sasl_core.specs.declared.plain_server.passwords.PlainPasswords.TheVariants as forms
 use Rattle.sasl_c.specs.declared.records.ScramRecord.{ScramRecord as Struct}
@@ -108,33 +106,26 @@ abbrev pub PlainAsks : ℕ → List ℕ → List ℕ → Type 0
 PlainAsks number identities message = ((passwords : PlainPasswords) × (form_number passwords ≡ number))
     × IsUtf8 identities × ((name : List ℕ) × ClaimsPlainUser message (Ok name))
 
--- ---- the server that tests a message, and what its test costs
-
--- the init with this message
-abbrev pub plain_init : List ℕ → SaslFrame
-plain_init message = frames.Init (codes "PLAIN") (Some message) None
+-- ---- what a message is tested by, and what its test costs
 
 -- the store of one user with this record, or without one: then of SHA-256
 abbrev pub store_of : List ℕ → Option VersionedRecord → Store
 store_of user None = record { version = Sha256; records = [] }
 store_of user (Some shown) = one_user user shown
 
--- the server of a user over this store, by these terms
-abbrev pub plain_server_of : PlainTerms → List ℕ → Store → PlainState
-plain_server_of terms user provider = record {
+-- the rules for a user over this store, by these terms
+abbrev pub plain_rules_of : PlainTerms → List ℕ → Store → PlainRules
+plain_rules_of terms user provider = record {
   provider = provider;
   count = terms.count;
   passwords = terms.passwords;
   accept_authzid = terms.accepts;
   rights = rights_for user terms.identities;
-  user = None;
-  acts_for = None;
 }
 
--- the HMAC values of a test: those of a server of PLAIN over the record, also for an unknown user; none if no user is
--- claimed
+-- the HMAC values of a test: those of PLAIN over the record, also for an unknown user; none if no user is claimed
 abbrev pub VerifyingCosts : PlainTerms → List Struct → List ℕ → ℕ → ℕ → Type 0
 VerifyingCosts terms records message before after =
     ((name : List ℕ) (found : Option VersionedRecord) (n : ℕ) → ClaimsPlainUser message (Ok name) → FirstShown records found
-    → plain_hmacs (plain_server_of terms name (store_of name found)) (plain_init message) n → after ≡ before + n)
+    → plain_hmacs (plain_rules_of terms name (store_of name found)) message n → after ≡ before + n)
     × (((name : List ℕ) → ¬ ClaimsPlainUser message (Ok name)) → after ≡ before)

@@ -1,16 +1,12 @@
 //! The server's side of PLAIN over messages: the test of a message against the record of its user (RFC 4616).
 
-ghost use Rattle.std.specs.Prelude.{◌↔◌, ◌≡◌, ◌≢◌, ◌≤◌, ◌+◌, ◌^◌, ℕ, List, None, Option, IfErr, IfOk, IsTrue, MatchOption, Ok};
-ghost use Rattle.fe2o3_sasl_wire.specs.AmqpTypes.{init_frame};
-ghost use Rattle.fe2o3_scram.specs.Credentials.{Store, VersionedRecord};
+ghost use Rattle.std.specs.Prelude.{◌↔◌, ◌≡◌, ◌≢◌, ◌≤◌, ◌+◌, ◌^◌, ℕ, List, Option, IfErr, IfOk, IsTrue, MatchOption, Ok};
+ghost use Rattle.fe2o3_scram.specs.Credentials.{VersionedRecord};
 ghost use Rattle.fe2o3_scram.specs.Readings.{Gives};
-ghost use Rattle.fe2o3_sasl_core.specs.PlainServer.{PlainLogsIn, PlainParts, plain_hmacs, plain_state};
-ghost use Rattle.fe2o3_sasl_core.specs.SaslAcceptor.{ends_with, sent_frame};
-ghost use Rattle.fe2o3_sasl_wire.specs.declared.amqp_types.SaslCode.TheVariants.{Ok as CodeOk, Auth as CodeAuth};
+ghost use Rattle.fe2o3_sasl_core.specs.PlainServer.{PlainLogsIn, PlainParts, plain_hmacs};
 ghost use Rattle.fe2o3_sasl_core.specs.declared.plain_server.passwords.PlainPasswords.{PlainPasswords as Forms};
 ghost use Rattle.sasl_c.specs.Client.{is_set};
-ghost use Rattle.sasl_c.specs.Plain.{ClaimsPlainUser, FirstShown, HasUsersPassword, PlainAsks, PlainTerms as Terms, VerifiesPlain, VerifyingCosts, form_number, plain_init, plain_server_of, store_of};
-ghost use Rattle.sasl_c.specs.Acting.{rights_for};
+ghost use Rattle.sasl_c.specs.Plain.{ClaimsPlainUser, FirstShown, HasUsersPassword, PlainAsks, PlainTerms as Terms, VerifiesPlain, VerifyingCosts, form_number, plain_rules_of, store_of};
 ghost use Rattle.sasl_c.specs.Server.{one_user};
 ghost use Rattle.sasl_c.specs.Status.{Answers};
 ghost use Rattle.sasl_c.specs.declared.status.Status.TheVariants.{OutOfMemory as StatusOutOfMemory};
@@ -19,13 +15,11 @@ use crate::acting::acting_rights;
 use crate::flags::is_set;
 use crate::records::ScramRecord;
 use crate::status::{Status, number, text};
-use fe2o3_sasl_core::plain_server::plain_user;
-use fe2o3_sasl_core::{PlainPasswords, PlainServer, SaslAcceptor, SaslServerFrame};
-use fe2o3_sasl_wire::{Binary, SaslCode, SaslInit, Symbol};
-use fe2o3_scram::{ActingRights, Meter, RecordStore, ScramVersion, ServerScramErrorKind};
+use fe2o3_sasl_core::PlainPasswords;
+use fe2o3_sasl_core::plain_server::{PlainTest, plain_user};
+use fe2o3_scram::{Meter, RecordStore, ScramVersion, ServerScramErrorKind};
 use std::alloc::Global;
 use std::marker::Model;
-use std::sync::Arc;
 
 /// What a message is tested by, besides the records.
 #[derive(Drop)]
@@ -69,22 +63,6 @@ fn form_of(number: u32) -> Option<PlainPasswords>
     }
 }
 
-/// Returns the init of PLAIN with this message. `OutOfMemory` is the only error.
-fn init_with(alloc: Global, message: &[u8]) -> Result<SaslInit, Status>
-    ensures ok { IfOk result (λ init. init_frame init ≡ plain_init message.now) }
-    ensures err { IfErr result (λ status. status ≡ StatusOutOfMemory) }
-{
-    let response = Binary(message.to_vec(alloc)?);
-    match Symbol::new(alloc, "PLAIN") {
-        Ok(mechanism) => Ok(SaslInit {
-            mechanism,
-            initial_response: Some(response),
-            hostname: None,
-        }),
-        Err(_) => Err(Status::OutOfMemory),
-    }
-}
-
 /// Returns the store of a user with this record. `OutOfMemory` is the only error.
 fn store_with(
     alloc: Global,
@@ -121,86 +99,37 @@ fn store_for(alloc: Global, username: &str, records: &[ScramRecord]) -> Result<R
     Ok(RecordStore::new(alloc, ScramVersion::Sha256))
 }
 
-/// Returns a server of PLAIN over this store, by these terms and the rights of its user.
-fn server_over(
-    store: RecordStore,
-    terms: &PlainTerms<'_>,
-    rights: Arc<ActingRights>,
-) -> PlainServer<RecordStore>
-    ensures { (user : List ℕ) → rights.value ≡ rights_for user terms.now.identities
-        → plain_state (λ (store : Store). store) result ≡ plain_server_of terms.now user store }
-{
-    PlainServer::new(store, terms.iterations)
-        .with_passwords(terms.passwords)
-        .accept_authzid(terms.accept_authzid)
-        .with_acting_rights(rights)
-}
-
-/// Returns whether a reply says that a user has logged in.
-fn is_ok(reply: SaslServerFrame) -> bool
-    ensures ok { sent_frame reply ≡ ends_with CodeOk → IsTrue result }
-    ensures auth { sent_frame reply ≡ ends_with CodeAuth → ¬ IsTrue result }
-{
-    match reply {
-        SaslServerFrame::Outcome(outcome) => matches!(outcome.code, SaslCode::Ok),
-        SaslServerFrame::Challenge(_) | SaslServerFrame::Rejected(_) => false,
-    }
-}
-
-/// Returns whether a server of PLAIN logs a user in by a message. The meter counts the HMAC values. `OutOfMemory` is the
-/// only error.
+/// Returns whether a message logs this user in by this store and these terms. The meter counts the HMAC values.
+/// `OutOfMemory` is the only error.
 fn logs_in(
     alloc: Global,
-    server: PlainServer<RecordStore>,
+    username: &str,
+    store: &RecordStore,
+    terms: &PlainTerms<'_>,
     message: &[u8],
     meter: &mut Meter,
 ) -> Result<bool, Status>
     requires { meter.old ≤ 2 ^ 63 }
     ensures ok { IfOk result (λ is. IsTrue is ↔ ((parts : PlainParts)
-        × PlainLogsIn (plain_state (λ (store : Store). store) server) (plain_init message.now) parts)) }
+        × PlainLogsIn (plain_rules_of terms.now username.now store.now) message.now parts)) }
     ensures err { IfErr result (λ status. status ≡ StatusOutOfMemory) }
-    ensures cost { IfOk result (λ _. (n : ℕ)
-        → plain_hmacs (plain_state (λ (store : Store). store) server) (plain_init message.now) n
+    ensures cost { IfOk result (λ _. (n : ℕ) → plain_hmacs (plain_rules_of terms.now username.now store.now) message.now n
         → meter.new ≡ meter.old + n) }
 {
-    let mut server = server;
-    let init = match init_with(alloc, message) {
-        Ok(init) => init,
-        Err(status) => return Err(status),
-    };
-    let reply = server.on_init_metered(alloc, init, &[0; 32], meter);
-    drop(server);
-    match reply {
-        Ok(reply) => Ok(is_ok(reply)),
-        Err(_) => Err(Status::OutOfMemory),
-    }
-}
-
-/// Returns the server of a user by these terms, over the first record that can be read. `OutOfMemory` is the only error.
-fn server_for(
-    alloc: Global,
-    username: &str,
-    records: &[ScramRecord],
-    terms: &PlainTerms<'_>,
-) -> Result<PlainServer<RecordStore>, Status>
-    ensures ok { IfOk result (λ server. (found : Option VersionedRecord) × FirstShown records.now found
-        × (plain_state (λ (store : Store). store) server
-        ≡ plain_server_of terms.now username.now (store_of username.now found))) }
-    ensures err { IfErr result (λ status. status ≡ StatusOutOfMemory) }
-{
     let rights = match acting_rights(alloc, username, terms.identities) {
-        Ok(rights) => match Arc::new(alloc, rights) {
-            Ok(rights) => rights,
-            Err(_) => return Err(Status::OutOfMemory),
-        },
+        Ok(rights) => rights,
         Err(status) => return Err(status),
     };
-    match store_for(alloc, username, records) {
-        Ok(store) => Ok(server_over(store, terms, rights)),
-        Err(status) => {
-            drop(rights);
-            Err(status)
-        }
+    let test = PlainTest {
+        credentials: store,
+        iterations: terms.iterations,
+        passwords: terms.passwords,
+        accept_authzid: terms.accept_authzid,
+        rights: &rights,
+    };
+    match test.logs_in(alloc, message, meter) {
+        Ok(is) => Ok(is),
+        Err(_) => Err(Status::OutOfMemory),
     }
 }
 
@@ -222,8 +151,8 @@ fn has_users_password(
     let Some(username) = plain_user(message) else {
         return Ok(false);
     };
-    match server_for(alloc, username, records, terms) {
-        Ok(server) => logs_in(alloc, server, message, meter),
+    match store_for(alloc, username, records) {
+        Ok(store) => logs_in(alloc, username, &store, terms, message, meter),
         Err(status) => Err(status),
     }
 }

@@ -117,16 +117,13 @@ pub fn own_step<A: AuthenticatedUser>(
     say_user(row, acceptor);
 }
 
-/// Checks this acceptor, or copies it by a call of this name. If there is none, the row says why.
-fn serve<A: AuthenticatedUser + Drop>(
+/// Checks this acceptor, or copies it by a call of this name.
+pub fn serve<A: AuthenticatedUser + Drop>(
     row: &mut Row<'_>,
     run: &Run<'_>,
-    acceptor: Option<A>,
+    acceptor: A,
     clone: &'static str,
 ) {
-    let Some(acceptor) = acceptor else {
-        return run.agree(row);
-    };
     if run.calls.first() != Some(&"clone") {
         return check_side(row, run, &mut Acceptor { acceptor });
     }
@@ -137,24 +134,19 @@ fn serve<A: AuthenticatedUser + Drop>(
     run.agree(row);
 }
 
-/// Checks an acceptor: `MECHANISM,.. NAME PASSWORD`, of which `ANONYMOUS` has no further words, and `EXTERNAL` no
-/// password.
+/// Checks an acceptor: `MECHANISM,.. NAME PASSWORD`, of which `ANONYMOUS` has no further words.
 pub fn check_acceptor(row: &mut Row<'_>, run: &Run<'_>) {
     let (anonymous, names) = (SaslAnonymousMechanism::new(), row.word());
     if names == "ANONYMOUS" {
-        return serve(row, run, Some(anonymous), "SaslAnonymousMechanism::clone");
+        return serve(row, run, anonymous, "SaslAnonymousMechanism::clone");
     }
     let user = row.text_of_digits();
-    if names == "EXTERNAL" {
-        let external = row.get(ExternalServer::new(user));
-        return serve(row, run, external, "ExternalServer::clone");
-    }
     let plain = SaslPlainMechanism::new(user, row.text_of_digits());
     if names == "PLAIN" {
-        return serve(row, run, Some(plain), "SaslPlainMechanism::clone");
+        return serve(row, run, plain, "SaslPlainMechanism::clone");
     }
     let both = AnyMechanism::new(plain, anonymous);
-    serve(row, run, Some(both), "AnyMechanism::clone");
+    serve(row, run, both, "AnyMechanism::clone");
 }
 
 /// Returns the credential of a server: `USER PASSWORD SALT`.

@@ -37,7 +37,6 @@ pub fn errors(row: &mut Row<'_>) {
         "ChoiceError" => say_each!(row, ChoiceError: NoAcceptableMechanism OutOfMemory),
         _ => {
             say_each!(row, NegotiationError: ProtocolHeaderMismatch(*b"AMQP\x01\x01\x00\x00"));
-            say_texts(row, &[NoExternalIdentity]);
             say_each!(row, AuditError: OutOfMemory);
         }
     }

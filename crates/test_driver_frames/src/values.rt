@@ -88,19 +88,24 @@ pub fn plain(row: &mut Row<'_>) {
     row.show(&plain_identity(&message));
 }
 
-/// Says the user and the identity of a server of PLAIN that is restored after their login, or of its copy.
+/// Says the user and the identity of a server that is restored after their login by PLAIN, or of its copy.
 pub fn restored(row: &mut Row<'_>) {
-    let (alloc, is_copy) = (row.alloc, row.takes("copy"));
+    let (alloc, is_copy, mut meter) = (row.alloc, row.takes("copy"), Meter::new());
     let line = format!(in alloc; "{}\n", row.rest());
     let line = row.made(line, String::new(alloc));
-    let users = RecordStore::parse_lines(alloc, ScramVersion::Sha256, &line);
-    let users = row.made(users, RecordStore::new(alloc, ScramVersion::Sha256));
-    let server = PlainServer::new(users, 1);
-    let server =
-        call!(row: "PlainServer::restore_authenticated" => server.restore_authenticated(alloc, "user", Some("admin")));
+    let users = MultiRecordStore::parse_lines(alloc, &line);
+    let users = row.made(users, MultiRecordStore::new(alloc));
+    let options = ServerOptions::new(alloc, Mechanisms::scram());
+    let saved = SavedStage::Authenticated(SavedLogin {
+        mechanism: Mechanism::Plain,
+        user: Some("user"),
+        acts_for: Some("admin"),
+    });
+    let server = call!(row: "Server::restore" =>
+        Server::restore(alloc, &users, &options, Transport::plaintext(), &saved, None, &mut meter));
     if let Some(server) = row.get(server) {
         if is_copy {
-            let copy = call!(row: "PlainServer::clone" => server.clone());
+            let copy = call!(row: "Server::clone" => server.clone());
             return row.judge(&copy, "copied");
         }
         row.show(&server.authenticated_user());

@@ -1,15 +1,10 @@
--- What the negotiations of each kind of server are: runs of its machine, of which its laws hold.
+-- What a server sends where it waits, and how many frames one of SCRAM, PLAIN or ANONYMOUS answers.
 use Rattle.std.proofs.Common.{◌≡◌, ℕ, ◌+◌, ◌<◌, ◌≤◌, List, [], ◌∷◌, length, ap, ◌∙◌, subst, inl, inr, arith, Ok}
 use Rattle.fe2o3_sasl_wire.specs.SaslFrames as frames
-use Rattle.fe2o3_scram.specs.ScramServer.{Initial}
-use Rattle.fe2o3_sasl_core.specs.AnyMechanismLaws.{Machine}
 use Rattle.fe2o3_sasl_core.specs.Bodies.{SpellsBody}
 use Rattle.fe2o3_sasl_core.specs.Events.{Given, ServerSays, Challenged}
 use Rattle.fe2o3_sasl_core.specs.Runs.{Runs, AcceptorSteps}
-use Rattle.fe2o3_sasl_core.specs.SaslAcceptor.{Acceptor, ScramAcceptor, acceptor_machine, acceptor_user}
-use Rattle.fe2o3_sasl_core.proofs.lemmas.machines.AnyMechanismLemmas.{any_mechanism_runs}
-use Rattle.fe2o3_sasl_core.proofs.lemmas.machines.ServerMachineLemmas.{acceptor_runs_are_histories, acceptor_runs_name_users}
-use Rattle.fe2o3_sasl_core.proofs.lemmas.two_sides.HeadlineLemmas.{answers_ok_exactly}
+use Rattle.fe2o3_sasl_core.specs.SaslAcceptor.{Acceptor, acceptor_machine}
 use Rattle.fe2o3_sasl_negotiation.specs.declared.progress.Expected.TheVariants.{Frame}
 use Rattle.fe2o3_sasl_negotiation.specs.declared.progress.FrameKind.{FrameKind}
 use Rattle.fe2o3_sasl_negotiation.specs.declared.progress.FrameKind.TheVariants as turns
@@ -21,22 +16,6 @@ use Rattle.fe2o3_sasl_negotiation.specs.ServerNegotiation.{ServerOutputs, server
 use Rattle.fe2o3_sasl_negotiation.proofs.lemmas.ChallengeLemmas.{waits_after_challenge, one_challenge}
 use Rattle.fe2o3_sasl_negotiation.proofs.lemmas.KindLemmas.{due_of, closes_waits_not}
 use Rattle.fe2o3_sasl_negotiation.proofs.lemmas.PieceLemmas.{IsChain}
-use Rattle.connection_laws.specs.Servers.{ScramRunsServe, AnyMechanismServersSplit}
-
-pub scram_runs_serve : ScramRunsServe acceptor_machine (λ provider. ScramAcceptor provider Initial) acceptor_user
-scram_runs_serve provider events replies last run =
-    let history = acceptor_runs_are_histories provider events replies last run in
-    record {
-      history = history;
-      exactly = answers_ok_exactly provider events replies history;
-      user = λ user. acceptor_runs_name_users provider events replies last user run;
-    }
-
-pub any_mechanism_servers_split : {S T : Type 0} (names : S → List (List ℕ)) (others : T → List (List ℕ)) (machine : Machine S)
-    (other : Machine T) → AnyMechanismServersSplit names others machine other
-any_mechanism_servers_split names others machine other state server =
-    let n = server.connection in
-    any_mechanism_runs names others machine other state server.last.state n.events n.replies n.run
 
 -- ---- a server that waits
 

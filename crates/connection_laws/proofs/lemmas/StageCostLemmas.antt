@@ -1,6 +1,6 @@
 -- What the answers of a server of all mechanisms cost from a stage on.
 use Rattle.std.proofs.Common.{◌≡◌, ◌⊎◌, ◌+◌, ◌<◌, ◌≤◌, ℕ, Bool, true, false, Option, Some, None, List, [], ◌∷◌, Result, Ok, Err, ap, refl, inl, inr, arith}
-use Rattle.std.specs.Prelude.{MatchOption, codes, option_map}
+use Rattle.std.specs.Prelude.{MatchOption, option_map}
 use Rattle.std.proofs.Math.Nat.{le-max_left, le-max_right}
 use Rattle.std.proofs.lemmas.Bool.{cases_lt}
 use Rattle.fe2o3_sasl_wire.specs.SaslFrames as frames
@@ -89,16 +89,16 @@ module _ (settings : ServerSettings) (most : ℕ) (counts : HasCountsUpTo settin
   count_within user (Some stored) is = counts.1 user stored is
 
   -- PLAIN answers an init by the test of one password at most
-  password : (frame : SaslFrame) (before after : ℕ)
-      → AtMost (plain_hmacs (plain_by_settings settings) frame) before after → after ≤ before + (most + 2)
-  password frame before after costs =
-      within ((count : ℕ) × TestsPassword (plain_by_settings settings) frame count)
-      (plain_hmacs (plain_by_settings settings) frame) (most + 2) before after costs
+  password : (text : List ℕ) (before after : ℕ)
+      → AtMost (plain_hmacs (plain_by_settings settings) text) before after → after ≤ before + (most + 2)
+  password text before after costs =
+      within ((count : ℕ) × TestsPassword (plain_by_settings settings) text count)
+      (plain_hmacs (plain_by_settings settings) text) (most + 2) before after costs
       (λ tests. (tests.0 + 2, inl (tests.0, tests.1, refl), few tests.0 tests.1))
       (λ none. inr ((λ count tests. none (count, tests)), refl))
     where
-      few : (count : ℕ) → TestsPassword (plain_by_settings settings) frame count → count + 2 ≤ most + 2
-      few count (message, word, asks, tested, is, passed) =
+      few : (count : ℕ) → TestsPassword (plain_by_settings settings) text count → count + 2 ≤ most + 2
+      few count (message, word, spells, taken, tested, is, passed) =
           let bound = count_within message.user
           (record_at (provider_for settings.plain_version settings.records).records message.user) refl in
           omega (arith, is, bound)
@@ -128,7 +128,7 @@ module _ (settings : ServerSettings) (most : ℕ) (counts : HasCountsUpTo settin
   init_ends ways.External response before after costs =
       let bound = nothing before after costs in omega (arith, bound)
   init_ends ways.Plain None before after costs = let bound = nothing before after costs in omega (arith, bound)
-  init_ends ways.Plain (Some text) before after costs = password (frames.Init (codes "PLAIN") (Some text) None) before after costs
+  init_ends ways.Plain (Some text) before after costs = password text before after costs
   init_ends (ways.Scram version plus) None before after costs =
       let bound = nothing before after costs in omega (arith, bound)
   init_ends (ways.Scram version plus) (Some text) before after costs =

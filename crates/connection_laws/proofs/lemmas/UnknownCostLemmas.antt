@@ -1,6 +1,6 @@
 -- A server that knows a name by its mock records makes as many HMAC values: `unknown_names_cost_alike`; and whom PLAIN logs in.
 use Rattle.std.proofs.Common.{◌≡◌, ◌∙◌, ℕ, Bool, true, false, Option, Some, None, List, ap, sym, subst, refl, inl, inr}
-use Rattle.std.specs.Prelude.{MatchOption, codes, if◌then◌else◌, nat_eq}
+use Rattle.std.specs.Prelude.{MatchOption, if◌then◌else◌, nat_eq}
 use Rattle.std.specs.Cmp.Lexicographic.{pointwise}
 use Rattle.fe2o3_sasl_wire.specs.SaslFrames as frames
 use Rattle.fe2o3_sasl_wire.specs.SaslFrames.{SaslFrame}
@@ -27,8 +27,8 @@ use Rattle.connection_laws.proofs.lemmas.UnknownRecordLemmas.{known_record, mock
 
 -- PLAIN makes as many over both records
 abbrev OnePlainCost : ServerSettings → MultiRecords → ℕ → Type 0
-OnePlainCost settings records n = (frame : SaslFrame) → plain_hmacs (plain_by_settings settings) frame n
-    → plain_hmacs (plain_by_settings (over records settings)) frame n
+OnePlainCost settings records n = (text : List ℕ) → plain_hmacs (plain_by_settings settings) text n
+    → plain_hmacs (plain_by_settings (over records settings)) text n
 
 module _ (settings : ServerSettings) (records : MultiRecords) (one : OneProvider settings records) (n : ℕ)
     (plain : OnePlainCost settings records n) where
@@ -37,7 +37,7 @@ module _ (settings : ServerSettings) (records : MultiRecords) (one : OneProvider
   init_cost (ways.Scram version plus) (Some text) is = subst (λ (p : Provider). acceptor_hmacs (ScramAcceptor p Initial)
       (frames.Init (server_mechanism p.version p.rules) (Some text) None) n) (one version plus) is
   init_cost (ways.Scram version plus) None is = is
-  init_cost ways.Plain (Some text) is = plain (frames.Init (codes "PLAIN") (Some text) None) is
+  init_cost ways.Plain (Some text) is = plain text is
   init_cost ways.Plain None is = is
   init_cost ways.Anonymous response is = is
   init_cost ways.External response is = is
@@ -106,23 +106,23 @@ module _ (settings : ServerSettings) (mock : MockChoice) (name : List ℕ)
       ∙ ap (λ (found : Option Record). count_or (count_of_unknown settings.plain_count settings.mock) found)
       (sym (known_record settings.plain_version mock name settings.records user))
 
-  tests_known : (frame : SaslFrame) (count : ℕ) → TestsPassword (plain_by_settings settings) frame count
-      → TestsPassword (plain_by_settings (over known settings)) frame count
-  tests_known frame count (message, password, asks, tested, is, none) =
-      (message, password, asks, tested, is ∙ same_count message.user, none)
+  tests_known : (text : List ℕ) (count : ℕ) → TestsPassword (plain_by_settings settings) text count
+      → TestsPassword (plain_by_settings (over known settings)) text count
+  tests_known text count (message, password, spells, taken, tested, is, none) =
+      (message, password, spells, taken, tested, is ∙ same_count message.user, none)
 
-  tests_unknown : (frame : SaslFrame) (count : ℕ) → TestsPassword (plain_by_settings (over known settings)) frame count
-      → TestsPassword (plain_by_settings settings) frame count
-  tests_unknown frame count (message, password, asks, tested, is, none) =
-      (message, password, asks, tested, is ∙ sym (same_count message.user), none)
+  tests_unknown : (text : List ℕ) (count : ℕ) → TestsPassword (plain_by_settings (over known settings)) text count
+      → TestsPassword (plain_by_settings settings) text count
+  tests_unknown text count (message, password, spells, taken, tested, is, none) =
+      (message, password, spells, taken, tested, is ∙ sym (same_count message.user), none)
 
   plain_known : (n : ℕ) → OnePlainCost settings known n
-  plain_known n frame (inl (count, tests, is)) = inl (count, tests_known frame count tests, is)
-  plain_known n frame (inr (none, is)) = inr ((λ count tests. none count (tests_unknown frame count tests)), is)
+  plain_known n text (inl (count, tests, is)) = inl (count, tests_known text count tests, is)
+  plain_known n text (inr (none, is)) = inr ((λ count tests. none count (tests_unknown text count tests)), is)
 
   plain_unknown : (n : ℕ) → OnePlainCost (over known settings) settings.records n
-  plain_unknown n frame (inl (count, tests, is)) = inl (count, tests_unknown frame count tests, is)
-  plain_unknown n frame (inr (none, is)) = inr ((λ count tests. none count (tests_known frame count tests)), is)
+  plain_unknown n text (inl (count, tests, is)) = inl (count, tests_unknown text count tests, is)
+  plain_unknown n text (inr (none, is)) = inr ((λ count tests. none count (tests_known text count tests)), is)
 
 pub unknown_names_cost_alike : UnknownNamesCostAlike
 unknown_names_cost_alike server mock name frame n is one =

@@ -15,9 +15,7 @@ pub mod NameLemmas
 pub mod PolicyLemmas
 pub mod ChannelPolicyLemmas
 pub mod AnyMechanismLemmas
-pub mod AnyMechanismUserLemmas
 pub mod UnknownUserLemmas
-pub mod ScramInAnyMechanismLemmas
 pub mod ChallengeCountLemmas
 pub mod LoginAttemptLemmas
 pub mod ClaimLemmas

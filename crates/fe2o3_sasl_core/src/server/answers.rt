@@ -16,7 +16,7 @@ ghost use Rattle.fe2o3_sasl_core.specs.private.ServerMoves.{TakesAtMost, after};
 
 use crate::OutOfMemory;
 use crate::login_attempts::copied;
-use crate::plain_server::{PasswordTest, PlainMessage};
+use crate::plain_server::{PlainMessage, PlainTest};
 use crate::rejection::Rejection;
 use crate::sasl_acceptor::{SaslServerFrame, outcome};
 use crate::scram_acceptor::{reason_of_first, refusal};
@@ -57,7 +57,7 @@ impl Server<'_> {
     }
 
     /// Returns the mechanism that this name asks for, if it is offered.
-    fn asked(&self, name: &str) -> Option<Way>
+    pub(crate) fn asked(&self, name: &str) -> Option<Way>
         ensures { result ≡ asked_way (settings_in self.now) name.now }
     {
         if self.is_asked_by(name, Way::Scram(ScramVersion::Sha512, true)) {
@@ -217,20 +217,18 @@ impl Server<'_> {
                 Move::Stay,
             ));
         };
-        let test = PasswordTest {
+        let test = PlainTest {
             credentials: self.records.for_version(options.plain_version),
             iterations: self.plain_iterations(),
             passwords: options.plain_passwords,
+            accept_authzid: options.accept_authzid,
+            rights: &options.rights,
         };
-        let identity = message.asked_identity();
-        // The right is tested after the password, so that a client learns it only by the password.
-        if test.has_password(alloc, &message, meter)?
-            && options.rights.may_act(message.username, identity)
-        {
+        if test.lets_in(alloc, &message, meter)? {
             let login = LoginOf {
                 way: Way::Plain,
                 user: Some(message.username.to_string(alloc)?),
-                acts_for: copied(alloc, identity)?,
+                acts_for: copied(alloc, message.asked_identity())?,
             };
             Ok((accepted(), Move::To(Stage::Authenticated(login))))
         } else {

@@ -1,11 +1,8 @@
-use Rattle.fe2o3_sasl_core.proofs.lemmas.machines.UnknownUserLemmas.{mock_record_is_met, salt_texts_differ, unknown_costs_as_mock, unknown_is_mock, unknown_is_mock_in_both}
+use Rattle.fe2o3_sasl_core.proofs.lemmas.machines.UnknownUserLemmas.{mock_record_is_met, salt_texts_differ, unknown_costs_as_mock, unknown_is_mock}
 use Rattle.fe2o3_sasl.proofs.laws.unknown_users.Goals as goal
 
 pub returns-clause-one : goal.returns-clause-one
 returns-clause-one c = unknown_is_mock
-
-pub returns-clause-both : goal.returns-clause-both
-returns-clause-both c = unknown_is_mock_in_both
 
 pub returns-clause-salts : goal.returns-clause-salts
 returns-clause-salts c = salt_texts_differ

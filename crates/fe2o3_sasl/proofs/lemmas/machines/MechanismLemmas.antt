@@ -1,17 +1,18 @@
 -- Acceptors and profiles of one mechanism find each other, and PLAIN and ANONYMOUS let in whom they should.
-use Rattle.std.proofs.Common.{◌≡◌, ◌≢◌, ℕ, zero, suc, Bool, true, false, true≢false, Some, None, List, [], ◌∷◌, ◌++◌, get_or, length, if◌then◌else◌, refl, sym, ap, ◌∙◌, subst, arith, codes, inl, inr}
+use Rattle.std.proofs.Common.{◌≡◌, ◌≢◌, ℕ, zero, suc, Bool, true, false, true≢false, None, List, [], ◌∷◌, ◌++◌, get_or, length, if◌then◌else◌, refl, sym, ap, ◌∙◌, subst, arith, codes, inl, inr}
 use Rattle.std.specs.Prelude.{is_some, nat_eq, nat_lt}
 use Rattle.std.specs.List.{Contains}
 use Rattle.std.specs.Cmp.Lexicographic.{pointwise}
 use Rattle.std.proofs.lemmas.Cmp.{nat_list_eq_equiv}
 use Rattle.std.proofs.lemmas.List.{append_assoc}
+use Rattle.std.proofs.lemmas.Option.{same_Some}
 use Rattle.fe2o3_scram.specs.declared.hmac.ScramVersion.{ScramVersion}
 use Rattle.fe2o3_scram.specs.declared.hmac.ScramVersion.TheVariants.{Sha1, Sha256, Sha512}
 use Rattle.fe2o3_scram.specs.ChannelBinding.{is_bound, mechanism_of, server_mechanism}
 use Rattle.fe2o3_sasl_core.specs.MechanismLaws.{PlainIdentitiesAgree, PlainLetsIn, PlainRefuses, AnonymousLetsIn, OffersAgree, SomethingIsOffered, NamesDiffer, Differ}
 use Rattle.fe2o3_sasl_core.specs.SaslAcceptor.{ScramAcceptor, PlainAcceptor, AnonymousAcceptor}
 use Rattle.fe2o3_sasl_core.specs.Profiles.{ScramProfile, PlainProfile, AnonymousProfile, ExternalProfile, MessageProfile, AnonymousMessage, ExternalMessage, initial_response}
-use Rattle.fe2o3_sasl_core.specs.PlainServer.{PlainParts, PlainState, asked_identity}
+use Rattle.fe2o3_sasl_core.specs.PlainServer.{PlainParts, asked_identity}
 use Rattle.fe2o3_sasl_wire.specs.SaslFrames as frames
 use Rattle.fe2o3_sasl_core.proofs.lemmas.machines.PlainMessageLemmas.{one_message}
 use Rattle.fe2o3_sasl_core.proofs.lemmas.machines.ZeroPartLemmas.{names_both, names_no_other}
@@ -164,16 +165,19 @@ plain_refuses user password other secret accepted plain too apart hostname clien
 )
 
 pub plain_identities_agree : PlainIdentitiesAgree
-plain_identities_agree server next identity user password client_nonce server_nonce hostname can
-    (inl (message, (asks, allowed), ok, to)) =
+plain_identities_agree rules parts identity user password nonce text can is logs =
     let sent : PlainParts = record { identity = identity; user = user; password = password } in
-    let same = one_message (identity ++ 0 ∷ user ++ 0 ∷ password) message sent asks.1
-    (asks.1.0, can.0, can.1.0.1, can.1.1.1, append_assoc identity (0 ∷ user) (0 ∷ password)) in (
-      ap (λ (server : PlainState). server.user) to ∙ ap (λ (parts : PlainParts). Some parts.user) same,
-      ap (λ (server : PlainState). server.acts_for) to ∙ ap asked_identity same,
+    let is_text = same_Some (identity ++ 0 ∷ user ++ 0 ∷ password) text is in
+    let same = one_message text parts sent logs.0 (
+      logs.0.0,
+      can.0,
+      can.1.0.1,
+      can.1.1.1,
+      sym is_text ∙ append_assoc identity (0 ∷ user) (0 ∷ password),
+    ) in (
+      ap (λ (parts : PlainParts). parts.user) same,
+      ap asked_identity same,
     )
-plain_identities_agree server next identity user password client_nonce server_nonce hostname can (inr (none, is, to)) =
-    absurd (cc)
 
 pub anonymous_lets_in : AnonymousLetsIn
 anonymous_lets_in hostname client_nonce server_nonce =

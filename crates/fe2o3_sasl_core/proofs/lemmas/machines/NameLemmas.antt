@@ -1,6 +1,6 @@
 -- Names in lists of names.
-use Rattle.std.proofs.Common.{◌≡◌, ◌≢◌, ◌<◌, ◌+◌, ℕ, zero, suc, Bool, true, false, List, [], ◌∷◌, ◌++◌, length, take, get_or, map, refl, sym, ◌∙◌, ap, arith}
-use Rattle.std.specs.Prelude.{if◌then◌else◌, not, nat_eq, filter, codes, is_some, IsAscii}
+use Rattle.std.proofs.Common.{◌≡◌, ◌≢◌, ◌<◌, ◌+◌, ℕ, zero, suc, Bool, true, false, Option, Some, List, [], ◌∷◌, ◌++◌, length, take, get_or, map, refl, sym, ◌∙◌, ap, arith}
+use Rattle.std.specs.Prelude.{if◌then◌else◌, ◌&&◌, not, nat_eq, filter, codes, is_some, IsAscii}
 use Rattle.std.specs.Cmp.Lexicographic.{pointwise, same_text, other_text}
 use Rattle.std.proofs.lemmas.List.{take_more, map-append}
 use Rattle.fe2o3_sasl_wire.proofs.lemmas.reading.TextLemmas.{IsAscii-from_is_ascii}
@@ -9,6 +9,8 @@ use Rattle.fe2o3_scram.specs.declared.hmac.ScramVersion.{ScramVersion}
 use Rattle.fe2o3_scram.specs.declared.hmac.ScramVersion.TheVariants.{Sha1, Sha256, Sha512}
 use Rattle.fe2o3_scram.specs.declared.scram_messages.server_rules.ServerRules.{ServerRules}
 use Rattle.fe2o3_sasl_core.specs.AnyMechanism.{has_name, both_names}
+use Rattle.fe2o3_sasl_core.specs.Servers.{ServerSettings, asked_among, asked_way, is_asked_by, is_offered_by, name_where_offered, offer_order, sasl_names, way_name, with_offered}
+use Rattle.fe2o3_sasl_core.specs.declared.server.ways.Way.{Way}
 
 -- a name is in one of two lists
 pub has_name-append : (names others : List (List ℕ)) (name : List ℕ)
@@ -121,3 +123,47 @@ IsAscii-bound Sha512 true = IsAscii-from_is_ascii (codes "SCRAM-SHA-512-PLUS") r
 pub IsAscii-server_mechanism : (version : ScramVersion) (rules : ServerRules)
     → IsAscii (server_mechanism version rules)
 IsAscii-server_mechanism version rules = IsAscii-bound version (is_some rules.channels)
+
+-- ---- the names that a server offers
+
+same_either_way : (name other : List ℕ) → pointwise nat_eq name other ≡ pointwise nat_eq other name
+same_either_way name other = go (pointwise nat_eq name other) (pointwise nat_eq other name) refl refl
+  where
+    go : (is back : Bool) → is ≡ pointwise nat_eq name other → back ≡ pointwise nat_eq other name → is ≡ back
+    go true true is too = refl
+    go false false is too = refl
+    go true false is too = absurd (other_text other name too (sym (same_text name other is)))
+    go false true is too = absurd (other_text name other is (sym (same_text other name too)))
+
+-- a mechanism has this name in the offer exactly if the name asks for it
+has_asked : (offered : Bool) (own name : List ℕ)
+    → has_name (name_where_offered offered own) name ≡ (offered && pointwise nat_eq name own)
+has_asked true own name = grind (arith, same_either_way own name)
+has_asked false own name = refl
+
+is_either : (a : Bool) → a ≡ (if a then true else false)
+is_either true = refl
+is_either false = refl
+
+one_more_asked : (a b asked : Bool) (way : Way) (rest : Option Way) (both : Bool) → both ≡ (if a then true else b)
+    → b ≡ asked
+    → (if both then true else is_some rest) ≡ (if a then true else is_some (if asked then Some way else rest))
+one_more_asked true b asked way rest both is same = ap (λ (x : Bool). if x then true else is_some rest) is
+one_more_asked false b true way rest both is same = ap (λ (x : Bool). if x then true else is_some rest) (is ∙ same)
+one_more_asked false b false way rest both is same = ap (λ (x : Bool). if x then true else is_some rest) (is ∙ same)
+
+has_offered : (settings : ServerSettings) (names : List (List ℕ)) (ways : List Way) (name : List ℕ)
+    → has_name (with_offered settings names ways) name
+    ≡ (if has_name names name then true else is_some (asked_among settings name ways))
+has_offered settings names [] name = is_either (has_name names name)
+has_offered settings names (way ∷ others) name =
+    let here = name_where_offered (is_offered_by settings way) (way_name way) in
+    has_offered settings (names ++ here) others name
+    ∙ one_more_asked (has_name names name) (has_name here name) (is_asked_by settings name way) way
+    (asked_among settings name others) (has_name (names ++ here) name) (has_name-append names here name)
+    (has_asked (is_offered_by settings way) (way_name way) name)
+
+-- a name is offered exactly if it asks for a mechanism
+pub has_sasl_name : (settings : ServerSettings) (name : List ℕ)
+    → has_name (sasl_names settings) name ≡ is_some (asked_way settings name)
+has_sasl_name settings name = has_offered settings [] offer_order name

@@ -1,19 +1,16 @@
--- A server that tests the passwords of PLAIN: an init asks by one message, and what its answer costs.
+-- The test of PLAIN's passwords: which password is tested, and what that costs.
 use Rattle.std.proofs.Common.{◌≡◌, ◌↔◌, ◌≤◌, ◌+◌, ℕ, Bool, IsTrue, List, [], ◌∷◌, Option, chars, sym, ◌∙◌, ap, subst, refl, inl, inr, arith}
-use Rattle.std.specs.Prelude.{codes, None, Some, Result, Ok, Err, IfErr}
+use Rattle.std.specs.Prelude.{None, Some, Result, Ok, Err, IfErr}
 use Rattle.saslprep.specs.Saslprep.{refusal}
 use Rattle.saslprep.specs.declared.Unassigned.TheVariants.{Allowed}
 use Rattle.saslprep.specs.declared.error.SaslprepError.{SaslprepError}
-use Rattle.fe2o3_sasl_wire.specs.SaslFrames as frames
-use Rattle.fe2o3_sasl_wire.specs.SaslFrames.{SaslFrame}
 use Rattle.fe2o3_scram.specs.Credentials.{CheckingCosts, MeetsRecord, Store, Record, making_tests, record_at}
 use Rattle.fe2o3_scram.specs.Passwords.{IsNormal, PasswordText, Typed, Prepared}
 use Rattle.fe2o3_scram.specs.Readings.{NoneHolds}
 use Rattle.fe2o3_scram.proofs.lemmas.providers.PasswordLemmas.{keyless}
 use Rattle.fe2o3_scram.proofs.lemmas.texts.DecisionLemmas.{Decided, Found, both_or, not_or, printable_or, same_number_or}
-use Rattle.fe2o3_sasl_core.specs.Costs.{CostsAtMost}
-use Rattle.fe2o3_sasl_core.specs.PlainServer.{AsksPlain, HasPassword, IsLetIn, IsTaken, MeetsUser, PlainLogsIn, PlainParts, PlainState, SpellsPlain, TestedPassword, TestingCosts, TestsPassword, count_or, plain_hmacs, plain_reasons, saslprep_text}
-use Rattle.fe2o3_sasl_core.specs.declared.rejection.Rejection.TheVariants.{WrongPassword}
+use Rattle.fe2o3_sasl_core.specs.PlainServer.{HasPassword, IsLetIn, IsTaken, MeetsUser, PlainLogsIn, PlainParts, PlainRules, SpellsPlain, TestedPassword, TestingCosts, TestsPassword, count_or, plain_hmacs, saslprep_text}
+use Rattle.fe2o3_sasl_core.specs.private.ServerMoves.{TakesAtMost}
 use Rattle.fe2o3_sasl_core.specs.declared.plain_server.passwords.PlainPasswords.{PlainPasswords}
 use Rattle.fe2o3_sasl_core.specs.declared.plain_server.passwords.PlainPasswords.TheVariants as forms
 use Rattle.fe2o3_sasl_core.proofs.lemmas.machines.PlainMessageLemmas.{one_message}
@@ -106,53 +103,37 @@ costs_form passwords form text password count before after same is costs =
     subst (λ (passwords : PlainPasswords). TestingCosts passwords text count before after) (sym same)
     (costs_tested form text password count before after is costs)
 
--- ---- an init
-
--- a frame asks by one message
-pub one_asked : (accepts : Bool) (frame : SaslFrame) (parts other : PlainParts) → AsksPlain accepts frame parts
-    → AsksPlain accepts frame other → parts ≡ other
-one_asked accepts (frames.Init mechanism (Some text) hostname) parts other asks too =
-    one_message text parts other asks.1 too.1
-one_asked accepts frame parts other asks too = absurd asks
-
--- one by a message that is not let in logs nobody in
-pub not_logged_in : (server : PlainState) (frame : SaslFrame) (parts : PlainParts)
-    → AsksPlain server.accept_authzid frame parts → ¬ IsLetIn server parts → (other : PlainParts)
-    → ¬ PlainLogsIn server frame other
-not_logged_in server frame parts asks wrong other (too, is) =
-    wrong (subst (IsLetIn server) (one_asked server.accept_authzid frame other parts too asks) is)
-
 -- ---- the cost
 
 -- where no password is tested, none is made
-unmade : (server : PlainState) (frame : SaslFrame) (parts : PlainParts) (before after : ℕ)
-    → AsksPlain server.accept_authzid frame parts
-    → TestingCosts server.passwords parts.password (count_or server.count (record_at server.provider.records parts.user))
+unmade : (rules : PlainRules) (text : List ℕ) (parts : PlainParts) (before after : ℕ) → SpellsPlain parts text
+    → IsTaken rules.accept_authzid parts
+    → TestingCosts rules.passwords parts.password (count_or rules.count (record_at rules.provider.records parts.user))
     before after
-    → Found (TestedPassword server.passwords parts.password) → ((count : ℕ) → ¬ TestsPassword server frame count)
+    → Found (TestedPassword rules.passwords parts.password) → ((count : ℕ) → ¬ TestsPassword rules text count)
     → after ≡ before
-unmade server frame parts before after asks costs (inl (password, tested)) none =
-    (costs.0 password tested).1 (λ passed. none (count_or server.count (record_at server.provider.records parts.user))
-    (parts, password, asks, tested, refl, passed))
-unmade server frame parts before after asks costs (inr untested) none = costs.1 untested
+unmade rules text parts before after spells taken costs (inl (password, tested)) none =
+    (costs.0 password tested).1 (λ passed. none (count_or rules.count (record_at rules.provider.records parts.user))
+    (parts, password, spells, taken, tested, refl, passed))
+unmade rules text parts before after spells taken costs (inr untested) none = costs.1 untested
 
--- that of an answer to a frame that asks is that of the test of its password
-pub cost_of_test : (server : PlainState) (frame : SaslFrame) (parts : PlainParts) (before after : ℕ)
-    → AsksPlain server.accept_authzid frame parts
-    → TestingCosts server.passwords parts.password (count_or server.count (record_at server.provider.records parts.user))
+-- that of a message is that of the test of its password
+pub cost_of_test : (rules : PlainRules) (text : List ℕ) (parts : PlainParts) (before after : ℕ) → SpellsPlain parts text
+    → IsTaken rules.accept_authzid parts
+    → TestingCosts rules.passwords parts.password (count_or rules.count (record_at rules.provider.records parts.user))
     before after
-    → (n : ℕ) → plain_hmacs server frame n → after ≡ before + n
-cost_of_test server frame parts before after asks costs n (inl (count, tests, is)) =
-    let (other, password, too, tested, counted, passed) = tests in
-    let same = one_asked server.accept_authzid frame other parts too asks in
-    let count_is : count ≡ count_or server.count (record_at server.provider.records parts.user) =
-    counted ∙ ap (λ (parts : PlainParts). count_or server.count (record_at server.provider.records parts.user)) same in
+    → (n : ℕ) → plain_hmacs rules text n → after ≡ before + n
+cost_of_test rules text parts before after spells taken costs n (inl (count, tests, is)) =
+    let (other, password, too, accepted, tested, counted, passed) = tests in
+    let same = one_message text other parts too spells in
+    let count_is : count ≡ count_or rules.count (record_at rules.provider.records parts.user) =
+    counted ∙ ap (λ (parts : PlainParts). count_or rules.count (record_at rules.provider.records parts.user)) same in
     let checked = costs.0 password
-    (subst (λ (parts : PlainParts). TestedPassword server.passwords parts.password password) same tested) in
+    (subst (λ (parts : PlainParts). TestedPassword rules.passwords parts.password password) same tested) in
     let made = checked.0 (subst (λ (count : ℕ). NoneHolds (making_tests password count)) count_is passed) in
     omega (arith, made, count_is, is)
-cost_of_test server frame parts before after asks costs n (inr (none, zero)) =
-    let same = unmade server frame parts before after asks costs (tested_or server.passwords parts.password) none in
+cost_of_test rules text parts before after spells taken costs n (inr (none, zero)) =
+    let same = unmade rules text parts before after spells taken costs (tested_or rules.passwords parts.password) none in
     omega (arith, same, zero)
 
 -- a test sets no meter back
@@ -171,35 +152,46 @@ not_less_tested passwords text count before after costs (inl (password, tested))
 not_less_tested passwords text count before after costs (inr none) =
     let same = costs.1 none in omega (arith, same)
 
-pub most_of_test : (server : PlainState) (frame : SaslFrame) (parts : PlainParts) (before after : ℕ)
-    → AsksPlain server.accept_authzid frame parts
-    → TestingCosts server.passwords parts.password (count_or server.count (record_at server.provider.records parts.user))
+pub most_of_test : (rules : PlainRules) (text : List ℕ) (parts : PlainParts) (before after : ℕ) → SpellsPlain parts text
+    → IsTaken rules.accept_authzid parts
+    → TestingCosts rules.passwords parts.password (count_or rules.count (record_at rules.provider.records parts.user))
     before after
-    → CostsAtMost plain_hmacs server frame before after
-most_of_test server frame parts before after asks costs = (
-  not_less_tested server.passwords parts.password
-      (count_or server.count (record_at server.provider.records parts.user)) before after costs
-      (tested_or server.passwords parts.password),
-  λ n takes. let made = cost_of_test server frame parts before after asks costs n takes in omega (arith, made),
+    → TakesAtMost (plain_hmacs rules text) before after
+most_of_test rules text parts before after spells taken costs = (
+  not_less_tested rules.passwords parts.password
+      (count_or rules.count (record_at rules.provider.records parts.user)) before after costs
+      (tested_or rules.passwords parts.password),
+  λ n takes.
+      let made = cost_of_test rules text parts before after spells taken costs n takes in omega (arith, made),
 )
 
--- and that of one that does not ask is nothing
-pub no_test : (server : PlainState) (frame : SaslFrame) → ((parts : PlainParts) → ¬ AsksPlain server.accept_authzid frame parts)
-    → (n : ℕ) → plain_hmacs server frame n → n ≡ 0
-no_test server frame none n (inl (count, tests, is)) = absurd (none tests.0 tests.2)
-no_test server frame none n (inr (other, zero)) = zero
+-- and that of a text that is no message to be tested is nothing
+pub no_test : (rules : PlainRules) (text : List ℕ)
+    → ((parts : PlainParts) → SpellsPlain parts text → ¬ IsTaken rules.accept_authzid parts) → (n : ℕ)
+    → plain_hmacs rules text n → n ≡ 0
+no_test rules text none n (inl (count, tests, is)) = absurd (none tests.0 tests.2 tests.3)
+no_test rules text none n (inr (other, zero)) = zero
+
+-- ---- a message
+
+-- one whose parts are not let in logs nobody in
+pub not_logged_in : (rules : PlainRules) (text : List ℕ) (parts : PlainParts) → SpellsPlain parts text
+    → ¬ IsLetIn rules parts → (other : PlainParts) → ¬ PlainLogsIn rules text other
+not_logged_in rules text parts spells wrong other is =
+    wrong (subst (IsLetIn rules) (one_message text other parts is.0 spells) is.2)
+
+-- and one that is accepted for a test logs in exactly if it is let in
+pub logs_in_where : (rules : PlainRules) (text : List ℕ) (parts : PlainParts) (is : Bool) → SpellsPlain parts text
+    → IsTaken rules.accept_authzid parts → (IsTrue is ↔ IsLetIn rules parts)
+    → IsTrue is ↔ ((other : PlainParts) × PlainLogsIn rules text other)
+logs_in_where rules text parts is spells taken verdict = (
+  λ yes. (parts, (spells, taken, verdict.0 yes)),
+  λ (other, logs). verdict.1 (subst (IsLetIn rules) (one_message text other parts logs.0 spells) logs.2),
+)
+
+-- ---- errors
 
 -- an error that means this whatever it is
 pub err_where : {X F P : Type 0} (result : Result X F) → P → IfErr result (λ _. P)
 err_where (Ok value) so = tt
 err_where (Err fault) so = so
-
--- a message that is accepted for a test, of an init that logs nobody in, has a wrong password, or its user no right
-pub wrong_password : (server : PlainState) (accepts : Bool) (mechanism text : List ℕ) (hostname : Option (List ℕ))
-    (message : PlainParts) → server.accept_authzid ≡ accepts → mechanism ≡ codes "PLAIN" → SpellsPlain message text
-    → IsTaken accepts message
-    → ((parts : PlainParts) → ¬ PlainLogsIn server (frames.Init mechanism (Some text) hostname) parts)
-    → plain_reasons server (frames.Init mechanism (Some text) hostname) WrongPassword
-wrong_password server accepts mechanism text hostname message same named spells taken none =
-    let is_taken = subst (λ (accepts : Bool). IsTaken accepts message) (sym same) taken in
-    inr (named, (message, spells, is_taken, λ is. none message ((named, spells, is_taken), is)))

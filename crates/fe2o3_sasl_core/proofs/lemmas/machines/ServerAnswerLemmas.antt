@@ -19,12 +19,10 @@ use Rattle.fe2o3_scram.specs.ServerFirst.{OpenExchange}
 use Rattle.fe2o3_scram.specs.declared.hmac.ScramVersion.{ScramVersion}
 use Rattle.fe2o3_scram.specs.declared.scram_messages.error.ServerScramErrorKind.{ServerScramErrorKind}
 use Rattle.fe2o3_scram.specs.declared.scram_messages.error.ServerScramErrorKind.TheVariants.{OutOfMemory}
-use Rattle.fe2o3_sasl_core.specs.PlainServer.{IsLetIn, PlainParts, SpellsPlain}
-use Rattle.fe2o3_sasl_core.specs.Servers.{ExchangeOpen, NotStarted, MessageLetsIn, ServerSettings, ServerStage, plain_by_settings, provider_by, response_hmacs, exchange_server, way_name}
+use Rattle.fe2o3_sasl_core.specs.Servers.{ExchangeOpen, NotStarted, ServerSettings, ServerStage, provider_by, response_hmacs, exchange_server, way_name}
 use Rattle.fe2o3_sasl_core.specs.declared.server.stage.Move.{Move}
 use Rattle.fe2o3_sasl_core.specs.declared.server.stage.Move.TheVariants as moves
 use Rattle.fe2o3_sasl_core.specs.private.ServerMoves.{TakesAtMost, after, restarted}
-use Rattle.fe2o3_sasl_core.proofs.lemmas.machines.PlainMessageLemmas.{one_message}
 use Rattle.fe2o3_sasl_core.proofs.lemmas.machines.ResponseCostLemmas.{response_costs}
 use Rattle.fe2o3_sasl_core.specs.declared.events.ServerReply.{ServerReply}
 use Rattle.fe2o3_sasl_core.specs.private.Writing.{Writes}
@@ -66,14 +64,6 @@ unwritten_answer machine state moved nonce frame reply faults.TooLarge made none
 unwritten_answer machine state moved nonce frame reply faults.OutOfMemory made none = inl (refl, refl)
 unwritten_answer machine state moved nonce frame reply faults.DecodeError made none = absurd none
 unwritten_answer machine state moved nonce frame reply faults.NotImplemented made none = absurd none
-
--- ---- PLAIN
-
--- a message that is not let in lets nobody in
-pub not_let_in : (settings : ServerSettings) (text : List ℕ) (parts : PlainParts) → SpellsPlain parts text
-    → ¬ IsLetIn (plain_by_settings settings) parts → (other : PlainParts) → ¬ MessageLetsIn settings text other
-not_let_in settings text parts spells wrong other is =
-    wrong (subst (IsLetIn (plain_by_settings settings)) (one_message text other parts is.0 spells) is.2)
 
 -- ---- exchanges
 

@@ -14,13 +14,12 @@ use Rattle.fe2o3_scram.specs.Hmac.{digest, mechanism_name}
 use Rattle.fe2o3_scram.specs.MockSettings.{MockSettings, mock_record, mocking, stored_or}
 use Rattle.fe2o3_scram.specs.ScramServer.{ServerState}
 use Rattle.fe2o3_scram.proofs.lemmas.providers.MockLemmas.{mock_alike}
-use Rattle.fe2o3_sasl_core.specs.AnyMechanism.{any_mechanism_machine}
 use Rattle.fe2o3_sasl_core.specs.AnyMechanismLaws.{Machine}
 use Rattle.fe2o3_sasl_core.specs.Costs.{acceptor_hmacs}
 use Rattle.fe2o3_sasl_core.specs.Events.{Given}
-use Rattle.fe2o3_sasl_core.specs.SaslAcceptor.{Acceptor, ScramAcceptor, acceptor_machine, acceptor_names}
+use Rattle.fe2o3_sasl_core.specs.SaslAcceptor.{Acceptor, ScramAcceptor, acceptor_machine}
 use Rattle.fe2o3_sasl_core.specs.ServerHistory.{Accepted, Challenging, FitsAsInit, FitsAsResponse, server_at}
-use Rattle.fe2o3_sasl_core.specs.UnknownUsers.{GivesAlike, GivesReplies, SaltTextsDiffer, UnknownCostsAsMock, UnknownIsMock, UnknownIsMockInBoth, MockRecordIsMet, mock_server, with_mock, without_user}
+use Rattle.fe2o3_sasl_core.specs.UnknownUsers.{GivesAlike, GivesReplies, SaltTextsDiffer, UnknownCostsAsMock, UnknownIsMock, MockRecordIsMet, mock_server, with_mock, without_user}
 
 -- both servers are one: each name has one record at both
 one_server : (rules : ServerRules) (rights : Rights) (mock : MockSettings) (store : Store) (name : List ℕ)
@@ -53,13 +52,6 @@ unknown_costs_as_mock rules rights mock store name state frame n =
       subst (λ (at : Acceptor). acceptor_hmacs at frame n) same,
       subst (λ (at : Acceptor). acceptor_hmacs at frame n) (sym same),
     )
-
-pub unknown_is_mock_in_both : UnknownIsMockInBoth
-unknown_is_mock_in_both rules other_rules rights other_rights mock other_mock store other name state other_state asked =
-    let first = one_server rules rights mock store name state in
-    let second = one_server other_rules other_rights other_mock other name other_state in
-    one_gives (any_mechanism_machine acceptor_names acceptor_names acceptor_machine acceptor_machine) _ _
-    (λ i. record { first = first i; second = second i; selected = asked })
 
 -- ---- the proof of an unknown user
 

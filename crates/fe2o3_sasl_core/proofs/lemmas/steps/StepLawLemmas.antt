@@ -1,5 +1,5 @@
--- What an Ok of one step means, for a caller's own proof: `oks_log_in` of a server, `plain_oks_log_in` of PLAIN over
--- records, `reported_oks_are_signed` of a client.
+-- What an Ok of one step means, for a caller's own proof: `oks_log_in` of a server,
+-- `reported_oks_are_signed` of a client.
 use Rattle.std.proofs.Common.{◌≡◌, ◌≢◌, ℕ, Bool, true, false, Option, Some, None, List, [], refl, sym, ap, ◌∙◌, subst, inl, inr, Result, Ok, Err}
 use Rattle.fe2o3_sasl_wire.specs.declared.amqp_types.SaslCode.{SaslCode}
 use Rattle.fe2o3_sasl_wire.specs.declared.amqp_types.SaslCode.TheVariants as outcomes
@@ -15,11 +15,10 @@ use Rattle.fe2o3_scram.specs.Logins.{IsSigned}
 use Rattle.fe2o3_scram.proofs.lemmas.messages.LoginLemmas.{accepted_texts_log_in, verified_texts_are_signed}
 use Rattle.fe2o3_sasl_core.specs.Bodies.{SpellsBody, carried, server_says}
 use Rattle.fe2o3_sasl_core.specs.Events.{Given, ServerSays, Concluded, Failed, ClientSays, Reported, Refused}
-use Rattle.fe2o3_sasl_core.specs.PlainServer.{PlainLogsIn, PlainParts, PlainState, asked_identity, plain_machine}
 use Rattle.fe2o3_sasl_core.specs.Profiles.{Profile, ScramProfile, ChallengeReplies, client_frame, profile_machine}
 use Rattle.fe2o3_sasl_core.specs.Runs.{Replies, SendsCanonical}
-use Rattle.fe2o3_sasl_core.specs.SaslAcceptor.{Acceptor, AnonymousAcceptor, ScramAcceptor, acceptor_machine, ends_with, server_frame}
-use Rattle.fe2o3_sasl_core.specs.StepLaws.{BodyLogsIn, OksLogIn, PlainOksLogIn, ReportedOksAreSigned, ShowsSignature}
+use Rattle.fe2o3_sasl_core.specs.SaslAcceptor.{Acceptor, ScramAcceptor, acceptor_machine, ends_with, server_frame}
+use Rattle.fe2o3_sasl_core.specs.StepLaws.{BodyLogsIn, OksLogIn, ReportedOksAreSigned, ShowsSignature}
 use Rattle.fe2o3_sasl_core.specs.declared.sasl_profile.error.ProfileError.{ProfileError}
 use Rattle.fe2o3_sasl_core.specs.declared.sasl_profile.error.ProfileError.TheVariants.{Frame}
 
@@ -121,43 +120,6 @@ oks_log_in provider state event body next (Ok (frames.Response text), spells, in
 oks_log_in provider state event body next (Ok (frames.Response text), spells, inr gives) =
     response_logs_in provider state gives.2.1 event text gives.2.0 gives.0 gives.1 next body spells gives.2.2 gives.2.3
     gives.2.4 gives.3
-
--- ---- a server of PLAIN over records
-
-plain_answer_logs_in : (server moved next : PlainState) (event : Given) (frame reply : SaslFrame) (body : List ℕ)
-    → SpellsBody event.body (Ok frame) → plain_machine server event.nonce frame reply moved
-    → SendsCanonical (Failed faults.TooLarge) (server_says reply) (canonical reply) server moved (Concluded outcomes.Ok body) next
-    → (frame : SaslFrame) × (message : PlainParts) × SpellsBody event.body (Ok frame) × PlainLogsIn server frame message
-    × (next ≡ record server { user = Some message.user; acts_for = asked_identity message })
-plain_answer_logs_in server moved next event frame reply body spells (inl (message, logs, is, to)) said =
-    let sent = subst (λ (f : SaslFrame). SendsCanonical (Failed faults.TooLarge) (server_says f) (canonical f) server moved
-    (Concluded outcomes.Ok body) next) is said in (
-      frame,
-      message,
-      spells,
-      logs,
-      sent_moves (canonical (ends_with outcomes.Ok)) outcomes.Ok body server moved next sent ∙ to,
-    )
-plain_answer_logs_in server moved next event frame reply body spells (inr (none, is, to)) said =
-    absurd (auth_is_no_ok reply AnonymousAcceptor AnonymousAcceptor _ body is (said.0, refl))
-
-pub plain_oks_log_in : PlainOksLogIn
-plain_oks_log_in server next event body (Err fault, spells, gives) = let no = gives.0 in absurd (cc)
-plain_oks_log_in server next event body (Ok (frames.Mechanisms names), spells, gives) =
-    let no = gives.0 in absurd (cc)
-plain_oks_log_in server next event body (Ok (frames.Challenge text), spells, gives) =
-    let no = gives.0 in absurd (cc)
-plain_oks_log_in server next event body (Ok (frames.Outcome code more), spells, gives) =
-    let no = gives.0 in absurd (cc)
-plain_oks_log_in server next event body (Ok (frames.Init mechanism response hostname), spells, inl wants) =
-    let no = wants.0 in absurd (cc)
-plain_oks_log_in server next event body
-    (Ok (frames.Init mechanism response hostname), spells, inr (reply, moved, machine, said)) =
-    plain_answer_logs_in server moved next event (frames.Init mechanism response hostname) reply body spells machine said
-plain_oks_log_in server next event body (Ok (frames.Response text), spells, inl wants) =
-    let no = wants.0 in absurd (cc)
-plain_oks_log_in server next event body (Ok (frames.Response text), spells, inr (reply, moved, machine, said)) =
-    plain_answer_logs_in server moved next event (frames.Response text) reply body spells machine said
 
 -- ---- a client
 

@@ -4,7 +4,7 @@ use Rattle.fe2o3_scram.specs.Passwords.{Typed, Prepared}
 use Rattle.fe2o3_sasl_core.specs.PlainServer.{count_or, parts_of}
 use Rattle.fe2o3_sasl_core.specs.declared.plain_server.passwords.PlainPasswords.TheVariants as forms
 use Rattle.fe2o3_sasl_core.proofs.lemmas.machines.PlainServerLemmas.{costs_form, has_form}
-use Rattle.fe2o3_sasl_core.proofs.plain_server.PasswordTest.has_password.Goals as goal
+use Rattle.fe2o3_sasl_core.proofs.plain_server.PlainTest.has_password.Goals as goal
 
 pub returns-in-Typed-clause-verdict : goal.returns-in-Typed-clause-verdict
 returns-in-Typed-clause-verdict g c = has_form c.args.self.now.passwords forms.Typed

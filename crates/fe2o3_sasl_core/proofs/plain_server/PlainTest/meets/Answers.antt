@@ -2,7 +2,7 @@ use Rattle.std.proofs.Common.{sym}
 use Rattle.fe2o3_scram.specs.Credentials.{kept, record_at}
 use Rattle.fe2o3_scram.specs.Passwords.{password_of}
 use Rattle.fe2o3_sasl_core.proofs.lemmas.machines.PlainServerLemmas.{costs_known, costs_unknown, unknown}
-use Rattle.fe2o3_sasl_core.proofs.plain_server.PasswordTest.meets.Goals as goal
+use Rattle.fe2o3_sasl_core.proofs.plain_server.PlainTest.meets.Goals as goal
 
 pub returns-in-Some-clause-cost : goal.returns-in-Some-clause-cost
 returns-in-Some-clause-cost g c = costs_known (password_of c.args.password) c.args.self.now.iterations
