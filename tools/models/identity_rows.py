@@ -11,7 +11,7 @@ import sys
 
 sys.dont_write_bytecode = True
 from channel_rows import AUTH, CLIENT_NONCE, COUNT, DONE, FILE, KINDS, LOGGED_IN, MISPLACED, NO_HEADER, REFUSED, SALT
-from channel_rows import SHA_256, USER, Login, b64, challenge, channel, client, client_frames, closed, init, line
+from channel_rows import SHA_256, USER, Login, b64, challenge, channel, client, client_frames, init, line
 from channel_rows import message_rejected, offer, ok, plain, response, row, server, server_frames, server_refuses
 
 FILE = FILE.with_name("identities.txt")
@@ -31,7 +31,7 @@ HEAD = """# Runs of `scram client`, `scram server` and `scram explain` with an i
 # Source: written by `tools/models/identity_rows.py`, whose proofs and signatures are of Python's `hashlib` and `hmac`;
 # sentences written by hand."""
 
-NOT_ALLOWED = server_refuses("Authentication failed")
+NOT_ALLOWED = server_refuses("No right to act for this identity")
 WRONG_PROOF = "e=invalid-proof"
 PLUS = SHA_256 + "-PLUS"
 
@@ -184,7 +184,7 @@ def refused(name, options, login):
             options,
             [init(login.plus, first), response(last)],
             [offer(login.plus), challenge(challenged), AUTH],
-            *closed("The login was rejected"),
+            *NOT_ALLOWED,
         ),
     ]
 
@@ -225,7 +225,7 @@ def servers():
             "--may-act alice:bob",
             [bob.client_first, with_wrong_proof(bob)],
             [bob.server_first, WRONG_PROOF],
-            *NOT_ALLOWED,
+            *server_refuses("Wrong password"),
         )
     )
     rows.append(server("A server that accepts no identity.", "", [bob.client_first], ["e=other-error"], *NO_HEADER))
@@ -235,7 +235,7 @@ def servers():
             "",
             [init(SHA_256, bob.client_first)],
             [offer(SHA_256), AUTH],
-            *closed("The login was rejected"),
+            *NO_HEADER,
         )
     )
     rows.append(
@@ -248,8 +248,7 @@ def servers():
             "--may-act carol:bob",
             [unknown.client_first],
             ["e=unknown-user"],
-            "! scram: The user is unknown.",
-            "= 3",
+            *server_refuses("Unknown user"),
         )
     )
     for name, header in (("no identity", b"n,,"), ("another identity", b"n,a=carol,")):
@@ -260,7 +259,7 @@ def servers():
                 "--may-act alice:bob",
                 [moved.client_first, moved.client_final],
                 [moved.server_first, "e=channel-bindings-dont-match"],
-                *server_refuses("Invalid channel binding"),
+                *server_refuses("Channel binding"),
             )
         )
     strict = plain("n,,", client_more=",i=1")
@@ -270,7 +269,7 @@ def servers():
             "--accept-authzid",
             [strict.client_first],
             ["e=other-error"],
-            *server_refuses(MISPLACED),
+            *server_refuses("SCRAM: " + MISPLACED),
         )
     )
     return rows

@@ -6,6 +6,7 @@ mod database;
 use crate::database::SqliteFile;
 use sasl_lab_lib::sides::audit;
 use scram_base_lib::stop::Stop;
+use std::cell::Cell;
 use std::io::{BufReader, IsTerminal};
 use std::process::ExitCode;
 use std::rt::Env;
@@ -14,7 +15,7 @@ use std::{env, io};
 /// Returns the program's arguments, with its own name first.
 fn words<R: Env + AllocGlobal>(rt: &R) -> Result<Vec<String>, Stop> {
     let mut words = Vec::new(rt.alloc());
-    for word in env::args(rt).map_err(Stop::of_input)? {
+    for word in env::args(rt).map_err(Stop::of_words)? {
         words.push(word)?;
     }
     Ok(words)
@@ -26,7 +27,10 @@ fn run(rt: &HostRuntime) -> Result<u8, Stop> {
     let mut input = BufReader::new(rt.alloc(), rt.reader()).map_err(Stop::of_input)?;
     let (mut output, mut errors) = (io::writer(rt), rt.stderr());
     let is_terminal = rt.stdin().is_terminal();
-    Ok(scram_lib::run(
+    let db = SqliteFile {
+        has_wrong_rows: Cell::new(false),
+    };
+    let status = scram_lib::run(
         rt,
         &words,
         is_terminal,
@@ -34,8 +38,13 @@ fn run(rt: &HostRuntime) -> Result<u8, Stop> {
         &mut output,
         &mut errors,
         audit,
-        &SqliteFile,
-    ))
+        &db,
+    );
+    Ok(if status == 0 && db.has_wrong_rows.get() {
+        4
+    } else {
+        status
+    })
 }
 
 fn main(rt: HostRuntime) -> ExitCode {

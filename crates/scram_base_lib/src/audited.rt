@@ -5,7 +5,6 @@
 pub struct Audited<'a> {
     /// The file of the server's users.
     pub file: &'a str,
-
     /// The maximum iteration count that the client accepts.
     pub max_iterations: u32,
 }

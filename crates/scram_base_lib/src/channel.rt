@@ -29,7 +29,7 @@ pub fn parse_channel(alloc: Global, word: &str) -> Result<ChannelBinding, Stop>
 }
 
 /// Splits a word at its first colon. Without a colon the second part is empty.
-fn parts_of(word: &str) -> (&str, &str)
+pub fn parts_of(word: &str) -> (&str, &str)
     ensures name { result.0.now ≡ name_in word.now }
     ensures digits { result.1.now ≡ digits_in word.now }
 {
@@ -107,22 +107,14 @@ fn channels(alloc: Global, word: Option<&str>) -> Result<Option<ChannelBindings>
 fn only(binding: ChannelBinding) -> ChannelBindings
     ensures { result ≡ only_data binding.kind binding.cbind_data }
 {
-    let known = Some(binding.cbind_data);
-    match binding.kind {
-        ChannelKind::TlsUnique => ChannelBindings {
-            tls_unique: known,
-            tls_server_end_point: None,
-            tls_exporter: None,
-        },
-        ChannelKind::TlsServerEndPoint => ChannelBindings {
-            tls_unique: None,
-            tls_server_end_point: known,
-            tls_exporter: None,
-        },
-        ChannelKind::TlsExporter => ChannelBindings {
-            tls_unique: None,
-            tls_server_end_point: None,
-            tls_exporter: known,
-        },
+    let (tls_unique, tls_server_end_point, tls_exporter) = match binding.kind {
+        ChannelKind::TlsUnique => (Some(binding.cbind_data), None, None),
+        ChannelKind::TlsServerEndPoint => (None, Some(binding.cbind_data), None),
+        ChannelKind::TlsExporter => (None, None, Some(binding.cbind_data)),
+    };
+    ChannelBindings {
+        tls_unique,
+        tls_server_end_point,
+        tls_exporter,
     }
 }

@@ -1,6 +1,5 @@
 //! A database of users, which the caller of the commands opens.
 
-use crate::database_fault::DatabaseFault;
 use crate::stop::Stop;
 use crate::store::{Change, Changed};
 use fe2o3_scram::ScramVersion;
@@ -35,42 +34,8 @@ pub trait Database<R> {
         name: &str,
         change: &C,
     ) -> Result<Changed, Stop>;
-}
 
-/// No database: each call returns an error.
-#[derive(Clone, Copy)]
-pub struct NoDatabase;
-
-/// What [`NoDatabase`] returns.
-const NONE: Stop = Stop::Database(DatabaseFault::NoDatabases);
-
-impl<R> Database<R> for NoDatabase {
-    fn lines_of(
-        &self,
-        _rt: &R,
-        _file: &str,
-        _name: &str,
-        _version: Option<ScramVersion>,
-    ) -> Result<String, Stop> {
-        Err(NONE)
-    }
-
-    fn first_line(&self, _rt: &R, _file: &str, _version: ScramVersion) -> Result<String, Stop> {
-        Err(NONE)
-    }
-
-    fn lines(&self, _rt: &R, _file: &str) -> Result<String, Stop> {
-        Err(NONE)
-    }
-
-    fn make_change<C: Change>(
-        &self,
-        _rt: &R,
-        _file: &str,
-        _wait: u32,
-        _name: &str,
-        _change: &C,
-    ) -> Result<Changed, Stop> {
-        Err(NONE)
-    }
+    /// Adds the records of these lines, or replaces those for the same names and mechanisms, all of them or none. Waits
+    /// like [`Database::make_change`]. Returns a line for each, of [`push_report`](crate::lines::push_report).
+    fn import(&self, rt: &R, file: &str, wait: u32, lines: &str) -> Result<Vec<u8>, Stop>;
 }

@@ -5,7 +5,7 @@ use base64::engine::general_purpose::STANDARD;
 use fe2o3_scram::{CachedKeys, ScramVersion};
 use scram_base_lib::stop::Stop;
 use scram_base_lib::store;
-use scram_base_lib::store::{Change, Changed};
+use scram_base_lib::store::{Locks, Rewrite};
 use scram_base_lib::wire::bytes_of;
 use std::alloc::{AllocError, Global};
 use std::random::RandomSource;
@@ -56,36 +56,24 @@ struct Kept {
     line: String,
 }
 
-impl Change for Kept {
-    fn makes_files(&self) -> bool {
-        true
-    }
+impl Rewrite for Kept {
+    type Done = ();
 
-    fn makes_record(&self, _text: &str, _version: ScramVersion) -> bool {
-        false
-    }
-
-    fn apply<R: RandomSource + AllocGlobal>(
+    fn rewrite<R: RandomSource + AllocGlobal>(
         &self,
-        rt: &R,
-        _text: &str,
-        _firsts: &str,
-    ) -> Result<Changed, Stop> {
-        Ok(Changed {
-            text: self.line.clone()?,
-            done: "kept",
-            notes: String::new(rt.alloc()),
-        })
+        _rt: &R,
+        _old: &str,
+    ) -> Result<(String, ()), Stop> {
+        Ok((self.line.clone()?, ()))
     }
 }
 
 /// Stores the keys of a login.
-pub fn keep<R: Files + Clock + RandomSource + AllocGlobal>(
+pub fn keep<R: Locks + Clock + RandomSource + AllocGlobal>(
     rt: &R,
     file: &str,
     keys: &CachedKeys,
 ) -> Result<(), Stop> {
     let line = line_of(rt.alloc(), keys)?;
-    store::make_change(rt, file, 0, &Kept { line })?;
-    Ok(())
+    store::make_change(rt, file, 0, &Kept { line })
 }

@@ -16,10 +16,8 @@ use std::random::RandomSource;
 pub struct NewRecord<'a> {
     /// The length of a random salt, or `None` for that of the first record.
     pub salt_len: Option<usize>,
-
     /// The iteration count, or `None` for that of the first record.
     pub iterations: Option<u32>,
-
     /// The salt in hexadecimal, or `None` for a random one.
     pub salt: Option<&'a str>,
 }
@@ -64,7 +62,7 @@ impl NewRecord<'_> {
     {
         let salt = self.salt(rt, first)?;
         let iterations = self.iterations.unwrap_or(first.iterations);
-        let (password, meter) = (Password::Typed(password), &mut Meter::new());
+        let (password, meter) = (Password::Prepared(password), &mut Meter::new());
         Ok(ScramRecord::from_password(rt.alloc(), version, password, &salt, iterations, meter)?)
     }
 

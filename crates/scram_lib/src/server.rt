@@ -1,27 +1,31 @@
 //! `server`: the server side of a login, for the users of a file. The input has the client's messages.
 
-ghost use Rattle.std.specs.Prelude.{◌≡◌, ◌↔◌, ℕ, List, Option, Ok, Some, IsSome, IfOk, IfSome, OnOk, false, true, map, option_map};
+ghost use Rattle.std.specs.Prelude.{◌≡◌, ◌↔◌, ℕ, List, Option, Ok, Some, IsSome, IfOk, IfSome, OnOk, false, is_some, true, map, option_map};
 ghost use Rattle.std.specs.List.{list_all};
+ghost use Rattle.fe2o3_scram.specs.ChannelBinding.{mechanism_of};
 ghost use Rattle.fe2o3_scram.specs.ScramServer.{ChallengesFrom, ConcludesFrom, provider_in, rights_in, rules_in, state_in};
-ghost use Rattle.scram_lib.specs.Acting.{AreRightsOf, names_both};
-ghost use Rattle.scram_lib.specs.Done.{AreRulesOf, AreUsers, HasAccepted, IsMessage, IsSameServer, IsServerAsked, HasServed, provider_of};
+ghost use Rattle.mock_secret.specs.Secrets.{IsRead};
+ghost use Rattle.scram_lib.specs.Acting.{names_both};
+ghost use Rattle.scram_lib.specs.Done.{AreRulesOf, AreSettingsOf, AreUsers, HasAccepted, IsClaim, IsMessage, IsSameServer, IsServerAsked, IsServerFor, HasServed, provider_of};
+ghost use Rattle.scram_lib.specs.OwnLines.{source_text};
 
 mod acting;
 mod login_line;
-pub mod mock;
+mod mock;
 mod names;
+pub(crate) mod rejected;
 pub mod source;
 
 use crate::done::Done;
-use crate::form::Form;
 use crate::server::login_line::login_line;
-use crate::server::mock::hide;
+use crate::server::mock::with_mock;
+use crate::server::rejected::{reason_of, tell_rejected};
 use crate::server::source::Source;
 use crate::{frames, nonces};
-use fe2o3_sasl_negotiation::{AuthenticatedUser, claimed_user};
+use fe2o3_sasl_negotiation::{AuthenticatedUser, FrameView, Rejection, claimed_user};
 use fe2o3_scram::{
-    ActingRights, MultiRecordStore, RecordStore, ScramAuthenticator, ScramVersion, ServerError,
-    ServerRules, ServerScramErrorKind,
+    MultiRecordStore, RecordStore, ScramAuthenticator, ScramVersion, ServerError, ServerRules,
+    ServerScramErrorKind,
 };
 use mock_secret::secret_of;
 use scram_base_lib::channel::server_rules;
@@ -37,48 +41,33 @@ use std::sync::Arc;
 /// The arguments of a server.
 #[derive(Clone, Copy)]
 pub struct Service<'a, 'm> {
-    /// The mechanism.
     pub version: ScramVersion,
-
-    /// The file of records.
     pub file: &'a str,
-
     /// Whether the file is a database.
     pub is_db: bool,
-
     /// Whether the names that clients send are prepared by SASLprep before the look-up.
     pub saslprep: bool,
-
     /// Whether an unknown user is answered with an error, and not like a known one.
     pub tells_unknown_users: bool,
-
     /// The channel that clients have to bind, `KIND:HEX`, if any.
     pub channel: Option<&'a str>,
-
     /// Whether the GS2 header `y,,` is accepted too. It has no effect beside `channel`.
     pub accept_y: bool,
-
     /// Whether the server rejects what is no extension in the place of one. A server with a channel does so in any case.
     pub reject_misplaced: bool,
-
     /// Whether a client may name an identity to act for.
     pub accept_authzid: bool,
-
     /// The rights to act for identities, each `USER:IDENTITY`, if any. They have no effect without `accept_authzid`.
     pub may_act: Option<&'m [&'a str]>,
-
-    /// Whether the server is strict.
     pub strict: bool,
-
     /// The nonce in hexadecimal, or `None` for a random one.
     pub nonce: Option<&'a str>,
-
     /// Whether the input has the bytes of an AMQP connection in place of lines.
     pub frames: bool,
 }
 
-/// Serves a login, and prints on the errors who has logged in.
-pub fn serve<R, I, O, E, D>(
+/// Serves a login, and prints on the errors who has logged in, or whose login is rejected.
+pub fn serve<R: Files + RandomSource + AllocGlobal, I: BufRead, O: Write, E: Write, D: Database<R>>(
     rt: &R,
     db: &D,
     service: &Service<'_, '_>,
@@ -86,12 +75,6 @@ pub fn serve<R, I, O, E, D>(
     output: &mut O,
     errors: &mut E,
 ) -> Result<Done, Stop>
-where
-    R: Files + RandomSource + AllocGlobal,
-    I: BufRead,
-    O: Write,
-    E: Write,
-    D: Database<R>,
     ensures { IfOk result (λ done. HasServed service.now done) }
 {
     let rules = service.rules(rt.alloc())?;
@@ -125,7 +108,9 @@ pub(crate) fn tell_user<E: Write>(
 
 impl Service<'_, '_> {
     /// Returns the name of the mechanism, with `-PLUS` if the server binds a channel.
-    fn mechanism(&self) -> &'static str {
+    fn mechanism(&self) -> &'static str
+        ensures { result.now ≡ mechanism_of self.now.version (is_some self.now.channel) }
+    {
         self.version.mechanism_with(self.channel.is_some())
     }
 
@@ -148,7 +133,9 @@ impl Service<'_, '_> {
 
     /// Returns the secret of mock records, or `None` if mock authentication is off.
     fn secret<R: Files + RandomSource + AllocGlobal>(&self, rt: &R) -> Result<Option<Vec<u8>>, Stop>
-        ensures off { IfOk result (λ secret. IsSome secret ↔ (self.now.tells_unknown_users ≡ false)) }
+        ensures off { IfOk result (λ secret.
+            IsSome (option_map (λ secret. secret.items) secret) ↔ (self.now.tells_unknown_users ≡ false)) }
+        ensures held { IfOk result (λ secret. IfSome secret (λ bytes. IsRead R.File.remaining bytes.items)) }
     {
         if self.tells_unknown_users {
             return Ok(None);
@@ -166,52 +153,21 @@ pub(crate) fn server_for<R: AllocGlobal, D: Database<R>>(
     source: &Source<'_, D>,
     claimed: Option<&str>,
 ) -> Result<ScramAuthenticator<RecordStore>, Stop>
-    ensures { AreRulesOf service.now rules → IfOk result (λ server. IsServerAsked service.now server) }
+    ensures { AreSettingsOf service.now rules (option_map (λ secret. secret.items) secret) → IfOk result
+        (IsServerFor service.now (source_text source.now) (option_map (λ sent. sent.now) claimed.entry)
+        (option_map (λ secret. secret.items) secret)) }
 {
+    let alloc = rt.alloc();
     let own = source.lines_for(rt, service, claimed)?;
     let text = match source {
         Source::Text(text) => text.as_str(),
         Source::Database(_) => own.as_str(),
     };
-    let rights = service.rights(rt.alloc(), claimed)?;
     let form = source.form(rt, service)?;
-    server(rt.alloc(), service, rules, rights, secret, form, text, &own)
-}
-
-/// Returns the server of the users in these lines of a text, with these rules and these rights. Mock records have this form.
-fn server(
-    alloc: Global,
-    service: &Service<'_, '_>,
-    rules: ServerRules,
-    rights: ActingRights,
-    secret: Option<Vec<u8>>,
-    form: Form,
-    text: &str,
-    lines: &str,
-) -> Result<ScramAuthenticator<RecordStore>, Stop>
-    ensures { AreRulesOf service.now rules → (claimed : Option (List ℕ))
-        → AreRightsOf service.now.saslprep
-        (option_map (λ words. map (λ word. word.now) words.now) service.now.may_act) claimed rights
-        → IfOk result (λ server. IsServerAsked service.now server) }
-{
-    let users = users_of(alloc, service, text, lines)?;
+    let rights = Arc::new(alloc, service.rights(alloc, claimed)?)?;
+    let users = users_of(alloc, service, text, &own)?;
     let server = with_mock(ScramAuthenticator::new(users), secret, form);
-    let rights = Arc::new(alloc, rights)?;
     Ok(server.with_rules(rules).with_acting_rights(rights))
-}
-
-/// Returns this server, with mock authentication if there is a secret. Mock records have this form.
-fn with_mock(
-    server: ScramAuthenticator<RecordStore>,
-    secret: Option<Vec<u8>>,
-    form: Form,
-) -> ScramAuthenticator<RecordStore>
-    ensures { (provider_in result ≡ provider_in server) × (state_in result ≡ state_in server) }
-{
-    match secret {
-        Some(secret) => hide(server, secret, form),
-        None => server,
-    }
 }
 
 /// Parses the users in these lines of a text that have records for the mechanism. The error at a malformed line is that of
@@ -220,26 +176,29 @@ fn users_of(
     alloc: Global,
     service: &Service<'_, '_>,
     text: &str,
-    lines: &str,
+    own: &str,
 ) -> Result<RecordStore, Stop>
-    ensures { IfOk result (λ users. (lines : List ℕ) × AreUsers service.now.version lines users) }
+    ensures { IfOk result (AreUsers service.now.version own.now) }
 {
-    match users(alloc, service, lines) {
-        Err(Stop::Line(_)) => users(alloc, service, text),
+    match users(alloc, service, own) {
+        Err(Stop::Line(fault)) => {
+            users(alloc, service, text)?;
+            Err(Stop::Line(fault))
+        }
         found => found,
     }
 }
 
 /// Parses the users of a text that have records for the mechanism.
 fn users(alloc: Global, service: &Service<'_, '_>, text: &str) -> Result<RecordStore, Stop>
-    ensures { IfOk result (λ users. AreUsers service.now.version text.now users) }
+    ensures { IfOk result (AreUsers service.now.version text.now) }
 {
     let users = MultiRecordStore::parse_lines(alloc, text)?;
     Ok(users.for_version(service.version).clone()?)
 }
 
 /// Serves a login over lines.
-fn over_lines<R, I, O, E, D>(
+fn over_lines<R: RandomSource + AllocGlobal, I: BufRead, O: Write, E: Write, D: Database<R>>(
     rt: &R,
     service: &Service<'_, '_>,
     rules: ServerRules,
@@ -249,25 +208,27 @@ fn over_lines<R, I, O, E, D>(
     output: &mut O,
     errors: &mut E,
 ) -> Result<Done, Stop>
-where
-    R: RandomSource + AllocGlobal,
-    I: BufRead,
-    O: Write,
-    E: Write,
-    D: Database<R>,
-    ensures { AreRulesOf service.now rules → IfOk result (λ done. HasServed service.now done) }
+    ensures { AreSettingsOf service.now rules (option_map (λ secret. secret.items) secret)
+        → IfOk result (HasServed service.now) }
 {
     let message = wire::receive_first(rt.alloc(), service.mechanism(), input)?;
-    let claimed = claimed_user(rt.alloc(), service.mechanism(), &message)?;
-    let server = server_for(rt, service, rules, secret, source, claimed.as_deref())?;
-    log_in(rt, service, server, &message, input, output, errors)
+    let done = log_in_by(
+        rt, service, rules, secret, source, &message, input, output, errors,
+    );
+    if let Err(stop) = &done {
+        let claimed = claimed_user(rt.alloc(), service.mechanism(), &message)?;
+        tell_rejected(rt.alloc(), service, claimed.as_deref(), stop, errors)?;
+    }
+    done
 }
 
-/// Answers the messages of a login, of which the first is received.
-fn log_in<R, I, O, E>(
+/// Runs a login by the lines of the user whom the client's first message claims.
+fn log_in_by<R, I, O, E, D>(
     rt: &R,
     service: &Service<'_, '_>,
-    server: ScramAuthenticator<RecordStore>,
+    rules: ServerRules,
+    secret: Option<Vec<u8>>,
+    source: &Source<'_, D>,
     message: &[u8],
     input: &mut I,
     output: &mut O,
@@ -278,7 +239,27 @@ where
     I: BufRead,
     O: Write,
     E: Write,
-    ensures { IsServerAsked service.now server → IfOk result (λ done. HasServed service.now done) }
+    D: Database<R>,
+    ensures { AreSettingsOf service.now rules (option_map (λ secret. secret.items) secret)
+        → IfOk result (HasServed service.now) }
+{
+    let claimed = claimed_user(rt.alloc(), service.mechanism(), message)?;
+    let server = server_for(rt, service, rules, secret, source, claimed.as_deref())?;
+    log_in(rt, service, server, message, input, output, errors)
+}
+
+/// Answers the messages of a login, of which the first is received.
+fn log_in<R: RandomSource + AllocGlobal, I: BufRead, O: Write, E: Write>(
+    rt: &R,
+    service: &Service<'_, '_>,
+    server: ScramAuthenticator<RecordStore>,
+    message: &[u8],
+    input: &mut I,
+    output: &mut O,
+    errors: &mut E,
+) -> Result<Done, Stop>
+    ensures { (claimed : Option (List ℕ)) → IsClaim service.now message.now claimed
+        → IsServerAsked service.now claimed server → IfOk result (HasServed service.now) }
 {
     let alloc = rt.alloc();
     let mut server = Box::new(alloc, server)?;
@@ -298,7 +279,7 @@ fn exchange<I: BufRead, O: Write>(
     input: &mut I,
     output: &mut O,
 ) -> Result<(), Stop>
-    ensures { OnOk result (HasAccepted server.old server.new) }
+    ensures { OnOk result (HasAccepted message.now server.old server.new) }
 {
     challenge(alloc, server, message, nonce, output)?;
     conclude(alloc, server, input, output)?;
@@ -307,6 +288,30 @@ fn exchange<I: BufRead, O: Write>(
 
 /// Answers the client's first message with a challenge.
 fn challenge<O: Write>(
+    alloc: Global,
+    server: &mut ScramAuthenticator<RecordStore>,
+    message: &[u8],
+    nonce: &[u8; 32],
+    output: &mut O,
+) -> Result<(), Stop>
+    ensures opens { OnOk result ((challenge : List ℕ) × ChallengesFrom (state_in server.old) (provider_of server.old)
+        nonce.now message.now (Ok (Some challenge)) (state_in server.new)) }
+    ensures keeps { IsSameServer server.old server.new }
+{
+    let replied = send_challenge(alloc, server, message, nonce, output);
+    if let Err(Stop::Rejected(_)) = replied {
+        let frame = FrameView::Init {
+            mechanism: server.mechanism(),
+            initial_response: Some(message),
+            hostname: None,
+        };
+        return Err(Stop::Rejected(reason_of(alloc, server, &frame)?));
+    }
+    replied
+}
+
+/// Sends the answer to the client's first message, and says only that a login is rejected.
+fn send_challenge<O: Write>(
     alloc: Global,
     server: &mut ScramAuthenticator<RecordStore>,
     message: &[u8],
@@ -334,7 +339,12 @@ fn conclude<I: BufRead, O: Write>(
 {
     let message = wire::receive(alloc, input)?;
     let answer = server.compute_server_final_message(alloc, &message);
-    reply(alloc, answer, output)
+    let frame = FrameView::Response(&message);
+    let replied = reply(alloc, answer, output);
+    if let Err(Stop::Rejected(_)) = replied {
+        return Err(Stop::Rejected(reason_of(alloc, server, &frame)?));
+    }
+    replied
 }
 
 /// Sends an answer, or the error (RFC 5802, section 7, `server-error`).
@@ -349,7 +359,7 @@ fn reply<O: Write>(
         Ok(Some(message)) => wire::send(alloc, output, &message),
         Ok(None) => {
             wire::send(alloc, output, b"e=unknown-user")?;
-            Err(Stop::UnknownUser)
+            Err(Stop::Rejected(Rejection::UnknownUser))
         }
         Err(kind) => {
             wire::send(alloc, output, ServerError::of(kind).message().as_bytes())?;

@@ -1,10 +1,10 @@
 //! Runs of a program, and what each prints.
 
+use crate::no_database::NoDatabase;
 use crate::paragraphs::{Run, read};
 use crate::streams::{End, tell_lines};
 use example_broker_lib::log_in;
 use sasl_lab_lib::sides::audit;
-use scram_base_lib::database::NoDatabase;
 use std::fs::Metadata;
 use std::io::{BufRead, BufReader, Read, Result, Write};
 use test_rows::Row;

@@ -1,7 +1,7 @@
 //! Whether the records of a file look alike: `users check` without a name, and `users list --hashes`.
 
 use crate::form::Form;
-use crate::users::{Listed, VERSIONS, source};
+use crate::users::{Named, VERSIONS, source};
 use fe2o3_scram::{MultiRecordStore, ScramVersion};
 use scram_base_lib::database::Database;
 use scram_base_lib::lines;
@@ -18,12 +18,12 @@ use std::rt::Files;
 pub fn check_file<R: Files + AllocGlobal, O: Write, D: Database<R>>(
     rt: &R,
     db: &D,
-    listed: &Listed<'_>,
+    named: &Named<'_>,
     output: &mut O,
 ) -> Result<(), Stop> {
     let alloc = rt.alloc();
-    let text = source::lines(rt, db, listed)?;
-    let users = MultiRecordStore::parse_lines(alloc, &text)?;
+    let text = source::lines(rt, db, named)?;
+    let users = lines::parse(alloc, &text)?;
     let mut names = BTreeSet::new(alloc);
     let mut is_alike = true;
     for line in text.lines() {
@@ -106,33 +106,20 @@ fn print<O: Write>(
 pub fn list_hashes<R: Files + AllocGlobal, O: Write, D: Database<R>>(
     rt: &R,
     db: &D,
-    listed: &Listed<'_>,
+    named: &Named<'_>,
     output: &mut O,
 ) -> Result<(), Stop> {
     let alloc = rt.alloc();
-    let text = source::lines(rt, db, listed)?;
-    let users = MultiRecordStore::parse_lines(alloc, &text)?;
+    let text = source::lines(rt, db, named)?;
+    let users = lines::parse(alloc, &text)?;
     for version in &VERSIONS {
-        if all_have(alloc, &users, &text, *version)? {
+        let is_used = users
+            .for_version(*version)
+            .first_stored_password()
+            .is_some();
+        if is_used && users.all_have(*version) {
             writeln!(output, "{}", version.mechanism()).map_err(Stop::of_output)?;
         }
     }
     Ok(())
-}
-
-/// Returns whether there is a user, and each user of these lines has a record for a version.
-fn all_have(
-    alloc: Global,
-    users: &MultiRecordStore,
-    text: &str,
-    version: ScramVersion,
-) -> Result<bool, Stop> {
-    let own = users.for_version(version);
-    for line in text.lines() {
-        let name = lines::unescaped(alloc, UserLine::of(line).name)?;
-        if own.record(&name).is_none() {
-            return Ok(false);
-        }
-    }
-    Ok(own.first_stored_password().is_some())
 }
