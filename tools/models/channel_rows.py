@@ -463,7 +463,7 @@ def misplaced():
             option,
             [unbound.client_first],
             ["e=other-error"],
-            *NO_HEADER,
+            *OTHER_CHANNEL,
         )
     )
     return rows

@@ -7,6 +7,7 @@
 Nothing of this repository is used: proofs, signatures and frames are those of `channel_rows.py`. The sentences are written
 by hand.
 """
+import re
 import sys
 
 sys.dont_write_bytecode = True
@@ -189,6 +190,37 @@ def refused(name, options, login):
     ]
 
 
+def beside_rights(run, *lines):
+    """The run beside a file of rights with these lines, which stays as it is."""
+    before, record, after = re.split(r"(?m)(^- .*\n)", run, maxsplit=1)
+    given, kept = ("".join(f"{mark} {it}\n" for it in lines) for mark in "-+")
+    return f"{before}{record}f users.txt.rights\n{given}{after}F users.txt.rights 644\n{kept}"
+
+
+def rights_of_a_file(bob):
+    """Runs of a server with a file of rights."""
+    first, challenged, last, signed = bob.texts()
+    wrong = "is not USER IDENTITY, both escaped as in a file of records. A user has no space and no colon."
+    by_both = server(
+        "A right of the file beside one of an argument.",
+        "--may-act alice:carol",
+        [first, last],
+        [challenged, signed],
+        *logged_in("bob"),
+    )
+    rejected = [
+        server(name, "--accept-authzid", [first, last], [], f"! scram: users.txt.rights: Line {line} {wrong}", "= 4")
+        for name, line in (("A line that is no right.", 2), ("A user with a colon.", 1))
+    ]
+    by_file = allowed("A user who may act for another by the file of rights.", "--accept-authzid", bob, "bob")
+    return [
+        *(beside_rights(it, "carol bob", "alice bob") for it in by_file),
+        beside_rights(by_both, "alice bob"),
+        beside_rights(rejected[0], "alice bob", "alice"),
+        beside_rights(rejected[1], "a:b bob"),
+    ]
+
+
 def servers():
     bob, own = acting("bob"), acting(USER)
     exporter = acting("bob", "p=tls-exporter", KINDS["tls-exporter"])
@@ -196,6 +228,7 @@ def servers():
     rows = [
         *allowed("A user who may act for another.", "--may-act alice:bob", bob, "bob"),
         *allowed("Both options.", "--accept-authzid --may-act alice:bob", bob, "bob"),
+        *rights_of_a_file(bob),
         *allowed("The second of two rights.", "--may-act alice:carol --may-act alice:bob", bob, "bob"),
         *allowed("Its own name.", "--accept-authzid", own, USER),
         *allowed("Its own name, beside a right of another user.", "--may-act bob:carol", own, USER),

@@ -18,7 +18,6 @@ use fe2o3_sasl::audit::{AuditError, Finding, FindingKind, Verdict, audit_limited
 use fe2o3_sasl::{scram_client_run_limited, scram_server_run};
 use fe2o3_scram::{MultiRecordStore, RecordStore, ScramCredentialProvider, ScramVersion};
 use saslprep::Unassigned;
-use scram_base_lib::audited::Audited;
 use scram_base_lib::input;
 use scram_base_lib::lines::users;
 use scram_base_lib::stop::Stop;
@@ -43,24 +42,21 @@ struct Login<'a> {
     credentials: &'a RecordStore,
 }
 
-/// Prints what each body says, up to the first that is rejected, and then an audit of both sides.
-pub fn audit<R, I, O>(
+/// Prints what each body says, up to the first that is rejected, and then an audit of both sides against a file of users,
+/// for a client that accepts this many iterations.
+pub fn audit<R: Files + AllocGlobal, I: BufRead, O: Write>(
     rt: &R,
-    asked: &Audited<'_>,
+    file: &str,
+    max_iterations: u32,
     input: &mut I,
     output: &mut O,
-) -> Result<(), Stop>
-where
-    R: Files + AllocGlobal,
-    I: BufRead,
-    O: Write,
-{
+) -> Result<(), Stop> {
     let alloc = rt.alloc();
     let password = input::password(alloc, input, Unassigned::Allowed)?;
     if !password.as_str().is_ascii() {
         return Err(Stop::NotAscii);
     }
-    let users = users(rt, asked.file)?;
+    let users = users(rt, file)?;
     let mut sides = Sides {
         client: Half::new(alloc, true),
         server: Half::new(alloc, false),
@@ -69,7 +65,7 @@ where
         alloc,
         password.as_str(),
         &users,
-        asked.max_iterations,
+        max_iterations,
         input,
         output,
     )
@@ -129,7 +125,7 @@ impl Sides {
     }
 
     /// Takes bodies that were received, in the order of a login: one of each side in turn, from the list of mechanisms or
-    /// the init on.
+    /// the init on. Without a list the client is taken to have received one with the mechanism of the first init.
     fn take_in_turn<O: Write>(
         &mut self,
         alloc: Global,
@@ -137,6 +133,9 @@ impl Sides {
         output: &mut O,
     ) -> Result<(), Stop> {
         let begins = lines.iter().any(|line| line.is_offer());
+        if !begins {
+            self.offer(alloc, lines)?;
+        }
         let (mut first, mut second) = (Vec::new(alloc), Vec::new(alloc));
         for line in lines {
             if line.is_client == begins {
@@ -148,6 +147,17 @@ impl Sides {
         for turn in 0..first.len().max(second.len()) {
             self.pass(alloc, first.get(turn), output)?;
             self.pass(alloc, second.get(turn), output)?;
+        }
+        Ok(())
+    }
+
+    /// Passes to the client a list with the mechanism of the first init. Nothing is printed of it.
+    fn offer(&mut self, alloc: Global, lines: &[Line]) -> Result<(), Stop> {
+        for line in lines {
+            if let Some(body) = line.offer(alloc)? {
+                let mut unseen = Vec::new(alloc);
+                return self.client.take(alloc, line.number, body, &mut unseen);
+            }
         }
         Ok(())
     }

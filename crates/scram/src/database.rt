@@ -1,8 +1,9 @@
-//! The databases of `--db`: SQLite files, which are open only while a call reads or changes them.
+//! What the crates beside `scram_lib` supply: SQLite files as the databases of `--db`, which are open only while a call reads
+//! or changes them, and the audit.
 
 use fe2o3_scram::{MultiRecordStore, ScramCredentialProvider, ScramRecord, ScramVersion};
-use scram_base_lib::database::{Database, WAIT};
-use scram_base_lib::database_fault::DatabaseFault;
+use sasl_lab_lib::sides::audit;
+use scram_base_lib::backend::{Backend, WAIT};
 use scram_base_lib::lines;
 use scram_base_lib::lines::UserLine;
 use scram_base_lib::shown::shown;
@@ -17,11 +18,11 @@ use sqlite_pool::Pool;
 use sqlite_std_file::File;
 use std::alloc::Global;
 use std::cell::Cell;
-use std::io::{ErrorKind, Write};
+use std::io::{BufRead, Write};
 
-/// SQLite files.
+/// SQLite files, and the audit of `sasl_lab_lib`.
 #[derive(Drop)]
-pub struct SqliteFile {
+pub struct Supplied {
     /// Whether a row was found that is no record.
     pub has_wrong_rows: Cell<bool>,
 }
@@ -85,7 +86,7 @@ impl Found {
     }
 }
 
-impl Database<HostRuntime> for SqliteFile {
+impl Backend<HostRuntime> for Supplied {
     fn lines_of(
         &self,
         rt: &HostRuntime,
@@ -144,6 +145,17 @@ impl Database<HostRuntime> for SqliteFile {
         let mut pages = file::open(rt, path, wait, true).map_err(stop_of)?;
         let report = import_lines(rt.alloc(), &mut pages, lines);
         end(rt, path, pages, report)
+    }
+
+    fn audit<I: BufRead, O: Write>(
+        &self,
+        rt: &HostRuntime,
+        path: &str,
+        max_iterations: u32,
+        input: &mut I,
+        output: &mut O,
+    ) -> Result<(), Stop> {
+        audit(rt, path, max_iterations, input, output)
     }
 }
 
@@ -354,21 +366,8 @@ fn push_row(alloc: Global, walk: &Walk, text: &mut String) -> Result<bool, Stop>
 
 /// Converts the error of a database.
 fn stop_of(error: DatabaseError) -> Stop {
-    let fault = match error {
-        DatabaseError::OutOfMemory => return Stop::OutOfMemory,
-        DatabaseError::DanglingLink => return Stop::DanglingLink,
-        DatabaseError::Missing => DatabaseFault::Missing,
-        DatabaseError::NotAFile => DatabaseFault::NotAFile,
-        DatabaseError::Locked => DatabaseFault::Locked,
-        DatabaseError::Journal => DatabaseFault::Journal,
-        DatabaseError::Unopened(ErrorKind::PermissionDenied) => DatabaseFault::Denied,
-        DatabaseError::Unopened(_) => DatabaseFault::Unopened,
-        DatabaseError::NotADatabase => DatabaseFault::NotADatabase,
-        DatabaseError::OtherSchema => DatabaseFault::OtherSchema,
-        DatabaseError::Damaged => DatabaseFault::Damaged,
-        DatabaseError::WrongRow => DatabaseFault::WrongRow,
-        DatabaseError::Io => DatabaseFault::Io,
-        DatabaseError::Full => DatabaseFault::Full,
-    };
-    Stop::Database(fault)
+    match error {
+        DatabaseError::OutOfMemory => Stop::OutOfMemory,
+        error => Stop::Database(error.reason()),
+    }
 }

@@ -151,7 +151,7 @@ impl Heard {
 
     /// Prints what a frame body says, and the message in it. The line has it in hexadecimal.
     fn body_in<O: Write>(&mut self, alloc: Global, line: &str, output: &mut O) -> Result<(), Stop> {
-        let body = body_of(alloc, line)?;
+        let body = wire::hex_bytes(alloc, line, Stop::NotHex)?;
         self.body(alloc, &body, output)
     }
 
@@ -223,15 +223,6 @@ impl Heard {
         let channel = channel_said(alloc, &channel, acts_for)?;
         let proof = hex::encode(alloc, last.proof.as_slice())?;
         Ok(format!(in alloc; "{channel}proof {proof}, same nonce")?)
-    }
-}
-
-/// Decodes a line in hexadecimal.
-pub fn body_of(alloc: Global, line: &str) -> Result<Vec<u8>, Stop> {
-    match hex::decode(alloc, line) {
-        Ok(body) => Ok(body),
-        Err(hex::FromHexError::OutOfMemory) => Err(Stop::OutOfMemory),
-        Err(_) => Err(Stop::NotHex),
     }
 }
 

@@ -7,7 +7,7 @@ ghost use Rattle.fe2o3_scram.specs.MultiRecordLines.{SpellsMixed, mixed_text};
 use crate::shown::shown;
 use crate::stop::Stop;
 use crate::store;
-use crate::store::{Change, Changed, Locks, Rewrite};
+use crate::store::{Change, Changed, Rewrite, System};
 use fe2o3_scram::{
     MultiRecordStore, ReadLinesError, ReadLinesErrorKind, ScramRecord, UnescapeError,
     WriteLinesError, escape_username, unescape_username,
@@ -16,7 +16,7 @@ use std::alloc::Global;
 use std::collections::{BTreeMap, BTreeSet};
 use std::io::BufRead;
 use std::random::RandomSource;
-use std::rt::{Clock, Files};
+use std::rt::Files;
 
 /// The parts of a valid line.
 #[derive(Clone, Copy)]
@@ -150,7 +150,7 @@ impl<C: Change> Rewrite for InFile<'_, C> {
 }
 
 /// Changes the lines of a user in a file. The name is not escaped. The other lines stay byte for byte.
-pub fn make_change<R: Locks + Clock + RandomSource + AllocGlobal, C: Change>(
+pub fn make_change<R: System, C: Change>(
     rt: &R,
     file: &str,
     wait: u32,

@@ -3,7 +3,6 @@
 ghost use Rattle.std.specs.Prelude.{◌≡◌, ◌≤◌, option_map};
 ghost use Rattle.scram_base_lib.specs.Stop.{at_line, status_of, suffix_of};
 
-use crate::database_fault::DatabaseFault;
 use fe2o3_sasl_negotiation::{CloseReason, Rejection};
 use fe2o3_scram::{
     ClientSecretError, ReadLinesError, ReadLinesErrorKind, RecordError, ScramErrorKind,
@@ -91,7 +90,7 @@ pub enum Stop {
     #[error("Line {0} is not USER IDENTITY, both escaped as in a file of records. A user has no space and no colon.")]
     WrongRights(usize),
     #[error("The database cannot be used: {0}.")]
-    Database(DatabaseFault),
+    Database(&'static str),
     #[error("Standard input cannot be imported. {0}. Nothing is changed.")]
     NotImported(ReadLinesError),
     #[error("Line {0} of standard input has the name and the mechanism of an earlier one. Nothing is changed.")]

@@ -33,6 +33,11 @@ impl Locks for HostRuntime {
     }
 }
 
+/// A runtime with files that can be locked, a clock and random bytes.
+pub trait System: Locks + Clock + RandomSource + AllocGlobal {}
+
+impl<R: Locks + Clock + RandomSource + AllocGlobal> System for R {}
+
 /// The result of a change.
 #[derive(Drop)]
 pub struct Changed {
@@ -109,7 +114,7 @@ pub(crate) fn unmarked(text: &str) -> Result<&str, Stop> {
 /// this many seconds. A `FILE.new` without a lock is what a killed process left, and is removed.
 ///
 /// After an error other than `Unsynced` the old file is unchanged.
-pub fn make_change<R: Locks + Clock + RandomSource + AllocGlobal, C: Rewrite>(
+pub fn make_change<R: System, C: Rewrite>(
     rt: &R,
     file: &str,
     wait: u32,
@@ -242,7 +247,7 @@ fn of_beside(error: Error) -> Stop {
 }
 
 /// Writes the new file, and puts it in the place of the old one.
-fn fill<R: Locks + RandomSource + AllocGlobal, C: Rewrite>(
+fn fill<R: System, C: Rewrite>(
     rt: &R,
     target: &str,
     beside: &str,

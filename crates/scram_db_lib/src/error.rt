@@ -10,7 +10,7 @@ use std::alloc::AllocError;
 use std::io;
 use std::io::ErrorKind;
 
-/// Why a database cannot be used. `DatabaseFault` of `scram_base_lib` has the words for each reason.
+/// Why a database cannot be used. [`DatabaseError::reason`] has the words for each.
 #[derive(Debug, Clone, Copy, PartialEq, Eq)]
 pub enum DatabaseError {
     Missing,
@@ -29,6 +29,31 @@ pub enum DatabaseError {
 }
 
 impl DatabaseError {
+    /// Returns the reason in words.
+    pub fn reason(self) -> &'static str {
+        match self {
+            DatabaseError::Missing => "it does not exist",
+            DatabaseError::DanglingLink => "it is a link to a file that does not exist",
+            DatabaseError::NotAFile => "it is not a regular file",
+            DatabaseError::Locked => "another program has it open",
+            DatabaseError::Journal => {
+                "it has a rollback journal, of a change that is under way or was cut off: open it with sqlite3"
+            }
+            DatabaseError::Unopened(ErrorKind::PermissionDenied) => {
+                "permission denied for it, its folder or its log"
+            }
+            DatabaseError::Unopened(_) => "it, its folder or its log cannot be opened",
+            DatabaseError::NotADatabase => "it is not a SQLite database",
+            DatabaseError::OtherSchema => "it does not have exactly the table of users",
+            DatabaseError::Damaged =>
+                "a page is damaged: PRAGMA integrity_check of sqlite3 shows which",
+            DatabaseError::WrongRow => "the row of the user is not a record",
+            DatabaseError::Io => "it cannot be read or written",
+            DatabaseError::Full => "it is full",
+            DatabaseError::OutOfMemory => "out of memory",
+        }
+    }
+
     /// Converts the error of an open.
     pub(crate) fn of_open(error: OpenError) -> DatabaseError {
         match error {

@@ -19,8 +19,6 @@ use Rattle.scram_lib.specs.declared.client.Login.{Login}
 use Rattle.scram_lib.specs.declared.done.Done.{Done}
 use Rattle.scram_lib.specs.declared.done.Done.TheVariants as dones
 use Rattle.scram_lib.specs.declared.server.Service.{Service}
-use Rattle.scram_lib.specs.declared.task.Command.{Command}
-use Rattle.scram_lib.specs.declared.task.Command.TheVariants as commands
 use Rattle.scram_lib.specs.declared.task.Task.{Task}
 use Rattle.scram_lib.specs.declared.task.Task.TheVariants as tasks
 use Rattle.scram_lib.specs.declared.users.Named.{Named}
@@ -160,8 +158,3 @@ IsDone (tasks.Client login) done = HasLoggedIn login done
 IsDone (tasks.Server service) done = (full : Service) × IsWithRights service full × HasServed full done
 IsDone (tasks.Check named) done = HasChecked named done
 IsDone task done = Unit {0}
-
--- what a command has done
-abbrev pub IsDoneCommand : Command → Done → Type 0
-IsDoneCommand (commands.Task task) done = IsDone task done
-IsDoneCommand (commands.Audit asked) done = Unit {0}

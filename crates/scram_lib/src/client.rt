@@ -5,19 +5,20 @@ ghost use Rattle.fe2o3_scram.specs.ScramClient.{AnswersIn, VerifiesIn};
 ghost use Rattle.scram_lib.specs.Done.{HasVerified, IsClientAsked, HasLoggedIn};
 
 use crate::done::Done;
-use crate::{frames, keys, nonces};
+use crate::task::Process;
+use crate::{keys, nonces};
 use fe2o3_scram::secrets::SecretText;
 use fe2o3_scram::{CachedKeys, ClientSecret, Password, ScramClient, ScramErrorKind, ScramVersion};
 use saslprep::Unassigned;
+use scram_base_lib::backend::Backend;
 use scram_base_lib::channel::client_channel;
 use scram_base_lib::input::prepared;
 use scram_base_lib::stop::Stop;
-use scram_base_lib::store::Locks;
+use scram_base_lib::store::System;
 use scram_base_lib::{input, wire};
 use std::alloc::Global;
 use std::io::{BufRead, Write};
-use std::random::RandomSource;
-use std::rt::{Clock, Files};
+use std::rt::Files;
 
 /// The arguments of a login.
 #[derive(Clone, Copy)]
@@ -49,36 +50,37 @@ struct Secret {
     keys: Option<CachedKeys>,
 }
 
-/// Logs in, and stores the keys of the login if there is a key file.
-pub fn log_in<R: Locks + Clock + RandomSource + AllocGlobal, I: BufRead, O: Write>(
-    rt: &R,
-    login: &Login<'_>,
-    input: &mut I,
-    output: &mut O,
-) -> Result<Done, Stop>
-    ensures { IfOk result (λ done. HasLoggedIn login.now done) }
-{
-    let client = login.client(rt, input)?;
-    if login.frames {
-        return frames::log_in(rt, login, client, input, output);
+impl<R: System, I: BufRead, O: Write, E: Write, B: Backend<R>> Process<'_, R, I, O, E, B> {
+    /// Logs in, and stores the keys of the login if there is a key file.
+    pub(crate) fn log_in(&mut self, login: &Login<'_>) -> Result<Done, Stop>
+        ensures { IfOk result (λ done. HasLoggedIn login.now done) }
+    {
+        let client = login.client(self.rt, self.input)?;
+        if login.frames {
+            return self.log_in_frames(login, client);
+        }
+        self.log_in_lines(login, client)
     }
-    over_lines(rt, login, client, input, output)
-}
 
-/// Logs in over lines.
-fn over_lines<R: Locks + Clock + RandomSource + AllocGlobal, I: BufRead, O: Write>(
-    rt: &R,
-    login: &Login<'_>,
-    mut client: Box<ScramClient>,
-    input: &mut I,
-    output: &mut O,
-) -> Result<Done, Stop>
-    ensures { IsClientAsked login.now (box_value client) → IfOk result (λ done. HasLoggedIn login.now done) }
-{
-    let nonce = nonces::nonce(rt, login.nonce)?;
-    exchange(rt.alloc(), &mut client, &nonce, input, output)?;
-    login.keep(rt, client.keys())?;
-    Ok(Done::Client(client))
+    /// Logs in over lines.
+    fn log_in_lines(
+        &mut self,
+        login: &Login<'_>,
+        mut client: Box<ScramClient>,
+    ) -> Result<Done, Stop>
+        ensures { IsClientAsked login.now (box_value client) → IfOk result (λ done. HasLoggedIn login.now done) }
+    {
+        let nonce = nonces::nonce(self.rt, login.nonce)?;
+        exchange(
+            self.rt.alloc(),
+            &mut client,
+            &nonce,
+            self.input,
+            self.output,
+        )?;
+        login.keep(self.rt, client.keys())?;
+        Ok(Done::Client(client))
+    }
 }
 
 impl Login<'_> {
@@ -150,11 +152,7 @@ impl Login<'_> {
     }
 
     /// Stores the keys of the login if there is a key file.
-    pub(crate) fn keep<R: Locks + Clock + RandomSource + AllocGlobal>(
-        &self,
-        rt: &R,
-        keys: Option<&CachedKeys>,
-    ) -> Result<(), Stop> {
+    pub(crate) fn keep<R: System>(&self, rt: &R, keys: Option<&CachedKeys>) -> Result<(), Stop> {
         match (self.keys, keys) {
             (Some(file), Some(keys)) => keys::keep(rt, file, keys),
             _ => Ok(()),

@@ -13,6 +13,7 @@ use crate::nonces;
 use crate::server::rejected::{reason_of, tell_rejected};
 use crate::server::source::Source;
 use crate::server::{Service, server_for, tell_user};
+use crate::task::Process;
 use bytes::BytesMut;
 use fe2o3_sasl_negotiation::{
     AuthenticatedUser, ClientNegotiation, CloseReason, ConnectionSide, Endpoint, FrameView, Meter,
@@ -20,13 +21,12 @@ use fe2o3_sasl_negotiation::{
     view_frame,
 };
 use fe2o3_scram::{OutOfMemory, RecordStore, ScramAuthenticator, ScramClient, ServerRules};
-use scram_base_lib::database::Database;
+use scram_base_lib::backend::Backend;
 use scram_base_lib::stop::Stop;
-use scram_base_lib::store::Locks;
+use scram_base_lib::store::System;
 use std::alloc::Global;
 use std::io::{BufRead, Result as Written, Write};
 use std::random::RandomSource;
-use std::rt::Clock;
 
 /// A server's side.
 type Side = ServerNegotiation<ScramAuthenticator<RecordStore>>;
@@ -57,20 +57,46 @@ fn send<O: Write>(output: &mut O, sent: &mut BytesMut) -> Written<()> {
     output.flush()
 }
 
-/// Logs in.
-pub fn log_in<R: Locks + Clock + RandomSource + AllocGlobal, I: BufRead, O: Write>(
-    rt: &R,
-    login: &Login<'_>,
-    client: Box<ScramClient>,
-    input: &mut I,
-    output: &mut O,
-) -> Result<Done, Stop>
-    ensures { IfOk result (λ done. HasLoggedIn login.now done) }
-{
-    let mut client = negotiation(rt.alloc(), client)?;
-    log_in_over(rt, login, &mut *client, input, output)?;
-    login.keep(rt, client.profile().keys())?;
-    Ok(Done::ClientOfFrames(client))
+impl<R: System, I: BufRead, O: Write, E: Write, B: Backend<R>> Process<'_, R, I, O, E, B> {
+    /// Logs in.
+    pub(crate) fn log_in_frames(
+        &mut self,
+        login: &Login<'_>,
+        client: Box<ScramClient>,
+    ) -> Result<Done, Stop>
+        ensures { IfOk result (λ done. HasLoggedIn login.now done) }
+    {
+        let mut client = negotiation(self.rt.alloc(), client)?;
+        log_in_over(self.rt, login, &mut *client, self.input, self.output)?;
+        login.keep(self.rt, client.profile().keys())?;
+        Ok(Done::ClientOfFrames(client))
+    }
+
+    /// Serves a login, and prints on the errors who has logged in, or whose login is rejected. The server is made at the
+    /// client's init, which claims a user name.
+    pub(crate) fn serve_frames(
+        &mut self,
+        service: &Service<'_, '_>,
+        rules: ServerRules,
+        secret: Option<Vec<u8>>,
+        source: &Source<'_, B>,
+    ) -> Result<Done, Stop>
+        ensures { IfOk result (λ done. HasServed service.now done) }
+    {
+        let (rt, alloc) = (self.rt, self.rt.alloc());
+        let opener = opener(alloc, service, rules);
+        let mut opener = Box::new(alloc, ServerNegotiation::new(alloc, opener))?;
+        let claimed = receive_init(rt, service, &mut *opener, self.input, self.output)?;
+        let server = server_for(rt, service, rules, secret, source, claimed.as_deref())?;
+        let mut server = Box::new(alloc, continued(alloc, &opener, server)?)?;
+        if let Err(stop) = serve_over(rt, service, &mut *server, self.input, self.output) {
+            tell_rejected(alloc, service, claimed.as_deref(), &stop, self.errors)?;
+            return Err(stop);
+        }
+        let user = server.authenticated_user();
+        tell_user(alloc, service, user, server.acts_for(), self.errors);
+        Ok(Done::ServerOfFrames(server))
+    }
 }
 
 /// Logs in with a client's side. After `Ok` the side has logged in.
@@ -108,35 +134,6 @@ fn negotiation(
 {
     let profile = SaslProfile::from(Box::into_inner(client));
     Ok(Box::new(alloc, ClientNegotiation::new(alloc, profile, None))?)
-}
-
-/// Serves a login, and prints on the errors who has logged in, or whose login is rejected. The server is made at the
-/// client's init, which claims a user name.
-pub(crate) fn serve<R: RandomSource + AllocGlobal, I: BufRead, O: Write, E: Write, D: Database<R>>(
-    rt: &R,
-    service: &Service<'_, '_>,
-    rules: ServerRules,
-    secret: Option<Vec<u8>>,
-    source: &Source<'_, D>,
-    input: &mut I,
-    output: &mut O,
-    errors: &mut E,
-) -> Result<Done, Stop>
-    ensures { IfOk result (λ done. HasServed service.now done) }
-{
-    let alloc = rt.alloc();
-    let opener = opener(alloc, service, rules);
-    let mut opener = Box::new(alloc, ServerNegotiation::new(alloc, opener))?;
-    let claimed = receive_init(rt, service, &mut *opener, input, output)?;
-    let server = server_for(rt, service, rules, secret, source, claimed.as_deref())?;
-    let mut server = Box::new(alloc, continued(alloc, &opener, server)?)?;
-    if let Err(stop) = serve_over(rt, service, &mut *server, input, output) {
-        tell_rejected(alloc, service, claimed.as_deref(), &stop, errors)?;
-        return Err(stop);
-    }
-    let user = server.authenticated_user();
-    tell_user(alloc, service, user, server.acts_for(), errors);
-    Ok(Done::ServerOfFrames(server))
 }
 
 /// Returns a server without users, which answers up to the client's init.

@@ -5,11 +5,11 @@ use base64::engine::general_purpose::STANDARD;
 use fe2o3_scram::{CachedKeys, ScramVersion};
 use scram_base_lib::stop::Stop;
 use scram_base_lib::store;
-use scram_base_lib::store::{Locks, Rewrite};
+use scram_base_lib::store::{Rewrite, System};
 use scram_base_lib::wire::bytes_of;
 use std::alloc::{AllocError, Global};
 use std::random::RandomSource;
-use std::rt::{Clock, Files};
+use std::rt::Files;
 
 /// Reads the keys of a file, or returns `None` if there is no file.
 pub fn read<R: Files + AllocGlobal>(
@@ -69,11 +69,7 @@ impl Rewrite for Kept {
 }
 
 /// Stores the keys of a login.
-pub fn keep<R: Locks + Clock + RandomSource + AllocGlobal>(
-    rt: &R,
-    file: &str,
-    keys: &CachedKeys,
-) -> Result<(), Stop> {
+pub fn keep<R: System>(rt: &R, file: &str, keys: &CachedKeys) -> Result<(), Stop> {
     let line = line_of(rt.alloc(), keys)?;
     store::make_change(rt, file, 0, &Kept { line })
 }

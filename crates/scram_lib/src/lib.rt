@@ -1,11 +1,10 @@
 //! The program `scram` as a library, over any runtime, reader and writers: `record` makes the record of a password,
 //! `users` keeps a file of records, `client` and `server` play a login, and `explain` says what its messages say. The
-//! caller passes the audit of `explain --audit` and the databases of `--db`.
+//! caller supplies the audit of `explain --audit` and the databases of `--db`.
 #![tactic(auto)]
 
-ghost use Rattle.std.specs.Prelude.{◌≡◌, ◌≤◌, ◌↔◌, IfOk, IfErr, IsOk, IsErr, MatchResult, Some, true, false};
+ghost use Rattle.std.specs.Prelude.{◌≡◌, ◌≤◌, ◌↔◌, IfErr, IsOk, IsErr, MatchResult, Some, true, false};
 ghost use Rattle.scram_base_lib.specs.Stop.{status_of};
-ghost use Rattle.scram_lib.specs.Done.{IsDoneCommand};
 
 pub mod client;
 pub mod done;
@@ -25,61 +24,38 @@ pub mod words;
 
 use crate::done::Done;
 use crate::manual::manual;
-use crate::task::{Command, Streams, ask, echo_of};
+use crate::task::{Process, Task, ask, echo_of};
 use clap::error::ErrorKind;
-use scram_base_lib::audited::Audited;
-use scram_base_lib::database::Database;
+use scram_base_lib::backend::Backend;
 use scram_base_lib::shown::shown;
 use scram_base_lib::stop::Stop;
 use scram_base_lib::store;
-use scram_base_lib::store::Locks;
+use scram_base_lib::store::System;
 use std::io::{BufRead, Write};
-use std::random::RandomSource;
-use std::rt::{Clock, Files};
+use std::rt::Files;
 
-/// Does what the words ask, of which the first is the name of the program, and returns the exit status. An audit is
-/// done by `audit`, and a database is used by `db`. `is_terminal` says whether the input is a terminal. The statuses are in
+/// Does what the words ask, of which the first is the name of the program, and returns the exit status. The statuses are in
 /// [`NOTES`](crate::manual::NOTES).
-pub fn run<R, I, O, E, A, D>(
-    rt: &R,
+pub fn run<R: System, I: BufRead, O: Write, E: Write, B: Backend<R>>(
     words: &[String],
-    is_terminal: bool,
-    input: &mut I,
-    output: &mut O,
-    errors: &mut E,
-    audit: A,
-    db: &D,
+    process: &mut Process<'_, R, I, O, E, B>,
 ) -> u8
-where
-    R: Locks + Clock + RandomSource + AllocGlobal,
-    I: BufRead,
-    O: Write,
-    E: Write,
-    A: FnOnce(&R, &Audited<'_>, &mut I, &mut O) -> Result<(), Stop>,
-    D: Database<R>,
-    requires { A.IsAlwaysCallable audit }
     ensures { result ≤ 4 }
 {
-    let parsed = match manual(rt.alloc()) {
+    let parsed = match manual(process.rt.alloc()) {
         Ok(manual) => manual.try_get_matches_from(words),
-        Err(_) => return tell(Stop::OutOfMemory, errors),
+        Err(_) => return tell(Stop::OutOfMemory, process.errors),
     };
     let matches = match parsed {
         Ok(matches) => matches,
-        Err(error) => return show(&error, output, errors),
+        Err(error) => return show(&error, process.output, process.errors),
     };
-    let mut streams = Streams {
-        is_terminal,
-        input,
-        output,
-        db,
-    };
-    let command = Command::of(&matches);
-    if let Err(stop) = prompt(is_terminal, echo_of(&matches), errors) {
-        return tell(stop, errors);
+    let task = Task::of(&matches);
+    if let Err(stop) = prompt(process.is_terminal, echo_of(&matches), process.errors) {
+        return tell(stop, process.errors);
     }
-    let done = do_command(rt, &command, &mut streams, errors, audit);
-    end(rt, done, command.file(), errors)
+    let done = process.run(&task);
+    end(process.rt, done, task.file(), process.errors)
 }
 
 /// Returns the exit status of a command, which is 0 exactly if it is done, and prints why it stops otherwise.
@@ -96,33 +72,6 @@ fn end<R: Files + AllocGlobal, E: Write>(
     match done {
         Ok(_) => 0,
         Err(stop) => tell_of(rt, stop, file, errors),
-    }
-}
-
-/// Does what is asked.
-fn do_command<R, I, O, E, A, D>(
-    rt: &R,
-    command: &Command<'_, '_>,
-    streams: &mut Streams<'_, '_, I, O, D>,
-    errors: &mut E,
-    audit: A,
-) -> Result<Done, Stop>
-where
-    R: Locks + Clock + RandomSource + AllocGlobal,
-    I: BufRead,
-    O: Write,
-    E: Write,
-    A: FnOnce(&R, &Audited<'_>, &mut I, &mut O) -> Result<(), Stop>,
-    D: Database<R>,
-    requires { A.IsAlwaysCallable audit }
-    ensures { IfOk result (λ done. IsDoneCommand command.now done) }
-{
-    match command {
-        Command::Task(task) => task.run(rt, streams, errors),
-        Command::Audit(asked) => {
-            audit(rt, asked, streams.input, streams.output)?;
-            Ok(Done::Other)
-        }
     }
 }
 

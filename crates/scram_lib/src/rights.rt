@@ -6,39 +6,34 @@ ghost use Rattle.scram_lib.specs.Acting.{words_of};
 ghost use Rattle.scram_lib.specs.Done.{HasServed, IsWithRights};
 
 use crate::done::Done;
-use crate::server;
 use crate::server::Service;
-use scram_base_lib::database::Database;
+use crate::task::Process;
+use scram_base_lib::backend::Backend;
 use scram_base_lib::lines::unescaped;
 use scram_base_lib::stop::Stop;
 use scram_base_lib::store;
+use scram_base_lib::store::System;
 use std::alloc::{AllocError, Global};
 use std::io::{BufRead, ErrorKind, Write};
-use std::random::RandomSource;
 use std::rt::Files;
 
-/// Serves a login. If clients may name identities, the rights of `FILE.rights` are added to those of the arguments.
-pub fn serve<R: Files + RandomSource + AllocGlobal, I: BufRead, O: Write, E: Write, D: Database<R>>(
-    rt: &R,
-    db: &D,
-    service: &Service<'_, '_>,
-    input: &mut I,
-    output: &mut O,
-    errors: &mut E,
-) -> Result<Done, Stop>
-    ensures { IfOk result (λ done. (full : Service) × IsWithRights service.now full × HasServed full done) }
-{
-    if !service.accept_authzid {
-        return server::serve(rt, db, service, input, output, errors);
+impl<R: System, I: BufRead, O: Write, E: Write, B: Backend<R>> Process<'_, R, I, O, E, B> {
+    /// Serves a login. If clients may name identities, the rights of `FILE.rights` are added to those of the arguments.
+    pub(crate) fn serve(&mut self, service: &Service<'_, '_>) -> Result<Done, Stop>
+        ensures { IfOk result (λ done. (full : Service) × IsWithRights service.now full × HasServed full done) }
+    {
+        if !service.accept_authzid {
+            return self.serve_by(service);
+        }
+        let alloc = self.rt.alloc();
+        let held = words_in(self.rt, service.file)?;
+        let mut given = Vec::new(alloc);
+        for word in &held {
+            given.push(word.as_str())?;
+        }
+        let words = all_words(alloc, service.may_act, &given)?;
+        self.serve_by(&with_words(service, &words))
     }
-    let held = words_in(rt, service.file)?;
-    let mut given = Vec::new(rt.alloc());
-    for word in &held {
-        given.push(word.as_str())?;
-    }
-    let words = all_words(rt.alloc(), service.may_act, &given)?;
-    let full = with_words(service, &words);
-    server::serve(rt, db, &full, input, output, errors)
 }
 
 /// Returns the arguments with these rights in place of theirs.

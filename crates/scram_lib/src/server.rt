@@ -17,20 +17,22 @@ pub(crate) mod rejected;
 pub mod source;
 
 use crate::done::Done;
+use crate::nonces;
 use crate::server::login_line::login_line;
 use crate::server::mock::with_mock;
 use crate::server::rejected::{reason_of, tell_rejected};
 use crate::server::source::Source;
-use crate::{frames, nonces};
+use crate::task::Process;
 use fe2o3_sasl_negotiation::{AuthenticatedUser, FrameView, Rejection, claimed_user};
 use fe2o3_scram::{
     MultiRecordStore, RecordStore, ScramAuthenticator, ScramVersion, ServerError, ServerRules,
     ServerScramErrorKind,
 };
 use mock_secret::secret_of;
+use scram_base_lib::backend::Backend;
 use scram_base_lib::channel::server_rules;
-use scram_base_lib::database::Database;
 use scram_base_lib::stop::Stop;
+use scram_base_lib::store::System;
 use scram_base_lib::wire;
 use std::alloc::Global;
 use std::io::{BufRead, Write};
@@ -66,27 +68,87 @@ pub struct Service<'a, 'm> {
     pub frames: bool,
 }
 
-/// Serves a login, and prints on the errors who has logged in, or whose login is rejected.
-pub fn serve<R: Files + RandomSource + AllocGlobal, I: BufRead, O: Write, E: Write, D: Database<R>>(
-    rt: &R,
-    db: &D,
-    service: &Service<'_, '_>,
-    input: &mut I,
-    output: &mut O,
-    errors: &mut E,
-) -> Result<Done, Stop>
-    ensures { IfOk result (λ done. HasServed service.now done) }
-{
-    let rules = service.rules(rt.alloc())?;
-    let source = Source::open(rt, db, service)?;
-    let secret = service.secret(rt)?;
-    if secret.is_some() {
-        source.tell_forms(service, errors);
+impl<R: System, I: BufRead, O: Write, E: Write, B: Backend<R>> Process<'_, R, I, O, E, B> {
+    /// Serves a login, and prints on the errors who has logged in, or whose login is rejected.
+    pub(crate) fn serve_by(&mut self, service: &Service<'_, '_>) -> Result<Done, Stop>
+        ensures { IfOk result (λ done. HasServed service.now done) }
+    {
+        let rt = self.rt;
+        let rules = service.rules(rt.alloc())?;
+        let source = Source::open(rt, self.backend, service)?;
+        let secret = service.secret(rt)?;
+        if secret.is_some() {
+            source.tell_forms(service, self.errors);
+        }
+        if service.frames {
+            return self.serve_frames(service, rules, secret, &source);
+        }
+        self.serve_lines(service, rules, secret, &source)
     }
-    if service.frames {
-        return frames::serve(rt, service, rules, secret, &source, input, output, errors);
+
+    /// Serves a login over lines.
+    fn serve_lines(
+        &mut self,
+        service: &Service<'_, '_>,
+        rules: ServerRules,
+        secret: Option<Vec<u8>>,
+        source: &Source<'_, B>,
+    ) -> Result<Done, Stop>
+        ensures { AreSettingsOf service.now rules (option_map (λ secret. secret.items) secret)
+            → IfOk result (HasServed service.now) }
+    {
+        let alloc = self.rt.alloc();
+        let message = wire::receive_first(alloc, service.mechanism(), self.input)?;
+        let done = self.log_in_by(service, rules, secret, source, &message);
+        if let Err(stop) = &done {
+            let claimed = claimed_user(alloc, service.mechanism(), &message)?;
+            tell_rejected(alloc, service, claimed.as_deref(), stop, self.errors)?;
+        }
+        done
     }
-    over_lines(rt, service, rules, secret, &source, input, output, errors)
+
+    /// Runs a login by the lines of the user whom the client's first message claims.
+    fn log_in_by(
+        &mut self,
+        service: &Service<'_, '_>,
+        rules: ServerRules,
+        secret: Option<Vec<u8>>,
+        source: &Source<'_, B>,
+        message: &[u8],
+    ) -> Result<Done, Stop>
+        ensures { AreSettingsOf service.now rules (option_map (λ secret. secret.items) secret)
+            → IfOk result (HasServed service.now) }
+    {
+        let claimed = claimed_user(self.rt.alloc(), service.mechanism(), message)?;
+        let server = server_for(self.rt, service, rules, secret, source, claimed.as_deref())?;
+        self.answer_client(service, server, message)
+    }
+
+    /// Answers the messages of a login, of which the first is received.
+    fn answer_client(
+        &mut self,
+        service: &Service<'_, '_>,
+        server: ScramAuthenticator<RecordStore>,
+        message: &[u8],
+    ) -> Result<Done, Stop>
+        ensures { (claimed : Option (List ℕ)) → IsClaim service.now message.now claimed
+            → IsServerAsked service.now claimed server → IfOk result (HasServed service.now) }
+    {
+        let alloc = self.rt.alloc();
+        let mut server = Box::new(alloc, server)?;
+        let nonce = nonces::nonce(self.rt, service.nonce)?;
+        exchange(
+            alloc,
+            &mut *server,
+            message,
+            &nonce,
+            self.input,
+            self.output,
+        )?;
+        let user = server.authenticated_user();
+        tell_user(alloc, service, user, server.acts_for(), self.errors);
+        Ok(Done::Server(server))
+    }
 }
 
 /// Prints on the errors who has logged in, and the identity that the user acts for, if the client named one.
@@ -145,12 +207,12 @@ impl Service<'_, '_> {
 }
 
 /// Returns the server for a client that claims this name, if any. It has only the records of that user.
-pub(crate) fn server_for<R: AllocGlobal, D: Database<R>>(
+pub(crate) fn server_for<R: AllocGlobal, B: Backend<R>>(
     rt: &R,
     service: &Service<'_, '_>,
     rules: ServerRules,
     secret: Option<Vec<u8>>,
-    source: &Source<'_, D>,
+    source: &Source<'_, B>,
     claimed: Option<&str>,
 ) -> Result<ScramAuthenticator<RecordStore>, Stop>
     ensures { AreSettingsOf service.now rules (option_map (λ secret. secret.items) secret) → IfOk result
@@ -195,79 +257,6 @@ fn users(alloc: Global, service: &Service<'_, '_>, text: &str) -> Result<RecordS
 {
     let users = MultiRecordStore::parse_lines(alloc, text)?;
     Ok(users.for_version(service.version).clone()?)
-}
-
-/// Serves a login over lines.
-fn over_lines<R: RandomSource + AllocGlobal, I: BufRead, O: Write, E: Write, D: Database<R>>(
-    rt: &R,
-    service: &Service<'_, '_>,
-    rules: ServerRules,
-    secret: Option<Vec<u8>>,
-    source: &Source<'_, D>,
-    input: &mut I,
-    output: &mut O,
-    errors: &mut E,
-) -> Result<Done, Stop>
-    ensures { AreSettingsOf service.now rules (option_map (λ secret. secret.items) secret)
-        → IfOk result (HasServed service.now) }
-{
-    let message = wire::receive_first(rt.alloc(), service.mechanism(), input)?;
-    let done = log_in_by(
-        rt, service, rules, secret, source, &message, input, output, errors,
-    );
-    if let Err(stop) = &done {
-        let claimed = claimed_user(rt.alloc(), service.mechanism(), &message)?;
-        tell_rejected(rt.alloc(), service, claimed.as_deref(), stop, errors)?;
-    }
-    done
-}
-
-/// Runs a login by the lines of the user whom the client's first message claims.
-fn log_in_by<R, I, O, E, D>(
-    rt: &R,
-    service: &Service<'_, '_>,
-    rules: ServerRules,
-    secret: Option<Vec<u8>>,
-    source: &Source<'_, D>,
-    message: &[u8],
-    input: &mut I,
-    output: &mut O,
-    errors: &mut E,
-) -> Result<Done, Stop>
-where
-    R: RandomSource + AllocGlobal,
-    I: BufRead,
-    O: Write,
-    E: Write,
-    D: Database<R>,
-    ensures { AreSettingsOf service.now rules (option_map (λ secret. secret.items) secret)
-        → IfOk result (HasServed service.now) }
-{
-    let claimed = claimed_user(rt.alloc(), service.mechanism(), message)?;
-    let server = server_for(rt, service, rules, secret, source, claimed.as_deref())?;
-    log_in(rt, service, server, message, input, output, errors)
-}
-
-/// Answers the messages of a login, of which the first is received.
-fn log_in<R: RandomSource + AllocGlobal, I: BufRead, O: Write, E: Write>(
-    rt: &R,
-    service: &Service<'_, '_>,
-    server: ScramAuthenticator<RecordStore>,
-    message: &[u8],
-    input: &mut I,
-    output: &mut O,
-    errors: &mut E,
-) -> Result<Done, Stop>
-    ensures { (claimed : Option (List ℕ)) → IsClaim service.now message.now claimed
-        → IsServerAsked service.now claimed server → IfOk result (HasServed service.now) }
-{
-    let alloc = rt.alloc();
-    let mut server = Box::new(alloc, server)?;
-    let nonce = nonces::nonce(rt, service.nonce)?;
-    exchange(alloc, &mut *server, message, &nonce, input, output)?;
-    let user = server.authenticated_user();
-    tell_user(alloc, service, user, server.acts_for(), errors);
-    Ok(Done::Server(server))
 }
 
 /// Runs the exchange, of which the first message is received. After `Ok` the server has accepted a proof.

@@ -5,48 +5,35 @@ ghost use Rattle.clap.specs.Matches.{first_value, found_of, matched_of, one_text
 ghost use Rattle.scram_lib.specs.Counts.{IsCountOf};
 ghost use Rattle.scram_lib.specs.Done.{IsDone};
 
-use crate::client::{Login, log_in};
+use crate::client::Login;
 use crate::done::Done;
+use crate::man;
 use crate::record::NewRecord;
 use crate::server::Service;
-use crate::users::alike::{check_file, list_hashes};
-use crate::users::export::{Printed, print};
-use crate::users::import::import;
-use crate::users::{Named, check, put, remove};
-use crate::{man, record, rights};
+use crate::users::Named;
+use crate::users::export::Printed;
 use clap::ArgMatches;
 use fe2o3_scram::secrets::SecretText;
 use fe2o3_scram::{DEFAULT_SCRAM_ITERATIONS, ScramVersion};
 use saslprep::Unassigned;
-use scram_base_lib::audited::Audited;
-use scram_base_lib::database::Database;
+use scram_base_lib::backend::Backend;
 use scram_base_lib::explain::explain;
 use scram_base_lib::input;
 use scram_base_lib::stop::Stop;
-use scram_base_lib::store::Locks;
-use std::alloc::Global;
+use scram_base_lib::store::System;
 use std::io::{BufRead, Write};
-use std::random::RandomSource;
-use std::rt::Clock;
 
-/// The input and the output, and the databases.
+/// The process that runs a command.
 #[derive(Drop)]
-pub struct Streams<'a, 'd, I, O, D> {
+pub struct Process<'a, R, I, O, E, B> {
+    pub rt: &'a R,
+    /// What other crates supply.
+    pub backend: &'a B,
     /// Whether the input is a terminal.
     pub is_terminal: bool,
     pub input: &'a mut I,
     pub output: &'a mut O,
-    /// The databases of `--db`.
-    pub db: &'d D,
-}
-
-/// The command that the arguments ask for.
-#[derive(Clone, Copy)]
-pub enum Command<'a, 'm> {
-    /// A task of this library.
-    Task(Task<'a, 'm>),
-    /// An audit of both sides of a login, which the caller does.
-    Audit(Audited<'a>),
+    pub errors: &'a mut E,
 }
 
 /// A task of this library.
@@ -76,37 +63,15 @@ pub enum Task<'a, 'm> {
     Server(Service<'a, 'm>),
     /// Explains messages. The flag says that the lines are frame bodies.
     Explain(bool),
+    /// Audits a login against this file, for a client that accepts this many iterations.
+    Audit(&'a str, u32),
     /// Prints the manual page.
     Man,
 }
 
-impl<'a, 'm> Command<'a, 'm> {
-    /// Returns the command of the parsed arguments.
-    pub fn of(matches: &'m ArgMatches<'a>) -> Command<'a, 'm> {
-        match matches.subcommand() {
-            Some(("explain", found)) => match found.get_str("audit") {
-                Some(file) => Command::Audit(Audited {
-                    file,
-                    max_iterations: max_iterations(found),
-                }),
-                None => Command::Task(Task::Explain(found.get_flag("frames"))),
-            },
-            _ => Command::Task(Task::of(matches)),
-        }
-    }
-
-    /// Returns the file of the command, or an empty text if it has none.
-    pub fn file(&self) -> &'a str {
-        match self {
-            Command::Task(task) => task.file(),
-            Command::Audit(asked) => asked.file,
-        }
-    }
-}
-
 impl<'a, 'm> Task<'a, 'm> {
-    /// Returns the task of the parsed arguments. They are not those of `explain`.
-    fn of(matches: &'m ArgMatches<'a>) -> Task<'a, 'm> {
+    /// Returns the task of the parsed arguments.
+    pub fn of(matches: &'m ArgMatches<'a>) -> Task<'a, 'm> {
         // The other tasks borrow nothing of the parsed arguments.
         if let Some(("server", found)) = matches.subcommand() {
             return Task::Server(service(found));
@@ -114,6 +79,7 @@ impl<'a, 'm> Task<'a, 'm> {
         match matches.subcommand() {
             Some(("users", found)) => Task::of_users(found),
             Some(("client", found)) => Task::Client(login(found)),
+            Some(("explain", found)) => Task::of_explain(found),
             Some(("man", _)) => Task::Man,
             Some((_, found)) => Task::of_record(found),
             None => Task::of_record(matches),
@@ -124,6 +90,14 @@ impl<'a, 'm> Task<'a, 'm> {
     fn of_record(matches: &ArgMatches<'a>) -> Task<'a, 'm> {
         let version = version_of(matches, "mechanism").unwrap_or(ScramVersion::Sha256);
         Task::Record(version, new_record(matches))
+    }
+
+    /// Returns the task of the parsed arguments of `explain`.
+    fn of_explain(matches: &ArgMatches<'a>) -> Task<'a, 'm> {
+        match matches.get_str("audit") {
+            Some(file) => Task::Audit(file, max_iterations(matches)),
+            None => Task::Explain(matches.get_flag("frames")),
+        }
     }
 
     /// Returns the task of the parsed arguments of `users`.
@@ -148,7 +122,7 @@ impl<'a, 'm> Task<'a, 'm> {
     }
 
     /// Returns the file of the task, or an empty text if it has none.
-    fn file(&self) -> &'a str {
+    pub fn file(&self) -> &'a str {
         match self {
             Task::Add(named, _, _)
             | Task::ChangePassword(named, _)
@@ -160,102 +134,65 @@ impl<'a, 'm> Task<'a, 'm> {
             | Task::Check(named) => named.file,
             Task::Client(login) => login.keys.unwrap_or(""),
             Task::Server(service) => service.file,
+            Task::Audit(file, _) => file,
             Task::Record(_, _) | Task::Explain(_) | Task::Man => "",
         }
     }
+}
 
-    /// Does the task.
-    pub fn run<R, I, O, E, D>(
-        &self,
-        rt: &R,
-        streams: &mut Streams<'_, '_, I, O, D>,
-        errors: &mut E,
-    ) -> Result<Done, Stop>
-    where
-        R: Locks + Clock + RandomSource + AllocGlobal,
-        I: BufRead,
-        O: Write,
-        E: Write,
-        D: Database<R>,
-        ensures { IfOk result (λ done. IsDone self.now done) }
+impl<R: System, I: BufRead, O: Write, E: Write, B: Backend<R>> Process<'_, R, I, O, E, B> {
+    /// Does a task.
+    pub fn run(&mut self, task: &Task<'_, '_>) -> Result<Done, Stop>
+        ensures { IfOk result (λ done. IsDone task.now done) }
     {
-        match self {
-            Task::Client(login) => log_in(rt, login, streams.input, streams.output),
-            Task::Server(service) => {
-                let db = streams.db;
-                rights::serve(rt, db, service, streams.input, streams.output, errors)
-            }
-            Task::Check(named) => {
-                let password = input::password(rt.alloc(), streams.input, Unassigned::Allowed)?;
-                check(rt, streams.db, named, password, streams.output)
-            }
+        match task {
+            Task::Client(login) => self.log_in(login),
+            Task::Server(service) => self.serve(service),
+            Task::Check(named) => self.check(named),
             other => {
-                other.run_other(rt, streams, errors)?;
+                self.run_other(other)?;
                 Ok(Done::Other)
             }
         }
     }
 
     /// Does a task that is no login and no check.
-    fn run_other<R, I, O, E, D>(
-        &self,
-        rt: &R,
-        streams: &mut Streams<'_, '_, I, O, D>,
-        errors: &mut E,
-    ) -> Result<(), Stop>
-    where
-        R: Locks + Clock + RandomSource + AllocGlobal,
-        I: BufRead,
-        O: Write,
-        E: Write,
-        D: Database<R>,
-    {
-        let (alloc, db) = (rt.alloc(), streams.db);
-        match self {
-            Task::Record(version, record) => {
-                let password = new_password(alloc, streams, errors)?;
-                record::print(rt, *version, record, password.as_str(), streams.output)
-            }
+    fn run_other(&mut self, task: &Task<'_, '_>) -> Result<(), Stop> {
+        match task {
+            Task::Record(version, record) => self.print_record(*version, record),
             Task::Add(named, record, force) => {
                 test_name(named.name, *force)?;
-                let password = new_password(alloc, streams, errors)?;
-                let (password, output) = (password.as_str(), &mut *streams.output);
-                put(rt, db, named, false, record, password, output, errors)
+                self.put(named, false, record)
             }
-            Task::ChangePassword(named, record) => {
-                let password = new_password(alloc, streams, errors)?;
-                let (password, output) = (password.as_str(), &mut *streams.output);
-                put(rt, db, named, true, record, password, output, errors)
+            Task::ChangePassword(named, record) => self.put(named, true, record),
+            Task::Remove(named) => self.remove(named),
+            Task::List(named, how) => self.print_records(named, *how),
+            Task::Import(named, dry_run) => self.import(named, *dry_run),
+            Task::ListHashes(named) => self.list_hashes(named),
+            Task::CheckFile(named) => self.check_file(named),
+            Task::Explain(frames) => explain(self.rt.alloc(), *frames, self.input, self.output),
+            Task::Audit(file, limit) => {
+                self.backend
+                    .audit(self.rt, file, *limit, self.input, self.output)
             }
-            Task::Remove(named) => remove(rt, db, named, streams.output),
-            Task::List(named, how) => print(rt, db, named, *how, streams.output, errors),
-            Task::Import(named, dry_run) => {
-                import(rt, db, named, *dry_run, streams.input, streams.output)
-            }
-            Task::ListHashes(named) => list_hashes(rt, db, named, streams.output),
-            Task::CheckFile(named) => check_file(rt, db, named, streams.output),
-            Task::Explain(frames) => explain(alloc, *frames, streams.input, streams.output),
-            Task::Man => man::print(streams.output).map_err(Stop::of_output),
+            Task::Man => man::print(self.output).map_err(Stop::of_output),
             Task::Client(_) | Task::Server(_) | Task::Check(_) => Ok(()),
         }
     }
-}
 
-/// Reads a password to store. At a terminal it is asked for twice.
-fn new_password<I: BufRead, O, D, E: Write>(
-    alloc: Global,
-    streams: &mut Streams<'_, '_, I, O, D>,
-    errors: &mut E,
-) -> Result<SecretText, Stop> {
-    let password = input::password(alloc, streams.input, Unassigned::Refused)?;
-    if streams.is_terminal {
-        ask("The same password again: ", errors);
-        let again = input::password(alloc, streams.input, Unassigned::Refused)?;
-        if again.as_str() != password.as_str() {
-            return Err(Stop::OtherPasswords);
+    /// Reads a password to store. At a terminal it is asked for twice.
+    pub(crate) fn new_password(&mut self) -> Result<SecretText, Stop> {
+        let alloc = self.rt.alloc();
+        let password = input::password(alloc, self.input, Unassigned::Refused)?;
+        if self.is_terminal {
+            ask("The same password again: ", self.errors);
+            let again = input::password(alloc, self.input, Unassigned::Refused)?;
+            if again.as_str() != password.as_str() {
+                return Err(Stop::OtherPasswords);
+            }
         }
+        Ok(password)
     }
-    Ok(password)
 }
 
 /// Asks for a line at a terminal. The program reads on, whether or not that can be written.

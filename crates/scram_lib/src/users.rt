@@ -15,16 +15,16 @@ pub mod source;
 
 use crate::done::Done;
 use crate::record::NewRecord;
+use crate::task::Process;
 use crate::users::changes::{Put, Taken};
-use fe2o3_scram::secrets::SecretText;
 use fe2o3_scram::{Meter, MultiRecordStore, Password, ScramCredentialProvider, ScramVersion};
-use scram_base_lib::database::Database;
+use saslprep::Unassigned;
+use scram_base_lib::backend::Backend;
 use scram_base_lib::stop::Stop;
-use scram_base_lib::store::Locks;
+use scram_base_lib::store::System;
+use scram_base_lib::{input, store};
 use std::alloc::Global;
-use std::io::Write;
-use std::random::RandomSource;
-use std::rt::{Clock, Files};
+use std::io::{BufRead, Write};
 
 /// A file, and a user of it, for one mechanism or for all. A command of the whole file has no user: the name is empty.
 #[derive(Clone, Copy)]
@@ -47,44 +47,59 @@ static VERSIONS: [ScramVersion; 3] = [
     ScramVersion::Sha512,
 ];
 
-/// Makes new records of a user, and prints what the change did. The errors get what to look at. Records for the same
-/// mechanisms are replaced; `must_exist` says that there has to be one.
-pub fn put<R: Locks + Clock + RandomSource + AllocGlobal, O: Write, E: Write, D: Database<R>>(
-    rt: &R,
-    db: &D,
-    named: &Named<'_>,
-    must_exist: bool,
-    record: &NewRecord<'_>,
-    password: &str,
-    output: &mut O,
-    errors: &mut E,
-) -> Result<(), Stop> {
-    let put = Put {
-        name: named.name,
-        version: named.version,
-        must_exist,
-        password,
-        asked: *record,
-    };
-    let changed = source::make_change(rt, db, named, &put)?;
-    report(changed.done, output)?;
-    // The file is changed, whether or not that can be written.
-    let _ = errors.write_all(changed.notes.as_bytes());
-    tell_others(rt.alloc(), &changed.text, named.name, password, errors)
-}
+impl<R: System, I: BufRead, O: Write, E: Write, B: Backend<R>> Process<'_, R, I, O, E, B> {
+    /// Reads a password, makes new records of a user, and prints what the change did. The errors get what to look at. Records
+    /// for the same mechanisms are replaced; `must_exist` says that there has to be one.
+    pub(crate) fn put(
+        &mut self,
+        named: &Named<'_>,
+        must_exist: bool,
+        record: &NewRecord<'_>,
+    ) -> Result<(), Stop> {
+        let password = self.new_password()?;
+        let put = Put {
+            name: named.name,
+            version: named.version,
+            must_exist,
+            password: password.as_str(),
+            asked: *record,
+        };
+        let changed = self.make_change(named, &put)?;
+        report(changed.done, self.output)?;
+        // The file is changed, whether or not that can be written.
+        let _ = self.errors.write_all(changed.notes.as_bytes());
+        tell_others(
+            self.rt.alloc(),
+            &changed.text,
+            named.name,
+            put.password,
+            self.errors,
+        )
+    }
 
-/// Removes a user's records.
-pub fn remove<R: Locks + Clock + RandomSource + AllocGlobal, O: Write, D: Database<R>>(
-    rt: &R,
-    db: &D,
-    named: &Named<'_>,
-    output: &mut O,
-) -> Result<(), Stop> {
-    let taken = Taken {
-        version: named.version,
-    };
-    let changed = source::make_change(rt, db, named, &taken)?;
-    report(changed.done, output)
+    /// Removes a user's records.
+    pub(crate) fn remove(&mut self, named: &Named<'_>) -> Result<(), Stop> {
+        let taken = Taken {
+            version: named.version,
+        };
+        let changed = self.make_change(named, &taken)?;
+        report(changed.done, self.output)
+    }
+
+    /// Reads a password, checks it against the first record of the user for each mechanism, and prints the answers.
+    pub(crate) fn check(&mut self, named: &Named<'_>) -> Result<Done, Stop>
+        ensures { IfOk result (λ done. HasChecked named.now done) }
+    {
+        let (rt, backend) = (self.rt, self.backend);
+        let password = input::password(rt.alloc(), self.input, Unassigned::Allowed)?;
+        let text = if named.is_db {
+            backend.lines_of(rt, named.file, named.name, None)?
+        } else {
+            store::read(rt, named.file)?
+        };
+        check_text(rt.alloc(), &text, named, password.as_str(), self.output)?;
+        Ok(Done::Check(text, password))
+    }
 }
 
 /// Prints what a change did.
@@ -112,25 +127,6 @@ fn tell_others<E: Write>(
         }
     }
     Ok(())
-}
-
-/// Checks the password against the first record of the user for each mechanism, and prints the answers.
-pub fn check<R: Files + AllocGlobal, O: Write, D: Database<R>>(
-    rt: &R,
-    db: &D,
-    named: &Named<'_>,
-    password: SecretText,
-    output: &mut O,
-) -> Result<Done, Stop>
-    ensures { IfOk result (λ done. HasChecked named.now done) }
-{
-    let text = if named.is_db {
-        db.lines_of(rt, named.file, named.name, None)?
-    } else {
-        source::lines(rt, db, named)?
-    };
-    check_text(rt.alloc(), &text, named, password.as_str(), output)?;
-    Ok(Done::Check(text, password))
 }
 
 /// Checks the password against the first record of the user in a text for each mechanism, and prints the answers.

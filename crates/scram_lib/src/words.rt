@@ -62,7 +62,7 @@ const NAME: Word = word!(Place "NAME" "NAME" "The user name");
 
 const DB: Word =
     word!(Flag "db" "" "FILE is a SQLite database of users; a change waits up to 5 seconds for another program, \
-    or as --wait says; commands and logins fail while sqlite3 has it open");
+    or as --wait says");
 
 const MECHANISM: Word = word!(Mechanism "mechanism" "M" "The mechanism of the record; default all");
 
@@ -115,8 +115,7 @@ pub static COMMANDS: [Words; 5] = [
         STRICT, ECHO, NONCE, FRAMES),
     command!("server" "Runs the server side of a login for the users of a file: each line is a message in base64"
         M, FILE,
-        word!(Flag "db" "" "FILE is a SQLite database of users, of which only the client's record and a first one are read; \
-            logins fail while sqlite3 has it open"),
+        word!(Flag "db" "" "FILE is a SQLite database of users, of which only the client's record and a first one are read"),
         word!(Flag "saslprep" "" "Prepares the name that the client sends by SASLprep (RFC 4013) before the look-up; default \
             as sent"),
         word!(Flag "tell-unknown-users" "" "Answers an unknown user with an error; default with a mock record in the form of \

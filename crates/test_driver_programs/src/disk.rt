@@ -285,7 +285,7 @@ impl Locks for Disk {
     fn try_lock(&self, file: &Open) -> std::result::Result<(), TryLockError> {
         self.system.count().map_err(TryLockError::Error)?;
         let bytes = file.node.bytes.replace(Vec::new(self.alloc()));
-        let is_locked = bytes.as_slice() == b"locked\n";
+        let is_locked = bytes.as_slice() == b"locked\n".as_slice();
         file.node.bytes.set(bytes);
         if is_locked {
             Err(TryLockError::WouldBlock)

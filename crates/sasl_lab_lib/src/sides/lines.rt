@@ -1,10 +1,11 @@
 //! The lines of an audit, each with a side and a body that it received or sent.
 
 use crate::sides::half::{Half, is_of_server};
-use fe2o3_sasl_wire::{FrameView, view_frame};
-use scram_base_lib::explain::body_of;
+use bytes::BytesMut;
+use fe2o3_sasl_wire::{Array, Frame, FrameCodec, FrameView, SaslMechanisms, view_frame};
 use scram_base_lib::input;
 use scram_base_lib::stop::Stop;
+use scram_base_lib::wire::hex_bytes;
 use std::alloc::Global;
 use std::io::{BufRead, Write};
 
@@ -32,7 +33,7 @@ impl Line {
         Ok(Line {
             number,
             is_client,
-            body: body_of(alloc, digits)?,
+            body: hex_bytes(alloc, digits, Stop::NotHex)?,
         })
     }
 
@@ -47,6 +48,26 @@ impl Line {
     /// Returns whether the body is a list of mechanisms, with which a login begins.
     pub fn is_offer(&self) -> bool {
         matches!(view_frame(&self.body), Ok((FrameView::Mechanisms(_), _)))
+    }
+
+    /// Returns the body of a list with only the mechanism of the init that this body is, or `None` if it is none.
+    pub fn offer(&self, alloc: Global) -> Result<Option<Vec<u8>>, Stop> {
+        let Ok((view, _)) = view_frame(&self.body) else {
+            return Ok(None);
+        };
+        let Frame::Init(init) = view.to_frame(alloc)? else {
+            return Ok(None);
+        };
+        let mut names = Vec::new(alloc);
+        names.push(init.mechanism)?;
+        let offer = SaslMechanisms {
+            sasl_server_mechanisms: Array(names),
+        };
+        let mut body = BytesMut::new(alloc);
+        match (FrameCodec {}).encode(Frame::Mechanisms(offer), &mut body) {
+            Ok(()) => Ok(Some(body.into_vec()?)),
+            Err(_) => Err(Stop::OutOfMemory),
+        }
     }
 
     /// Passes the body to the side that received it, and then to the side that sent it, of which nothing is printed.

@@ -6,7 +6,7 @@ ghost use Rattle.scram_lib.specs.OwnLines.{AreLinesAs, AreLinesFor, AreLinesOfNa
 use crate::form::{Form, has_several};
 use crate::server::Service;
 use fe2o3_scram::{OutOfMemory, escape_username};
-use scram_base_lib::database::Database;
+use scram_base_lib::backend::Backend;
 use scram_base_lib::stop::Stop;
 use scram_base_lib::store;
 use std::alloc::{AllocError, Global};
@@ -15,20 +15,20 @@ use std::rt::Files;
 
 /// Where the records of a server are.
 #[derive(Drop)]
-pub enum Source<'a, D> {
+pub enum Source<'a, B> {
     /// The text of a file of lines.
     Text(String),
     /// A database, which is open only while a record is fetched.
-    Database(&'a D),
+    Database(&'a B),
 }
 
-impl<'a, D> Source<'a, D> {
+impl<'a, B> Source<'a, B> {
     /// Reads the file of lines, or takes the database.
     pub(crate) fn open<R: Files + AllocGlobal>(
         rt: &R,
-        db: &'a D,
+        db: &'a B,
         service: &Service<'_, '_>,
-    ) -> Result<Source<'a, D>, Stop> {
+    ) -> Result<Source<'a, B>, Stop> {
         if service.is_db {
             return Ok(Source::Database(db));
         }
@@ -44,7 +44,7 @@ impl<'a, D> Source<'a, D> {
         claimed: Option<&str>,
     ) -> Result<String, Stop>
     where
-        D: Database<R>,
+        B: Backend<R>,
         ensures { IfOk result (λ own. AreLinesFor service.now.saslprep (source_text self.now)
             (option_map (λ sent. sent.now) claimed.entry) (string_bytes own)) }
     {
@@ -67,7 +67,7 @@ impl<'a, D> Source<'a, D> {
         sent: &str,
     ) -> Result<String, Stop>
     where
-        D: Database<R>,
+        B: Backend<R>,
         ensures { IfOk result (λ own.
             AreLinesOfName (source_text self.now) sent.now (Some name.now) (string_bytes own)) }
     {
@@ -87,7 +87,7 @@ impl<'a, D> Source<'a, D> {
         service: &Service<'_, '_>,
     ) -> Result<Form, Stop>
     where
-        D: Database<R>,
+        B: Backend<R>,
     {
         let version = service.version;
         match self {

@@ -87,7 +87,8 @@ impl<'a> Put<'a> {
     ) -> Result<String, Stop>
         ensures { IfOk result (λ line. IsNewLine self.now version (form_for version firsts.now) (string_bytes line)) }
     {
-        let record = self.asked.among(rt, version, firsts, self.password)?;
+        let first = Form::of_first(firsts.for_version(version));
+        let record = self.asked.make(rt, version, first, self.password)?;
         lines::line_of(rt.alloc(), self.name, record)
     }
 

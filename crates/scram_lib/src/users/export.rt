@@ -1,16 +1,17 @@
 //! `users list` and `users export`: the records of a file, which are read and printed one after another.
 
 use crate::gsasl::gsasl_text;
+use crate::task::Process;
 use crate::users::Named;
 use fe2o3_scram::ScramRecord;
-use scram_base_lib::database::Database;
+use scram_base_lib::backend::Backend;
 use scram_base_lib::lines;
 use scram_base_lib::lines::UserLine;
 use scram_base_lib::stop::Stop;
+use scram_base_lib::store::System;
 use std::alloc::Global;
 use std::fs;
 use std::io::{BufRead, BufReader, Write};
-use std::rt::Files;
 
 /// The number of bytes that are printed at once.
 const PIECE: usize = 32768;
@@ -26,30 +27,24 @@ pub enum Printed {
     Gsasl,
 }
 
-/// Prints each record of a file, and the number of exported ones on the errors.
-pub fn print<R: Files + AllocGlobal, O: Write, E: Write, D: Database<R>>(
-    rt: &R,
-    db: &D,
-    named: &Named<'_>,
-    how: Printed,
-    output: &mut O,
-    errors: &mut E,
-) -> Result<(), Stop> {
-    let alloc = rt.alloc();
-    let count = if named.is_db {
-        let text = db.lines(rt, named.file)?;
-        let mut input = BufReader::new(alloc, text.as_bytes()).map_err(Stop::of_reading)?;
-        print_lines(alloc, &mut input, how, output)?
-    } else {
-        let file = fs::open(rt, named.file).map_err(Stop::of_reading)?;
-        let mut input = BufReader::new(alloc, file).map_err(Stop::of_reading)?;
-        print_lines(alloc, &mut input, how, output)?
-    };
-    if !matches!(how, Printed::Name) {
-        // The records are printed, whether or not that can be written.
-        let _ = writeln!(errors, "scram: {count} exported");
+impl<R: System, I: BufRead, O: Write, E: Write, B: Backend<R>> Process<'_, R, I, O, E, B> {
+    /// Prints each record of a file, and the number of exported ones on the errors.
+    pub(crate) fn print_records(&mut self, named: &Named<'_>, how: Printed) -> Result<(), Stop> {
+        let alloc = self.rt.alloc();
+        let count = if named.is_db {
+            let text = self.backend.lines(self.rt, named.file)?;
+            print_lines(alloc, &mut text.as_bytes(), how, self.output)?
+        } else {
+            let file = fs::open(self.rt, named.file).map_err(Stop::of_reading)?;
+            let mut input = BufReader::new(alloc, file).map_err(Stop::of_reading)?;
+            print_lines(alloc, &mut input, how, self.output)?
+        };
+        if !matches!(how, Printed::Name) {
+            // The records are printed, whether or not that can be written.
+            let _ = writeln!(self.errors, "scram: {count} exported");
+        }
+        Ok(())
     }
-    Ok(())
 }
 
 /// Prints the record of each line, and returns their number.

@@ -6,46 +6,52 @@ ghost use Rattle.fe2o3_scram.specs.MultiRecordLines.{mixed_text};
 ghost use Rattle.scram_lib.specs.Gsasl.{NamesBoth};
 
 use crate::gsasl::record_of;
-use crate::users::{Named, source};
+use crate::task::Process;
+use crate::users::Named;
 use fe2o3_scram::{
     ReadLinesError, ReadLinesErrorKind, RecordTextError, UnescapeError, unescape_username,
 };
-use scram_base_lib::database::{Database, WAIT};
+use scram_base_lib::backend::Backend;
 use scram_base_lib::stop::Stop;
-use scram_base_lib::store::{Locks, Rewrite};
+use scram_base_lib::store::{Rewrite, System};
 use scram_base_lib::{input, lines, store};
 use std::alloc::Global;
 use std::io::{BufRead, ErrorKind, Write};
 use std::random::RandomSource;
-use std::rt::{Clock, Files};
 
-/// Adds the records of the input to a file, or replaces those of the same names and mechanisms. A dry run prints what that
-/// would do.
-pub fn import<R: Locks + Clock + RandomSource + AllocGlobal, I: BufRead, O: Write, D: Database<R>>(
-    rt: &R,
-    db: &D,
-    named: &Named<'_>,
-    dry_run: bool,
-    input: &mut I,
-    output: &mut O,
-) -> Result<(), Stop> {
-    let text = lines_in(rt.alloc(), input)?;
-    lines::test_once(rt.alloc(), &text)?;
-    let added = Added { lines: &text };
-    if dry_run {
-        let (_, report) = added.rewrite(rt, &old_lines(rt, db, named)?)?;
-        output.write_all(&report).map_err(Stop::of_output)?;
+impl<R: System, I: BufRead, O: Write, E: Write, B: Backend<R>> Process<'_, R, I, O, E, B> {
+    /// Adds the records of the input to a file, or replaces those of the same names and mechanisms. A dry run prints what
+    /// that would do.
+    pub(crate) fn import(&mut self, named: &Named<'_>, dry_run: bool) -> Result<(), Stop> {
+        let rt = self.rt;
+        let text = lines_in(rt.alloc(), self.input)?;
+        lines::test_once(rt.alloc(), &text)?;
+        let added = Added { lines: &text };
+        if dry_run {
+            let (_, report) = added.rewrite(rt, &self.old_lines(named)?)?;
+            self.output.write_all(&report).map_err(Stop::of_output)?;
+            let (added, replaced) = counts(&report);
+            return writeln!(self.output, "{added} to add, {replaced} to replace").map_err(
+                Stop::of_output,
+            );
+        }
+        let report = if named.is_db {
+            self.backend
+                .import(rt, named.file, named.database_wait(), &text)?
+        } else {
+            store::make_change(rt, named.file, named.wait, &added)?
+        };
         let (added, replaced) = counts(&report);
-        return writeln!(output, "{added} to add, {replaced} to replace").map_err(Stop::of_output);
+        writeln!(self.output, "{added} added, {replaced} replaced").map_err(Stop::of_report)
     }
-    let report = if named.is_db {
-        let wait = if named.wait == 0 { WAIT } else { named.wait };
-        db.import(rt, named.file, wait, &text)?
-    } else {
-        store::make_change(rt, named.file, named.wait, &added)?
-    };
-    let (added, replaced) = counts(&report);
-    writeln!(output, "{added} added, {replaced} replaced").map_err(Stop::of_report)
+
+    /// Returns the lines of a file before an import, which makes a missing one.
+    fn old_lines(&self, named: &Named<'_>) -> Result<String, Stop> {
+        match self.lines(named) {
+            Err(Stop::Unreadable(ErrorKind::NotFound)) => Ok(String::new(self.rt.alloc())),
+            found => found,
+        }
+    }
 }
 
 /// Returns the number of records that a report says are added, and that of replaced ones.
@@ -59,18 +65,6 @@ fn counts(report: &[u8]) -> (usize, usize) {
         }
     }
     (added, replaced)
-}
-
-/// Returns the lines of a file before an import, which makes a missing one.
-fn old_lines<R: Files + AllocGlobal, D: Database<R>>(
-    rt: &R,
-    db: &D,
-    named: &Named<'_>,
-) -> Result<String, Stop> {
-    match source::lines(rt, db, named) {
-        Err(Stop::Unreadable(ErrorKind::NotFound)) => Ok(String::new(rt.alloc())),
-        found => found,
-    }
 }
 
 /// Returns the lines of the records in the input.
