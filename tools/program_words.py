@@ -15,6 +15,7 @@ import shutil
 import subprocess
 import sys
 import tempfile
+import threading
 from pathlib import Path
 
 TOP = Path(__file__).resolve().parent.parent
@@ -164,33 +165,39 @@ def audits(folder):
     """What each side received, each frame once, is a whole login."""
     users = folder / "audit.txt"
     assert scram("users", "add", str(users), "alice")[0] == 0
-    (from_client, to_server), (from_server, to_client) = os.pipe(), os.pipe()
-    os.write(to_client, b"pencil\n")
-    tees = [open(folder / name, "wb") for name in ("client.bin", "server.bin")]
-    command = 'tee "$0" | exec "$@"'
-    run = [
+    server, client = (
         subprocess.Popen(
-            ["sh", "-c", command, str(folder / name), PROGRAM, *words, "--frames"],
-            stdin=source,
-            stdout=sink,
+            [PROGRAM, *words, "--frames"],
+            stdin=subprocess.PIPE,
+            stdout=subprocess.PIPE,
             stderr=subprocess.DEVNULL,
+            bufsize=0,
         )
-        for name, words, source, sink in (
-            ("client.bin", ("client", "SCRAM-SHA-256", "alice"), from_server, to_server),
-            ("server.bin", ("server", "SCRAM-SHA-256", str(users)), from_client, to_client),
-        )
+        for words in (("server", "SCRAM-SHA-256", str(users)), ("client", "SCRAM-SHA-256", "alice"))
+    )
+    received = {"client": b"", "server": b""}
+
+    def carry(source, sink, side):
+        while data := source.read(65536):
+            received[side] += data
+            sink.write(data)
+        sink.close()
+
+    client.stdin.write(b"pencil\n")
+    carriers = [
+        threading.Thread(target=carry, args=it)
+        for it in ((server.stdout, client.stdin, "client"), (client.stdout, server.stdin, "server"))
     ]
-    for end in (from_client, to_server, from_server, to_client):
-        os.close(end)
-    assert [it.wait(timeout=SECONDS) for it in run] == [0, 0]
-    for it in tees:
-        it.close()
+    for it in carriers:
+        it.start()
+    assert [it.wait(timeout=SECONDS) for it in (server, client)] == [0, 0]
+    for it in carriers:
+        it.join()
     for order in (("client", "server"), ("server", "client")):
         lines = []
         for side in order:
-            data = (folder / f"{side}.bin").read_bytes()
-            data = data[len(b"pencil\n") :] if side == "client" else data
-            data = data[8:]
+            # (the first 8 bytes are the protocol header)
+            data = received[side][8:]
             while data:
                 size = int.from_bytes(data[:4], "big")
                 lines.append(f"{side} {data[4:size].hex()}\n")

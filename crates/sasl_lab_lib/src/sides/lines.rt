@@ -2,7 +2,7 @@
 
 use crate::sides::half::{Half, is_of_server};
 use bytes::BytesMut;
-use fe2o3_sasl_wire::{Array, Frame, FrameCodec, FrameView, SaslMechanisms, view_frame};
+use fe2o3_sasl_wire::{Array, Error, Frame, FrameCodec, FrameView, SaslMechanisms, view_frame};
 use scram_base_lib::input;
 use scram_base_lib::stop::Stop;
 use scram_base_lib::wire::hex_bytes;
@@ -55,8 +55,10 @@ impl Line {
         let Ok((view, _)) = view_frame(&self.body) else {
             return Ok(None);
         };
-        let Frame::Init(init) = view.to_frame(alloc)? else {
-            return Ok(None);
+        let init = match view.to_frame(alloc) {
+            Ok(Frame::Init(init)) => init,
+            Err(Error::OutOfMemory) => return Err(Stop::OutOfMemory),
+            _ => return Ok(None),
         };
         let mut names = Vec::new(alloc);
         names.push(init.mechanism)?;
