@@ -55,7 +55,7 @@ fn all_words<'a>(
     given: &[&'a str],
 ) -> Result<Vec<&'a str>, AllocError>
     ensures { IfOk result (λ all. map (λ word. word.now) all.items
-        ≡ words_of (option_map (λ words. map (λ word. word.now) words.now) may_act) ++ map (λ word. word.now) given.now) }
+        ≡ words_of (option_map (λ words. map (λ word. word.now) words.now) may_act.entry) ++ map (λ word. word.now) given.now) }
 {
     let mut all = Vec::new(alloc);
     if let Some(words) = may_act {
