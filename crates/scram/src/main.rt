@@ -9,21 +9,11 @@ use scram_lib::task::Process;
 use std::cell::Cell;
 use std::io::{BufReader, IsTerminal};
 use std::process::ExitCode;
-use std::rt::Env;
 use std::{env, io};
-
-/// Returns the program's arguments, with its own name first.
-fn words<R: Env + AllocGlobal>(rt: &R) -> Result<Vec<String>, Stop> {
-    let mut words = Vec::new(rt.alloc());
-    for word in env::args(rt).map_err(Stop::of_words)? {
-        words.push(word)?;
-    }
-    Ok(words)
-}
 
 /// Runs the program.
 fn run(rt: &HostRuntime) -> Result<u8, Stop> {
-    let words = words(rt)?;
+    let words: Vec<String> = env::args(rt).map_err(Stop::of_words)?.collect(rt.alloc())?;
     let supplied = Supplied {
         has_wrong_rows: Cell::new(false),
     };

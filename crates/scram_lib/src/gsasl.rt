@@ -1,7 +1,8 @@
 //! Records as `gsasl --mkpasswd` writes them: `{MECHANISM}COUNT,SALT,STOREDKEY,SERVERKEY`.
 
-ghost use Rattle.std.specs.Prelude.{◌≡◌, ◌⊎◌, IfOk, Ok, string_bytes};
+ghost use Rattle.std.specs.Prelude.{◌≡◌, ◌⊎◌, ◌++◌, IfOk, Ok, OnOk, string_bytes};
 ghost use Rattle.fe2o3_scram.specs.RecordText.{ReadsRecord};
+ghost use Rattle.fe2o3_scram.specs.Texts.{base64_text};
 ghost use Rattle.scram_lib.specs.Gsasl.{gsasl_text};
 
 use base64::engine::general_purpose::STANDARD;
@@ -18,11 +19,20 @@ pub fn gsasl_text(alloc: Global, record: &ScramRecord) -> Result<String, OutOfMe
     text.push_str(record.scram_version().mechanism())?;
     text.push_str("}")?;
     text.write(kept.iterations)?;
-    for bytes in [kept.salt, kept.stored_key, kept.server_key] {
-        text.push_str(",")?;
-        text.push_str(&STANDARD.encode(alloc, bytes)?)?;
-    }
+    text.push_str(",")?;
+    push_base64(&mut text, kept.salt)?;
+    text.push_str(",")?;
+    push_base64(&mut text, kept.stored_key)?;
+    text.push_str(",")?;
+    push_base64(&mut text, kept.server_key)?;
     Ok(text)
+}
+
+/// Appends bytes in base64.
+fn push_base64(text: &mut String, bytes: &[u8]) -> Result<(), OutOfMemory>
+    ensures { OnOk result (string_bytes text.new ≡ string_bytes text.old ++ base64_text bytes.now) }
+{
+    STANDARD.encode_string(bytes, text)
 }
 
 /// Reads a record as `gsasl --mkpasswd` writes it, or as RFC 5803, section 2, and PostgreSQL do.
