@@ -203,7 +203,7 @@ class Restarts(unittest.TestCase):
             new.unlink()
 
     def test_a_new_database_is_never_open_to_others(self):
-        """It is an empty file at first, which a killed process leaves. A file that is there keeps its mode."""
+        """A new database is an empty file at first, which a killed process leaves. One that is there keeps its mode."""
         add = [SCRAM, "users", "add", "--db", "users.db", "alice", "--iterations", "1"]
         process = start(add, self.folder, umask=0, preexec_fn=stopped_at(FCHMOD))
         process.communicate(b"pencil\n", timeout=SECONDS)
