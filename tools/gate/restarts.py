@@ -203,13 +203,14 @@ class Restarts(unittest.TestCase):
             new.unlink()
 
     def test_a_new_database_is_never_open_to_others(self):
-        """A file that is there keeps its mode."""
+        """A new database is an empty file at first, which a killed process leaves. One that is there keeps its mode."""
         add = [SCRAM, "users", "add", "--db", "users.db", "alice", "--iterations", "1"]
         process = start(add, self.folder, umask=0, preexec_fn=stopped_at(FCHMOD))
         process.communicate(b"pencil\n", timeout=SECONDS)
         self.assertEqual(process.returncode, -signal.SIGSYS)
-        self.assertEqual((self.folder / "users.db.new").stat().st_mode & 0o7777, 0o600)
         database = self.folder / "users.db"
+        self.assertEqual((database.stat().st_mode & 0o7777, database.stat().st_size), (0o600, 0))
+        self.assertEqual(list(self.folder.glob("users.db.new*")), [])
         for mode in (0o600, 0o640):
             process = start(add, self.folder, umask=0)
             process.communicate(b"pencil\n", timeout=SECONDS)
