@@ -10,21 +10,21 @@ use fe2o3_scram::{OutOfMemory, RecordTextError, ScramRecord};
 use std::alloc::Global;
 
 /// Returns the text of a record as `gsasl --mkpasswd` writes it.
-pub fn gsasl_text(alloc: Global, record: &ScramRecord) -> Result<String, OutOfMemory>
-    ensures { IfOk result (λ text. string_bytes text ≡ gsasl_text record.now) }
+pub fn gsasl_text(alloc: Global, kept: &ScramRecord) -> Result<String, OutOfMemory>
+    ensures { IfOk result (λ text. string_bytes text ≡ gsasl_text kept.now) }
 {
-    let kept = record.as_stored_password();
+    let stored = kept.as_stored_password();
     let mut text = String::new(alloc);
     text.push_str("{")?;
-    text.push_str(record.scram_version().mechanism())?;
+    text.push_str(kept.scram_version().mechanism())?;
     text.push_str("}")?;
-    text.write(kept.iterations)?;
+    text.write(stored.iterations)?;
     text.push_str(",")?;
-    push_base64(&mut text, kept.salt)?;
+    push_base64(&mut text, stored.salt)?;
     text.push_str(",")?;
-    push_base64(&mut text, kept.stored_key)?;
+    push_base64(&mut text, stored.stored_key)?;
     text.push_str(",")?;
-    push_base64(&mut text, kept.server_key)?;
+    push_base64(&mut text, stored.server_key)?;
     Ok(text)
 }
 

@@ -1,7 +1,7 @@
 //! `FILE.rights`: who may act for whom at a server (RFC 4422, section 2). Each line is `USER IDENTITY`, both escaped as in a
 //! file of records. A user has no space and no colon.
 
-ghost use Rattle.std.specs.Prelude.{◌≡◌, ◌++◌, IfOk, map, option_map};
+ghost use Rattle.std.specs.Prelude.{◌≡◌, ◌++◌, IfOk, map, option_map, string_bytes};
 ghost use Rattle.scram_lib.specs.Acting.{words_of};
 ghost use Rattle.scram_lib.specs.Done.{HasServed, IsWithRights};
 
@@ -25,19 +25,14 @@ impl<R: System, I: BufRead, O: Write, E: Write, B: Backend<R>> Process<'_, R, I,
         if !service.accept_authzid {
             return self.serve_by(service);
         }
-        let alloc = self.rt.alloc();
         let held = words_in(self.rt, service.file)?;
-        let mut given = Vec::new(alloc);
-        for word in &held {
-            given.push(word.as_str())?;
-        }
-        let words = all_words(alloc, service.may_act, &given)?;
+        let words = all_words(self.rt.alloc(), service.may_act, &held)?;
         self.serve_by(&with_words(service, &words))
     }
 }
 
 /// Returns the arguments with these rights in place of theirs.
-fn with_words<'a, 'm>(service: &Service<'a, '_>, words: &'m [&'a str]) -> Service<'a, 'm>
+fn with_words<'a: 'b, 'b>(service: &Service<'a, '_>, words: &'b [&'b str]) -> Service<'b, 'b>
     ensures same { result ≡ record service.now { may_act = result.may_act } }
     ensures words { words_of (option_map (λ words. map (λ word. word.now) words.now) result.may_act)
         ≡ map (λ word. word.now) words.now }
@@ -49,19 +44,21 @@ fn with_words<'a, 'm>(service: &Service<'a, '_>, words: &'m [&'a str]) -> Servic
 }
 
 /// Returns the rights of the arguments, and then those of the file.
-fn all_words<'a>(
+fn all_words<'a: 'b, 'b>(
     alloc: Global,
     may_act: Option<&[&'a str]>,
-    given: &[&'a str],
-) -> Result<Vec<&'a str>, AllocError>
+    held: &'b [String],
+) -> Result<Vec<&'b str>, AllocError>
     ensures { IfOk result (λ all. map (λ word. word.now) all.items
-        ≡ words_of (option_map (λ words. map (λ word. word.now) words.now) may_act.entry) ++ map (λ word. word.now) given.now) }
+        ≡ words_of (option_map (λ words. map (λ word. word.now) words.now) may_act.entry) ++ map string_bytes held.now) }
 {
     let mut all = Vec::new(alloc);
-    if let Some(words) = may_act {
-        all.extend_from_slice(words)?;
+    for word in may_act.unwrap_or(&[]) {
+        all.push(*word)?;
     }
-    all.extend_from_slice(given)?;
+    for word in held {
+        all.push(word.as_str())?;
+    }
     Ok(all)
 }
 

@@ -1,7 +1,7 @@
 use Rattle.std.proofs.Common.{rules, option_map, string_bytes, sym, subst, ◌≡◌}
 use Rattle.fe2o3_sasl_core.specs.LoginAttempts.{ClaimOf}
 use Rattle.scram_lib.specs.Done.{IsClaim}
-use Rattle.scram_lib.proofs.server.Process.log_in_by.Goals as goal
+use Rattle.scram_lib.proofs.task.Process.log_in_by.Goals as goal
 
 -- the name is claimed as the copy of it is lent
 pub returns : goal.returns
