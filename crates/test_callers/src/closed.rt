@@ -6,7 +6,7 @@ ghost use Rattle.fe2o3_sasl.specs.SaslAcceptor.{ends_with, reason_in, sent_frame
 
 use fe2o3_sasl::OutOfMemory;
 use fe2o3_sasl::runs::{Event, ServerReply, acceptor_step, run_acceptor};
-use fe2o3_sasl::sasl_acceptor::{SaslAcceptor, SaslAcceptorExt, SaslServerFrame};
+use fe2o3_sasl::sasl_acceptor::{SaslAcceptor, SaslServerFrame};
 use fe2o3_sasl_wire::{Array, Error, SaslCode, SaslInit, SaslOutcome, SaslResponse, Symbol};
 use std::alloc::{AllocError, Global};
 
@@ -84,58 +84,37 @@ impl SaslAcceptor for Closed {
     }
 }
 
-/// Bodies with what a closed server answers: an error without being asked, or the outcome sys.
-static BODIES: [(&str, Option<Error>); 6] = [
+/// Bodies, each with whether a closed server is asked.
+static BODIES: [(&str, bool); 6] = [
     // a list of ANONYMOUS, an outcome, a challenge, nothing
-    (
-        "02010000005340c00f01e00c01a309414e4f4e594d4f5553",
-        Some(Error::NotImplemented),
-    ),
-    ("02010000005344c003015000", Some(Error::NotImplemented)),
-    ("02010000005342c00301a000", Some(Error::NotImplemented)),
-    ("", Some(Error::DecodeError)),
+    ("02010000005340c00f01e00c01a309414e4f4e594d4f5553", false),
+    ("02010000005344c003015000", false),
+    ("02010000005342c00301a000", false),
+    ("", false),
     // an init of ANONYMOUS, a response
-    ("02010000005341c00c01a309414e4f4e594d4f5553", None),
-    ("02010000005343c00301a000", None),
+    ("02010000005341c00c01a309414e4f4e594d4f5553", true),
+    ("02010000005343c00301a000", true),
 ];
 
-/// Returns whether a reply is this error or, if there is none, the outcome sys.
-fn is_wanted(reply: &Result<ServerReply, Error>, wanted: Option<Error>) -> bool {
-    match reply {
-        Ok(ServerReply::Outcome { code, body }) => {
-            wanted.is_none()
-                && *code == SaslCode::Sys
-                && body.as_slice() == b"\x02\x01\0\0\0\x53\x44\xc0\x03\x01\x50\x02".as_slice()
-        }
-        Ok(ServerReply::Challenge { .. }) => false,
-        Err(fault) => wanted == Some(*fault),
-    }
+/// Returns whether a reply is the outcome sys.
+fn is_sys(reply: &Result<ServerReply, Error>) -> bool {
+    matches!(reply, Ok(ServerReply::Outcome { code, .. }) if *code == SaslCode::Sys)
 }
 
 #[test]
 fn an_acceptor_of_ones_own_keeps_its_state(rt: HostRuntime) {
     let (mut closed, mut events, nonce) = (Closed { asked: false }, Vec::new(rt.alloc()), [2; 32]);
-    for (digits, wanted) in &BODIES {
+    for &(digits, is_asked) in &BODIES {
         let body = hex::decode(rt.alloc(), digits).expect(&rt, "digits");
         let event = Event { body, nonce };
         let reply = acceptor_step(rt.alloc(), &mut closed, &event);
-        assert!(rt; is_wanted(&reply, *wanted) && closed.asked == wanted.is_none());
+        assert!(rt; is_sys(&reply) == is_asked && closed.asked == is_asked);
         events.push(event).expect(&rt, "memory");
     }
     let mut copy = closed.clone().expect(&rt, "memory");
-    assert!(rt; copy.asked);
     let replies = run_acceptor(rt.alloc(), &mut copy, &events).expect(&rt, "memory");
-    assert!(rt; replies.len() == BODIES.len());
-    for (reply, (_, wanted)) in replies.iter().zip(BODIES.iter()) {
-        assert!(rt; is_wanted(reply, *wanted));
+    assert!(rt; copy.asked && replies.len() == BODIES.len());
+    for (reply, (_, is_asked)) in replies.iter().zip(BODIES.iter()) {
+        assert!(rt; is_sys(reply) == *is_asked);
     }
-}
-
-#[test]
-fn an_acceptor_without_a_name_offers_anonymous(rt: HostRuntime) {
-    let closed = Closed { asked: false };
-    let offer = closed.sasl_mechanisms(rt.alloc()).expect(&rt, "memory");
-    let mut names = offer.sasl_server_mechanisms.0.iter();
-    assert!(rt; names.next().is_some_and(|sym| sym.as_str() == "ANONYMOUS"));
-    assert!(rt; names.next().is_none() && !closed.asked);
 }

@@ -7,8 +7,6 @@ ghost use Rattle.fe2o3_scram.specs.Stores.{records_in};
 
 use fe2o3_scram::credentials::{ScramCredentialProvider, ScramRecord, StoredPassword};
 use fe2o3_scram::hmac::ScramVersion;
-use fe2o3_scram::scram_client::ScramClient;
-use fe2o3_scram::scram_messages::ServerScramErrorKind;
 use fe2o3_scram::scram_server::ScramAuthenticator;
 use std::alloc::AllocError;
 use std::collections::BTreeMap;
@@ -76,18 +74,9 @@ fn record_of<'a>(
     records.get(username)
 }
 
-/// The record of `user` with the password `pencil`, and the messages of a login with a client's nonce of 32 bytes 01
-/// and a server's of 32 bytes 02, computed with Python's `hashlib` and `hmac`.
+/// The record of `user` with the password `pencil`, computed with Python's `hashlib` and `hmac`.
 static RECORD: &str = "SCRAM-SHA-256$4096:AwMDAwMDAwMDAwMDAwMDAwMDAwMDAwMDAwMDAwMDAwM=$\
     bSqDc2nsVd+d5pD9odZM6kFNedQ0ntQqYaOXJD2q2NE=:hinEcAuJjoOQ+aEn5iUnX8Hiq0kkSbIYlC+FV8dUDpU=";
-
-static SERVER_FIRST: &str = "r=AQEBAQEBAQEBAQEBAQEBAQEBAQEBAQEBAQEBAQEBAQE=\
-    AgICAgICAgICAgICAgICAgICAgICAgICAgICAgICAgI=,s=AwMDAwMDAwMDAwMDAwMDAwMDAwMDAwMDAwMDAwMDAwM=,i=4096";
-
-static CLIENT_FINAL: &str = "c=biws,r=AQEBAQEBAQEBAQEBAQEBAQEBAQEBAQEBAQEBAQEBAQE=\
-    AgICAgICAgICAgICAgICAgICAgICAgICAgICAgICAgI=,p=BCNcOZg0+DjVmOYbquTj+7JaBIvtH0PUtQer0ntwLxQ=";
-
-static SERVER_FINAL: &str = "v=X3wMIzagbJ5+sxd0FRk7lZ5X07UBZA8KFKL41BMrTwo=";
 
 /// Returns a store of the user.
 fn store<R: Abort + AllocGlobal>(rt: &R) -> MapStore {
@@ -103,39 +92,21 @@ fn store<R: Abort + AllocGlobal>(rt: &R) -> MapStore {
     }
 }
 
-/// Returns the server's answer to a client that proves `user` by a password, or the error.
-fn logs_in<R: Abort + AllocGlobal>(
-    rt: &R,
-    server: &mut ScramAuthenticator<MapStore>,
-    password: &str,
-) -> Result<(), ServerScramErrorKind> {
-    let name = "user".to_string(rt.alloc()).expect(rt, "memory");
-    let password = password.to_string(rt.alloc()).expect(rt, "memory");
-    let mut client = ScramClient::new(name, password, ScramVersion::Sha256);
-    let first = client.compute_client_first_message(rt.alloc(), &[1; 32]);
-    let first = first.expect(rt, "memory");
-    let challenge = server.compute_server_first_message(rt.alloc(), &first, &[2; 32]);
-    let challenge = challenge.expect(rt, "memory").expect(rt, "a known user");
-    assert!(rt; challenge.as_slice() == SERVER_FIRST.as_bytes());
-    let last = client.compute_client_final_message(rt.alloc(), SERVER_FIRST);
-    let last = last.expect(rt, "an answer");
-    let answer = server.compute_server_final_message(rt.alloc(), &last)?;
-    assert!(rt; last.as_slice() == CLIENT_FINAL.as_bytes());
-    let answer = answer.expect(rt, "an answer");
-    assert!(rt; answer.as_slice() == SERVER_FINAL.as_bytes());
-    Ok(())
-}
+/// Client-first messages, each with whether the store has a record of its user.
+static MESSAGES: [(&str, bool); 3] = [
+    ("n,,n=user,r=a", true),
+    ("n,,n=nobody,r=a", false),
+    ("n,,n=users,r=a", false),
+];
 
 #[test]
-fn a_user_of_a_map_of_records_logs_in(rt: HostRuntime) {
+fn a_map_of_records_is_a_store(rt: HostRuntime) {
     let mut server = ScramAuthenticator::new(store(&rt));
-    assert!(rt; logs_in(&rt, &mut server, "pencil") == Ok(()));
-    let refused = logs_in(&rt, &mut server, "crayon");
-    assert!(rt; refused == Err(ServerScramErrorKind::AuthenticationFailed));
-    let mut copy = server.clone().expect(&rt, "memory");
-    assert!(rt; logs_in(&rt, &mut copy, "pencil") == Ok(()));
-    for &message in &["n,,n=nobody,r=a", "n,,n=,r=a", "n,,n=users,r=a"] {
-        let answer = copy.compute_server_first_message(rt.alloc(), message.as_bytes(), &[2; 32]);
-        assert!(rt; answer.expect(&rt, "memory").is_none(), "{message}");
+    for &(message, is_known) in &MESSAGES {
+        let answer = server.compute_server_first_message(rt.alloc(), message.as_bytes(), &[2; 32]);
+        assert!(rt;
+            answer.expect(&rt, "memory").is_some() == is_known,
+            "{message}"
+        );
     }
 }
