@@ -3,7 +3,6 @@
 
     tools/test_memory.py            the programs crates/test_driver_NAME/out/ that `rt ci` has built
     tools/test_memory.py CRATE..    only these, without the list of calls
-    tools/test_memory.py --list     prints the calls that need a row, by library
 
 A driver replays data/calls*.txt with the heap of tools/test_memory/refuse.c, for the first call of each answer, the
 second, and so on, and for each n until no such call makes n requests. A call whose n-th request is refused has to answer
@@ -92,16 +91,7 @@ def run(program, file, heap, call, nth):
     """What a driver prints over a file in which the n-th request of each such call is refused, its status, and counts."""
     with tempfile.NamedTemporaryFile("r+") as counts:
         words = {"LD_PRELOAD": heap, "REFUSE_COUNTS": counts.name, "REFUSE_CALL": str(call), "REFUSE_NTH": str(nth)}
-        ran = subprocess.run(
-            [program, file.name],
-            cwd=file.parent,
-            env=words,
-            stdin=subprocess.DEVNULL,
-            capture_output=True,
-            text=True,
-            errors="replace",
-            timeout=120,
-        )
+        ran = subprocess.run([program, file.name], cwd=file.parent, env=words, timeout=120, **test_rows.HOW)
         # (none after a signal)
         return ran.stdout, ran.returncode, [int(it) for it in counts.read().split()] or [0] * 4
 
@@ -128,12 +118,7 @@ def tried(program, file, heap):
 
 
 def main(words):
-    needed = calls_of([signatures.Library(name) for name in signatures.LIBRARIES])
-    if words == ["--list"]:
-        for crate, names in needed.items():
-            print(f"# {crate}", *sorted(names - {*EXCEPT}), sep="\n")
-        return 0
-    needed = set().union(*needed.values())
+    needed = set().union(*calls_of([signatures.Library(name) for name in signatures.LIBRARIES]).values())
     files = [(it, file) for it, data in test_rows.drivers(words) for file in sorted(data.glob("calls*.txt"))]
     with tempfile.TemporaryDirectory() as room, ThreadPoolExecutor() as pool:
         heap = f"{room}/refuse.so"

@@ -19,6 +19,7 @@ from pathlib import Path
 
 TOP = Path(__file__).resolve().parents[1]
 COUNTS = re.compile(r"^(\S+): (\d+) rows, (\d+) differ$", re.M)
+HOW = {"stdin": subprocess.DEVNULL, "capture_output": True, "text": True, "errors": "replace"}
 
 
 def parts(text):
@@ -91,9 +92,7 @@ def faults(program, data):
         for file in files:
             other, wanted[file.name] = altered(file.read_text(encoding="utf-8"))
             (Path(room) / file.name).write_text(other, encoding="utf-8")
-        ran = subprocess.run(
-            [program, *wanted], cwd=room, stdin=subprocess.DEVNULL, capture_output=True, text=True, errors="replace"
-        )
+        ran = subprocess.run([program, *wanted], cwd=room, **HOW)
     found = {name: int(differ) for name, _, differ in COUNTS.findall(ran.stdout)}
     wrong += [
         f"{program.name}: {name}: {count} altered, and {found.get(name, 'no')} differ"

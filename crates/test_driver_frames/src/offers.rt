@@ -1,7 +1,7 @@
 //! Servers of several mechanisms, with lent records and options.
 
 use crate::runs::{Run, Side, check_side};
-use crate::servers::{own_step, run_copy, say_offer, say_reply, serve};
+use crate::servers::{own_step, run_copy, say_offer, say_reply};
 use crate::words::{channels, passwords, version};
 use fe2o3_sasl::*;
 use fe2o3_sasl_wire::{Error, view_frame};
@@ -33,12 +33,11 @@ fn rights_of(row: &mut Row<'_>) -> ActingRights {
     rights
 }
 
-/// Checks a server: `MECHANISM,.. BESIDE USER.. RIGHT.. OPTION..`, as the head of `offers.txt` has them. If an option cannot be
-/// made, the row says why.
+/// Checks a server: `MECHANISM,.. USER.. RIGHT.. OPTION..`, as the head of `offers.txt` has them. If an option cannot be made,
+/// the row says why.
 pub fn check<'a>(row: &mut Row<'a>, run: &Run<'a>) {
     let names = row.word();
     let has = |name: &str| names.split(',').any(|it| it == name);
-    let beside = beside(row);
     let users = users_of(row);
     let mut options = ServerOptions::new(
         row.alloc,
@@ -65,26 +64,7 @@ pub fn check<'a>(row: &mut Row<'a>, run: &Run<'a>) {
     if row.fault().is_some() {
         return run.agree(row);
     }
-    let mut server = Server::new(&users, &options, transport);
-    match beside {
-        Some(other) => serve(
-            row,
-            run,
-            AnyMechanism::new(server, other),
-            "AnyMechanism::clone",
-        ),
-        None => check_side(row, run, &mut server),
-    }
-}
-
-/// Returns the acceptor of PLAIN of the words `beside NAME PASSWORD`.
-fn beside(row: &mut Row<'_>) -> Option<SaslPlainMechanism> {
-    if row.takes("beside") {
-        let (user, password) = (row.text_of_digits(), row.text_of_digits());
-        Some(SaslPlainMechanism::new(user, password))
-    } else {
-        None
-    }
+    check_side(row, run, &mut Server::new(&users, &options, transport));
 }
 
 /// Sets the option of the next words.
