@@ -326,50 +326,69 @@ fn is_closed(error: &io::Error) -> bool {
     error.raw_os_error() == Some(9)
 }
 
-/// Conversions of errors, each by a match.
-macro_rules! stop_from {
-    ($($error:ty { $($pattern:pat => $stop:expr,)+ })+) => {
-        $(impl From<$error> for Stop {
-            fn from(error: $error) -> Stop {
-                match error { $($pattern => $stop,)+ }
-            }
-        })+
-    };
+impl From<RecordError> for Stop {
+    fn from(error: RecordError) -> Stop {
+        match error {
+            RecordError::NormalizeError => Stop::WrongPassword,
+            // Cannot happen: the parser takes counts from 1.
+            RecordError::ZeroIterations => Stop::WrongSalt,
+            RecordError::OutOfMemory => Stop::OutOfMemory,
+        }
+    }
 }
 
-stop_from! {
-    RecordError {
-        RecordError::NormalizeError => Stop::WrongPassword,
-        // Cannot happen: the parser takes counts from 1.
-        RecordError::ZeroIterations => Stop::WrongSalt,
-        RecordError::OutOfMemory => Stop::OutOfMemory,
+impl From<ClientSecretError> for Stop {
+    fn from(error: ClientSecretError) -> Stop {
+        match error {
+            ClientSecretError::VersionMismatch => Stop::OtherMechanism,
+            ClientSecretError::OutOfMemory => Stop::OutOfMemory,
+        }
     }
-    ClientSecretError {
-        ClientSecretError::VersionMismatch => Stop::OtherMechanism,
-        ClientSecretError::OutOfMemory => Stop::OutOfMemory,
+}
+
+impl From<SecretError> for Stop {
+    fn from(error: SecretError) -> Stop {
+        match error {
+            SecretError::OutOfMemory => Stop::OutOfMemory,
+            SecretError::Unreadable(kind) => Stop::SecretUnreadable(kind),
+            SecretError::Unwritten(kind) => Stop::SecretUnwritten(kind),
+            SecretError::Random(kind) => Stop::Random(kind),
+            fault => Stop::Secret(fault),
+        }
     }
-    SecretError {
-        SecretError::OutOfMemory => Stop::OutOfMemory,
-        SecretError::Unreadable(kind) => Stop::SecretUnreadable(kind),
-        SecretError::Unwritten(kind) => Stop::SecretUnwritten(kind),
-        SecretError::Random(kind) => Stop::Random(kind),
-        fault => Stop::Secret(fault),
+}
+
+impl From<ReadLinesError> for Stop {
+    fn from(error: ReadLinesError) -> Stop {
+        match error.kind {
+            ReadLinesErrorKind::OutOfMemory => Stop::OutOfMemory,
+            _ => Stop::Line(error),
+        }
     }
-    ReadLinesError {
-        ReadLinesError { kind: ReadLinesErrorKind::OutOfMemory, .. } => Stop::OutOfMemory,
-        fault => Stop::Line(fault),
+}
+
+impl From<ScramErrorKind> for Stop {
+    fn from(error: ScramErrorKind) -> Stop {
+        match error {
+            ScramErrorKind::OutOfMemory => Stop::OutOfMemory,
+            ScramErrorKind::XorLengthMismatch => Stop::OtherHash,
+            kind => Stop::Client(kind),
+        }
     }
-    ScramErrorKind {
-        ScramErrorKind::OutOfMemory => Stop::OutOfMemory,
-        ScramErrorKind::XorLengthMismatch => Stop::OtherHash,
-        kind => Stop::Client(kind),
+}
+
+impl From<ServerScramErrorKind> for Stop {
+    fn from(error: ServerScramErrorKind) -> Stop {
+        match error {
+            ServerScramErrorKind::OutOfMemory => Stop::OutOfMemory,
+            kind => Stop::Rejected(Rejection::Scram(kind)),
+        }
     }
-    ServerScramErrorKind {
-        ServerScramErrorKind::OutOfMemory => Stop::OutOfMemory,
-        kind => Stop::Rejected(Rejection::Scram(kind)),
-    }
-    AllocError {
-        _ => Stop::OutOfMemory,
+}
+
+impl From<AllocError> for Stop {
+    fn from(_error: AllocError) -> Stop {
+        Stop::OutOfMemory
     }
 }
 
