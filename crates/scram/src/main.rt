@@ -19,7 +19,7 @@ fn run(rt: &HostRuntime) -> Result<u8, Stop> {
     };
     let status = scram_lib::run(
         &words,
-        &mut Process {
+        Process {
             rt,
             backend: &supplied,
             is_terminal: rt.stdin().is_terminal(),

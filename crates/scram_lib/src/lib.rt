@@ -38,7 +38,7 @@ use std::rt::Files;
 /// [`NOTES`](crate::manual::NOTES).
 pub fn run<R: System, I: BufRead, O: Write, E: Write, B: Backend<R>>(
     words: &[String],
-    process: &mut Process<'_, R, I, O, E, B>,
+    mut process: Process<'_, R, I, O, E, B>,
 ) -> u8
     ensures { result ≤ 4 }
 {

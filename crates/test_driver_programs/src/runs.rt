@@ -100,7 +100,7 @@ fn run_program<I: BufRead>(run: &mut Run, input: &mut I) -> Result<u8> {
         }
         "sasl_lab" => Ok(sasl_lab_lib::run(run.disk.alloc(), words, input, output, errors)),
         _ => {
-            let mut process = Process {
+            let process = Process {
                 rt: &run.disk,
                 backend: &NoDatabase,
                 is_terminal: run.is_terminal,
@@ -108,7 +108,7 @@ fn run_program<I: BufRead>(run: &mut Run, input: &mut I) -> Result<u8> {
                 output,
                 errors,
             };
-            Ok(scram_lib::run(&run.words, &mut process))
+            Ok(scram_lib::run(&run.words, process))
         }
     }
 }
