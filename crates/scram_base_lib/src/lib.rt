@@ -2,8 +2,10 @@
 //! the lines of a file of users, and what the messages of a login say.
 #![tactic(auto)]
 
-pub mod backend;
+pub mod audited;
 pub mod channel;
+pub mod database;
+pub mod database_fault;
 pub mod explain;
 pub mod input;
 pub mod lines;

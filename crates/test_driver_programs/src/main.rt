@@ -2,7 +2,6 @@
 #![tactic(auto)]
 
 mod disk;
-mod no_database;
 mod paragraphs;
 mod runs;
 mod streams;

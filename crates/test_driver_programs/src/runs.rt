@@ -1,10 +1,10 @@
 //! Runs of a program, and what each prints.
 
-use crate::no_database::NoDatabase;
 use crate::paragraphs::{Run, read};
 use crate::streams::{End, tell_lines};
 use example_broker_lib::log_in;
-use scram_lib::task::Process;
+use sasl_lab_lib::sides::audit;
+use scram_base_lib::database::NoDatabase;
 use std::fs::Metadata;
 use std::io::{BufRead, BufReader, Read, Result, Write};
 use test_rows::Row;
@@ -100,15 +100,8 @@ fn run_program<I: BufRead>(run: &mut Run, input: &mut I) -> Result<u8> {
         }
         "sasl_lab" => Ok(sasl_lab_lib::run(run.disk.alloc(), words, input, output, errors)),
         _ => {
-            let process = Process {
-                rt: &run.disk,
-                backend: &NoDatabase,
-                is_terminal: run.is_terminal,
-                input,
-                output,
-                errors,
-            };
-            Ok(scram_lib::run(&run.words, process))
+            let (disk, words, tty, none) = (&run.disk, &run.words, run.is_terminal, &NoDatabase);
+            Ok(scram_lib::run(disk, words, tty, input, output, errors, audit, none))
         }
     }
 }
