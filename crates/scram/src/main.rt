@@ -17,22 +17,17 @@ fn run(rt: &HostRuntime) -> Result<u8, Stop> {
     let supplied = Supplied {
         has_wrong_rows: Cell::new(false),
     };
-    let status = scram_lib::run(
-        &words,
-        &mut Process {
-            rt,
-            backend: &supplied,
-            is_terminal: rt.stdin().is_terminal(),
-            input: &mut BufReader::new(rt.alloc(), rt.reader()).map_err(Stop::of_input)?,
-            output: &mut io::writer(rt),
-            errors: &mut rt.stderr(),
-        },
-    );
-    Ok(if status == 0 && supplied.has_wrong_rows.get() {
-        4
-    } else {
-        status
-    })
+    let mut process = Process {
+        rt,
+        backend: &supplied,
+        is_terminal: rt.stdin().is_terminal(),
+        input: BufReader::new(rt.alloc(), rt.reader()).map_err(Stop::of_input)?,
+        output: io::writer(rt),
+        errors: rt.stderr(),
+    };
+    let status = scram_lib::run(&words, &mut process);
+    let wrong = supplied.has_wrong_rows.get() && status == 0;
+    Ok(if wrong { 4 } else { status })
 }
 
 fn main(rt: HostRuntime) -> ExitCode {

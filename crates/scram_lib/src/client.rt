@@ -55,7 +55,7 @@ impl<R: System, I: BufRead, O: Write, E: Write, B: Backend<R>> Process<'_, R, I,
     pub(crate) fn log_in(&mut self, login: &Login<'_>) -> Result<Done, Stop>
         ensures { IfOk result (λ done. HasLoggedIn login.now done) }
     {
-        let client = login.client(self.rt, self.input)?;
+        let client = login.client(self.rt, &mut self.input)?;
         if login.frames {
             return self.log_in_frames(login, client);
         }
@@ -75,8 +75,8 @@ impl<R: System, I: BufRead, O: Write, E: Write, B: Backend<R>> Process<'_, R, I,
             self.rt.alloc(),
             &mut client,
             &nonce,
-            self.input,
-            self.output,
+            &mut self.input,
+            &mut self.output,
         )?;
         login.keep(self.rt, client.keys())?;
         Ok(Done::Client(client))

@@ -67,7 +67,8 @@ impl<R: System, I: BufRead, O: Write, E: Write, B: Backend<R>> Process<'_, R, I,
         ensures { IfOk result (λ done. HasLoggedIn login.now done) }
     {
         let mut client = negotiation(self.rt.alloc(), client)?;
-        log_in_over(self.rt, login, &mut *client, self.input, self.output)?;
+        let (input, output) = (&mut self.input, &mut self.output);
+        log_in_over(self.rt, login, &mut *client, input, output)?;
         login.keep(self.rt, client.profile().keys())?;
         Ok(Done::ClientOfFrames(client))
     }
@@ -86,15 +87,16 @@ impl<R: System, I: BufRead, O: Write, E: Write, B: Backend<R>> Process<'_, R, I,
         let (rt, alloc) = (self.rt, self.rt.alloc());
         let opener = opener(alloc, service, rules);
         let mut opener = Box::new(alloc, ServerNegotiation::new(alloc, opener))?;
-        let claimed = receive_init(rt, service, &mut *opener, self.input, self.output)?;
+        let claimed = receive_init(rt, service, &mut *opener, &mut self.input, &mut self.output)?;
         let server = server_for(rt, service, rules, secret, source, claimed.as_deref())?;
         let mut server = Box::new(alloc, continued(alloc, &opener, server)?)?;
-        if let Err(stop) = serve_over(rt, service, &mut *server, self.input, self.output) {
-            tell_rejected(alloc, service, claimed.as_deref(), &stop, self.errors)?;
+        let (input, output) = (&mut self.input, &mut self.output);
+        if let Err(stop) = serve_over(rt, service, &mut *server, input, output) {
+            tell_rejected(alloc, service, claimed.as_deref(), &stop, &mut self.errors)?;
             return Err(stop);
         }
         let user = server.authenticated_user();
-        tell_user(alloc, service, user, server.acts_for(), self.errors);
+        tell_user(alloc, service, user, server.acts_for(), &mut self.errors);
         Ok(Done::ServerOfFrames(server))
     }
 }

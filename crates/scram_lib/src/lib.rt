@@ -44,18 +44,18 @@ pub fn run<R: System, I: BufRead, O: Write, E: Write, B: Backend<R>>(
 {
     let parsed = match manual(process.rt.alloc()) {
         Ok(manual) => manual.try_get_matches_from(words),
-        Err(_) => return tell(Stop::OutOfMemory, process.errors),
+        Err(_) => return tell(Stop::OutOfMemory, &mut process.errors),
     };
     let matches = match parsed {
         Ok(matches) => matches,
-        Err(error) => return show(&error, process.output, process.errors),
+        Err(error) => return show(&error, &mut process.output, &mut process.errors),
     };
     let task = Task::of(&matches);
-    if let Err(stop) = prompt(process.is_terminal, echo_of(&matches), process.errors) {
-        return tell(stop, process.errors);
+    if let Err(stop) = prompt(process.is_terminal, echo_of(&matches), &mut process.errors) {
+        return tell(stop, &mut process.errors);
     }
     let done = process.run(&task);
-    end(process.rt, done, task.file(), process.errors)
+    end(process.rt, done, task.file(), &mut process.errors)
 }
 
 /// Returns the exit status of a command, which is 0 exactly if it is done, and prints why it stops otherwise.

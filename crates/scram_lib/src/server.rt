@@ -78,7 +78,7 @@ impl<R: System, I: BufRead, O: Write, E: Write, B: Backend<R>> Process<'_, R, I,
         let source = Source::open(rt, self.backend, service)?;
         let secret = service.secret(rt)?;
         if secret.is_some() {
-            source.tell_forms(service, self.errors);
+            source.tell_forms(service, &mut self.errors);
         }
         if service.frames {
             return self.serve_frames(service, rules, secret, &source);
@@ -98,11 +98,11 @@ impl<R: System, I: BufRead, O: Write, E: Write, B: Backend<R>> Process<'_, R, I,
             → IfOk result (HasServed service.now) }
     {
         let alloc = self.rt.alloc();
-        let message = wire::receive_first(alloc, service.mechanism(), self.input)?;
+        let message = wire::receive_first(alloc, service.mechanism(), &mut self.input)?;
         let done = self.log_in_by(service, rules, secret, source, &message);
         if let Err(stop) = &done {
             let claimed = claimed_user(alloc, service.mechanism(), &message)?;
-            tell_rejected(alloc, service, claimed.as_deref(), stop, self.errors)?;
+            tell_rejected(alloc, service, claimed.as_deref(), stop, &mut self.errors)?;
         }
         done
     }
@@ -142,11 +142,11 @@ impl<R: System, I: BufRead, O: Write, E: Write, B: Backend<R>> Process<'_, R, I,
             &mut *server,
             message,
             &nonce,
-            self.input,
-            self.output,
+            &mut self.input,
+            &mut self.output,
         )?;
         let user = server.authenticated_user();
-        tell_user(alloc, service, user, server.acts_for(), self.errors);
+        tell_user(alloc, service, user, server.acts_for(), &mut self.errors);
         Ok(Done::Server(server))
     }
 }

@@ -31,9 +31,9 @@ pub struct Process<'a, R, I, O, E, B> {
     pub backend: &'a B,
     /// Whether the input is a terminal.
     pub is_terminal: bool,
-    pub input: &'a mut I,
-    pub output: &'a mut O,
-    pub errors: &'a mut E,
+    pub input: I,
+    pub output: O,
+    pub errors: E,
 }
 
 /// A task of this library.
@@ -170,12 +170,15 @@ impl<R: System, I: BufRead, O: Write, E: Write, B: Backend<R>> Process<'_, R, I,
             Task::Import(named, dry_run) => self.import(named, *dry_run),
             Task::ListHashes(named) => self.list_hashes(named),
             Task::CheckFile(named) => self.check_file(named),
-            Task::Explain(frames) => explain(self.rt.alloc(), *frames, self.input, self.output),
+            Task::Explain(frames) => {
+                let (input, output) = (&mut self.input, &mut self.output);
+                explain(self.rt.alloc(), *frames, input, output)
+            }
             Task::Audit(file, limit) => {
                 self.backend
-                    .audit(self.rt, file, *limit, self.input, self.output)
+                    .audit(self.rt, file, *limit, &mut self.input, &mut self.output)
             }
-            Task::Man => man::print(self.output).map_err(Stop::of_output),
+            Task::Man => man::print(&mut self.output).map_err(Stop::of_output),
             Task::Client(_) | Task::Server(_) | Task::Check(_) => Ok(()),
         }
     }
@@ -183,10 +186,10 @@ impl<R: System, I: BufRead, O: Write, E: Write, B: Backend<R>> Process<'_, R, I,
     /// Reads a password to store. At a terminal it is asked for twice.
     pub(crate) fn new_password(&mut self) -> Result<SecretText, Stop> {
         let alloc = self.rt.alloc();
-        let password = input::password(alloc, self.input, Unassigned::Refused)?;
+        let password = input::password(alloc, &mut self.input, Unassigned::Refused)?;
         if self.is_terminal {
-            ask("The same password again: ", self.errors);
-            let again = input::password(alloc, self.input, Unassigned::Refused)?;
+            ask("The same password again: ", &mut self.errors);
+            let again = input::password(alloc, &mut self.input, Unassigned::Refused)?;
             if again.as_str() != password.as_str() {
                 return Err(Stop::OtherPasswords);
             }

@@ -65,7 +65,7 @@ impl<R: System, I: BufRead, O: Write, E: Write, B: Backend<R>> Process<'_, R, I,
             asked: *record,
         };
         let changed = self.make_change(named, &put)?;
-        report(changed.done, self.output)?;
+        report(changed.done, &mut self.output)?;
         // The file is changed, whether or not that can be written.
         let _ = self.errors.write_all(changed.notes.as_bytes());
         tell_others(
@@ -73,7 +73,7 @@ impl<R: System, I: BufRead, O: Write, E: Write, B: Backend<R>> Process<'_, R, I,
             &changed.text,
             named.name,
             put.password,
-            self.errors,
+            &mut self.errors,
         )
     }
 
@@ -83,7 +83,7 @@ impl<R: System, I: BufRead, O: Write, E: Write, B: Backend<R>> Process<'_, R, I,
             version: named.version,
         };
         let changed = self.make_change(named, &taken)?;
-        report(changed.done, self.output)
+        report(changed.done, &mut self.output)
     }
 
     /// Reads a password, checks it against the first record of the user for each mechanism, and prints the answers.
@@ -91,13 +91,14 @@ impl<R: System, I: BufRead, O: Write, E: Write, B: Backend<R>> Process<'_, R, I,
         ensures { IfOk result (λ done. HasChecked named.now done) }
     {
         let (rt, backend) = (self.rt, self.backend);
-        let password = input::password(rt.alloc(), self.input, Unassigned::Allowed)?;
+        let password = input::password(rt.alloc(), &mut self.input, Unassigned::Allowed)?;
         let text = if named.is_db {
             backend.lines_of(rt, named.file, named.name, None)?
         } else {
             store::read(rt, named.file)?
         };
-        check_text(rt.alloc(), &text, named, password.as_str(), self.output)?;
+        let output = &mut self.output;
+        check_text(rt.alloc(), &text, named, password.as_str(), output)?;
         Ok(Done::Check(text, password))
     }
 }

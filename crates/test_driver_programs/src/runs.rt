@@ -2,11 +2,12 @@
 
 use crate::no_database::NoDatabase;
 use crate::paragraphs::{Run, read};
-use crate::streams::{End, tell_lines};
+use crate::streams::{End, Output, tell_lines};
 use example_broker_lib::log_in;
 use scram_lib::task::Process;
 use std::fs::Metadata;
 use std::io::{BufRead, BufReader, Read, Result, Write};
+use std::mem::replace;
 use test_rows::Row;
 
 /// Answers the run of a paragraph. If the paragraph says so, each call of files and of random bytes fails in turn, and
@@ -58,7 +59,7 @@ fn play(run: &mut Run, piece: usize) -> Result<String> {
     let alloc = run.disk.alloc();
     let input = run.input.clone()?;
     let input = input.as_slice().chain(End(run.fault));
-    let status = run_program(run, &mut BufReader::with_capacity(alloc, piece, input)?)?;
+    let status = run_program(run, BufReader::with_capacity(alloc, piece, input)?)?;
     let mut told = String::new(alloc);
     if run.is_binary {
         let digits = hex::encode(alloc, run.output.written.as_slice())?;
@@ -81,7 +82,7 @@ fn play(run: &mut Run, piece: usize) -> Result<String> {
 }
 
 /// Runs the program that the first word names, and returns its status.
-fn run_program<I: BufRead>(run: &mut Run, input: &mut I) -> Result<u8> {
+fn run_program<I: BufRead>(run: &mut Run, mut input: I) -> Result<u8> {
     let (name, words) = match run.words.as_slice() {
         [name, words @ ..] => (name.as_str(), words),
         [] => return Ok(0),
@@ -90,7 +91,7 @@ fn run_program<I: BufRead>(run: &mut Run, input: &mut I) -> Result<u8> {
     match name {
         "example_broker" => {
             let records = words.first().map_or("", |word| word.as_str());
-            match log_in(&run.disk, records, words.len() > 1, input, output) {
+            match log_in(&run.disk, records, words.len() > 1, &mut input, output) {
                 Ok((user, wrong)) => {
                     writeln!(errors, "{user:?} logged in, after {wrong} wrong logins")?;
                     Ok(0)
@@ -98,17 +99,24 @@ fn run_program<I: BufRead>(run: &mut Run, input: &mut I) -> Result<u8> {
                 Err(_) => Ok(1),
             }
         }
-        "sasl_lab" => Ok(sasl_lab_lib::run(run.disk.alloc(), words, input, output, errors)),
-        _ => {
-            let mut process = Process {
-                rt: &run.disk,
-                backend: &NoDatabase,
-                is_terminal: run.is_terminal,
-                input,
-                output,
-                errors,
-            };
-            Ok(scram_lib::run(&run.words, &mut process))
-        }
+        "sasl_lab" => Ok(sasl_lab_lib::run(run.disk.alloc(), words, &mut input, output, errors)),
+        _ => Ok(run_scram(run, input)),
     }
+}
+
+/// Runs `scram`, and returns its status.
+fn run_scram<I: BufRead>(run: &mut Run, input: I) -> u8 {
+    let alloc = run.disk.alloc();
+    let mut process = Process {
+        rt: &run.disk,
+        backend: &NoDatabase,
+        is_terminal: run.is_terminal,
+        input,
+        output: replace(&mut run.output, Output::new(alloc)),
+        errors: replace(&mut run.errors, Output::new(alloc)),
+    };
+    let status = scram_lib::run(&run.words, &mut process);
+    run.output = replace(&mut process.output, Output::new(alloc));
+    run.errors = replace(&mut process.errors, Output::new(alloc));
+    status
 }

@@ -25,9 +25,9 @@ impl<R: System, I: BufRead, O: Write, E: Write, B: Backend<R>> Process<'_, R, I,
         let mut is_alike = true;
         for line in text.lines() {
             let line = UserLine::of(line);
-            is_alike &= check_form(alloc, &users, &line, self.output)?;
+            is_alike &= check_form(alloc, &users, &line, &mut self.output)?;
             if names.insert(line.name)? {
-                is_alike &= check_hashes(alloc, &users, line.name, self.output)?;
+                is_alike &= check_hashes(alloc, &users, line.name, &mut self.output)?;
             }
         }
         if is_alike {

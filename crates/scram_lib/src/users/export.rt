@@ -33,11 +33,11 @@ impl<R: System, I: BufRead, O: Write, E: Write, B: Backend<R>> Process<'_, R, I,
         let alloc = self.rt.alloc();
         let count = if named.is_db {
             let text = self.backend.lines(self.rt, named.file)?;
-            print_lines(alloc, &mut text.as_bytes(), how, self.output)?
+            print_lines(alloc, &mut text.as_bytes(), how, &mut self.output)?
         } else {
             let file = fs::open(self.rt, named.file).map_err(Stop::of_reading)?;
             let mut input = BufReader::new(alloc, file).map_err(Stop::of_reading)?;
-            print_lines(alloc, &mut input, how, self.output)?
+            print_lines(alloc, &mut input, how, &mut self.output)?
         };
         if !matches!(how, Printed::Name) {
             // The records are printed, whether or not that can be written.

@@ -24,7 +24,7 @@ impl<R: System, I: BufRead, O: Write, E: Write, B: Backend<R>> Process<'_, R, I,
     /// that would do.
     pub(crate) fn import(&mut self, named: &Named<'_>, dry_run: bool) -> Result<(), Stop> {
         let rt = self.rt;
-        let text = lines_in(rt.alloc(), self.input)?;
+        let text = lines_in(rt.alloc(), &mut self.input)?;
         lines::test_once(rt.alloc(), &text)?;
         let added = Added { lines: &text };
         if dry_run {
