@@ -82,7 +82,7 @@ fn play(run: &mut Run, piece: usize) -> Result<String> {
 }
 
 /// Runs the program that the first word names, and returns its status.
-fn run_program<I: BufRead>(run: &mut Run, mut input: I) -> Result<u8> {
+fn run_program<I: BufRead + Drop>(run: &mut Run, mut input: I) -> Result<u8> {
     let (name, words) = match run.words.as_slice() {
         [name, words @ ..] => (name.as_str(), words),
         [] => return Ok(0),
@@ -105,7 +105,7 @@ fn run_program<I: BufRead>(run: &mut Run, mut input: I) -> Result<u8> {
 }
 
 /// Runs `scram`, and returns its status.
-fn run_scram<I: BufRead>(run: &mut Run, input: I) -> u8 {
+fn run_scram<I: BufRead + Drop>(run: &mut Run, input: I) -> u8 {
     let alloc = run.disk.alloc();
     let mut process = Process {
         rt: &run.disk,
