@@ -1,5 +1,6 @@
 //! Runs of a program, and what each prints.
 
+use crate::disk::Disk;
 use crate::no_database::NoDatabase;
 use crate::paragraphs::{Run, read};
 use crate::streams::{End, Output, tell_lines};
@@ -100,23 +101,37 @@ fn run_program<I: BufRead + Drop>(run: &mut Run, mut input: I) -> Result<u8> {
             }
         }
         "sasl_lab" => Ok(sasl_lab_lib::run(run.disk.alloc(), words, &mut input, output, errors)),
-        _ => Ok(run_scram(run, input)),
+        _ => {
+            let alloc = run.disk.alloc();
+            let output = replace(output, Output::new(alloc));
+            let errors = replace(errors, Output::new(alloc));
+            let (disk, tty) = (&run.disk, run.is_terminal);
+            let (status, output, errors) = run_scram(disk, &run.words, tty, input, output, errors);
+            run.output = output;
+            run.errors = errors;
+            Ok(status)
+        }
     }
 }
 
-/// Runs `scram`, and returns its status.
-fn run_scram<I: BufRead + Drop>(run: &mut Run, input: I) -> u8 {
-    let alloc = run.disk.alloc();
+/// Runs `scram` over streams of its own. Returns its status, and what it has written.
+fn run_scram<I: BufRead + Drop>(
+    disk: &Disk,
+    words: &[String],
+    is_terminal: bool,
+    input: I,
+    output: Output,
+    errors: Output,
+) -> (u8, Output, Output) {
     let mut process = Process {
-        rt: &run.disk,
+        rt: disk,
         backend: &NoDatabase,
-        is_terminal: run.is_terminal,
+        is_terminal,
         input,
-        output: replace(&mut run.output, Output::new(alloc)),
-        errors: replace(&mut run.errors, Output::new(alloc)),
+        output,
+        errors,
     };
-    let status = scram_lib::run(&run.words, &mut process);
-    run.output = replace(&mut process.output, Output::new(alloc));
-    run.errors = replace(&mut process.errors, Output::new(alloc));
-    status
+    let status = scram_lib::run(words, &mut process);
+    let Process { output, errors, .. } = process;
+    (status, output, errors)
 }
