@@ -7,6 +7,7 @@ The trials of owners need root, those of relays `socat`, and those of many lines
 otherwise.
 """
 import base64
+import fcntl
 import hashlib
 import hmac
 import os
@@ -98,11 +99,102 @@ def changes_at_once(folder):
 
 
 def left_over(folder):
-    """A left-over new file is named, and the file is unchanged."""
-    (folder / "users.txt.new").touch()
-    status, _, errors = scram("users", "add", str(folder / "users.txt"), "alice", "--wait", "1")
-    assert status == 4 and str(folder / "users.txt.new") in errors and "--wait" in errors, errors
-    assert not (folder / "users.txt").exists()
+    """A new file that a killed process left is replaced. One that a process has locked is waited for, or an error."""
+    users, new = folder / "users.txt", folder / "users.txt.new"
+    other = folder / "other.txt"
+    other.write_text("kept")
+    os.link(other, new)
+    assert scram("users", "add", str(users), "alice")[:2] == (0, "added\n")
+    assert not new.exists() and other.read_text() == "kept"
+    with open(new, "w", encoding="ascii") as held:
+        fcntl.flock(held, fcntl.LOCK_EX)
+        status, _, errors = scram("users", "add", str(users), "bob", "--wait", "1")
+        assert status == 4 and str(new) in errors and "--wait" in errors, errors
+        waiting = subprocess.Popen(
+            [PROGRAM, "users", "add", str(users), "bob", "--wait", "50"], stdin=subprocess.PIPE, stdout=subprocess.DEVNULL
+        )
+        waiting.stdin.write(b"pencil\n")
+        waiting.stdin.close()
+        time.sleep(1)
+        assert waiting.poll() is None
+    assert waiting.wait(timeout=SECONDS) == 0
+    new.symlink_to(other)
+    status, _, errors = scram("users", "add", str(users), "carol")
+    assert status == 4 and str(new) in errors and other.read_text() == "kept", errors
+
+
+def killed(folder):
+    """A change that is killed leaves the whole old or new file, and the next change works."""
+    users = folder / "users.txt"
+    users.write_text("".join(record(f"user{number}", "SCRAM-SHA-256", b"salt", 1) for number in range(2000)))
+    for number in range(20):
+        run = subprocess.Popen(
+            [PROGRAM, "users", "add", str(users), f"name{number}"], stdin=subprocess.PIPE, stdout=subprocess.DEVNULL
+        )
+        run.stdin.write(b"pencil\n")
+        run.stdin.close()
+        time.sleep(number / 500)
+        run.kill()
+        run.wait()
+    assert scram("users", "add", str(users), "last")[:2] == (0, "added\n")
+    assert scram("users", "list", str(users))[0] == 0 and not (folder / "users.txt.new").exists()
+
+
+def hard_links(folder):
+    """A file with two names is not changed, and the error says what to do."""
+    users = folder / "users.txt"
+    users.write_text("")
+    os.link(users, folder / "second.txt")
+    status, _, errors = scram("users", "add", str(users), "alice")
+    assert status == 4 and "hard link" in errors and "symbolic link" in errors and str(users) in errors, errors
+    assert users.read_text() == "" and not (folder / "users.txt.new").exists()
+
+
+def odd_lines(folder):
+    """A line that is empty, a comment, or of a Windows file is named as such, with its number."""
+    users = folder / "users.txt"
+    line = record("alice", "SCRAM-SHA-256", b"salt", 1)
+    for odd, words in (
+        ("\n", "line 2 is empty"),
+        ("# users\n", "line 2 is a comment"),
+        (line[:-1] + "\r\n", "line 2 ends with a carriage return"),
+    ):
+        users.write_bytes((line + odd + line).encode())
+        for command in (["list"], ["add"], ["check"]):
+            status, said, errors = scram("users", *command, str(users), *["bob"] * (command == ["add"]))
+            assert (status, said) == (4, "") and words in errors, errors
+
+
+def gsasl_of(line):
+    """A line with the record as `gsasl --mkpasswd` writes it."""
+    name, _, text = line.rstrip("\n").rpartition(" ")
+    mechanism, count, salt, stored, server = text.replace(":", "$").split("$")
+    return f"{name} {{{mechanism}}}{count},{salt},{stored},{server}\n"
+
+
+def imports(folder):
+    """Records of PostgreSQL, of gsasl and of a database are imported and exported. A dry run and an error change nothing."""
+    users = folder / "users.txt"
+    alice, bob = (record(name, "SCRAM-SHA-256", b"0123456789abcdef", 4096) for name in ("alice", "b=2Cob c"))
+    given = alice + gsasl_of(bob)
+    status, said, _ = scram("users", "import", str(users), "--dry-run", password=given[:-1])
+    assert (status, said.splitlines()[-1]) == (0, "2 to add, 0 to replace") and not users.exists(), said
+    assert said.startswith("add SCRAM-SHA-256 4096 alice\nadd SCRAM-SHA-256 4096 $'b,ob c'\n"), said
+    assert scram("users", "import", str(users), password=given[:-1])[:2] == (0, "2 added, 0 replaced\n")
+    assert users.read_text() == alice + bob
+    other = record("alice", "SCRAM-SHA-256", b"0123456789abcdef", 4096, password="other")
+    assert scram("users", "import", str(users), password=other[:-1])[:2] == (0, "0 added, 1 replaced\n")
+    assert users.read_text() == other + bob
+    for given, words in ((alice + "bob", "Line 2"), (alice + alice[:-1], "Line 2"), ("alice {SCRAM-SHA-256}1,2", "Line 1")):
+        status, _, errors = scram("users", "import", str(users), password=given)
+        assert status == 4 and words in errors and users.read_text() == other + bob, errors
+    status, said, errors = scram("users", "export", str(users), "--gsasl")
+    assert (status, said) == (0, gsasl_of(other) + gsasl_of(bob)) and "2 exported" in errors, (said, errors)
+    status, said, _ = scram("users", "export", str(users))
+    assert (status, said) == (0, other + bob)
+    assert scram("users", "import", str(folder / "users.db"), "--db", password=said[:-1])[1] == "2 added, 0 replaced\n"
+    assert scram("users", "import", str(folder / "users.db"), "--db", password=alice[:-1])[1] == "0 added, 1 replaced\n"
+    assert scram("users", "export", str(folder / "users.db"), "--db")[:2] == (0, alice + bob)
 
 
 def outputs(folder):
@@ -128,7 +220,7 @@ def quoted_names(folder):
     users = str(folder / "users.txt")
     names = ["alice", "a,b c=", "\x1b[31m'\\", "Müller", ""]
     for name in names:
-        assert scram("users", "add", users, name, "--mechanism", "SCRAM-SHA-256")[0] == 0
+        assert scram("users", "add", users, name, "--mechanism", "SCRAM-SHA-256", "--force")[0] == 0
     listed = scram("users", "list", users)[1]
     assert listed.isascii() and "\x1b" not in listed
     for line, name in zip(listed.splitlines(), names):
@@ -142,7 +234,7 @@ def terminals(_folder):
     """At a terminal the password is an error, or asked for on the errors."""
     for words, status, text in ((["record"], 2, b"--echo"), (["record", "--echo"], 0, b"Password: ")):
         above, below = pty.openpty()
-        os.write(above, b"pencil\n")
+        os.write(above, b"pencil\npencil\n")
         run = subprocess.run(
             [PROGRAM, *words], stdin=below, stdout=subprocess.DEVNULL, stderr=subprocess.PIPE, timeout=SECONDS
         )
@@ -272,7 +364,7 @@ def other_forms(folder):
 
 
 def many_lines(folder):
-    """Among 200,000 lines a server parses only those of the client's user."""
+    """Among 200,000 lines a server parses only those of the client's user. `list` holds one line, and `add` two texts."""
     users = folder / "users.txt"
     assert scram("users", "add", str(users), "alice", "--mechanism", "SCRAM-SHA-256")[0] == 0
     record = users.read_text().removeprefix("alice")
@@ -283,6 +375,11 @@ def many_lines(folder):
         print(f"  {seconds:.2f} s of the processor, {memory} kB of memory {' '.join(options)}")
         assert b"r=nonce" in (answer if options else base64.b64decode(answer)), answer
         assert seconds < 1 and memory < 64_000, (seconds, memory)
+    for words, most, room in (("list", 1, 20_000), ("add", 1.5, 80_000)):
+        answer, seconds, memory = measured(b"pencil\n", "users", words, str(users), *["bob"] * (words == "add"))
+        print(f"  users {words}: {seconds:.2f} s of the processor, {memory} kB of memory")
+        assert answer.count(b"\n") == (200_000 if words == "list" else 1), answer[-100:]
+        assert seconds < most and memory < room, (seconds, memory)
 
 
 def main():
@@ -291,6 +388,10 @@ def main():
         links,
         changes_at_once,
         left_over,
+        killed,
+        hard_links,
+        odd_lines,
+        imports,
         outputs,
         quoted_names,
         terminals,

@@ -1,5 +1,6 @@
 #!/usr/bin/env python3
-"""Tries how the built program `scram` makes a database (`--db`): at once, killed, on a full disk, and beside other files.
+"""Tries how the built program `scram` makes a database (`--db`): at once, killed, on a full disk, and beside
+other files.
 
     tools/program_new_database.py [PROGRAM]       the program defaults to crates/scram/out/scram
 
@@ -17,7 +18,7 @@ from pathlib import Path
 
 sys.dont_write_bytecode = True
 
-from program_database import PROGRAM, SECONDS, TABLE, make, rows, run, scram
+from program_database import PROGRAM, SECONDS, TABLE, is_plain, make, rows, run, scram
 
 
 def add_user(path, name, *options):
@@ -51,8 +52,7 @@ def first_adds_at_once(folder):
         for thread in threads:
             thread.join()
         assert ended == [0] * len(threads), ended
-        assert users(path) == ["alice", "bob", "carol"][: len(threads)]
-        assert not os.path.exists(path + ".new") and not os.path.exists(path + ".new-wal")
+        assert users(path) == ["alice", "bob", "carol"][: len(threads)] and is_plain(path)
 
 
 def first_adds_killed(folder):
@@ -77,8 +77,7 @@ def first_adds_killed(folder):
             )
         )
         assert add_user(path, "bob") == 0, left
-        assert users(path) in (["bob"], ["alice", "bob"])
-        assert not os.path.exists(path + ".new") and not os.path.exists(path + ".new-wal")
+        assert users(path) in (["bob"], ["alice", "bob"]) and is_plain(path)
         assert os.stat(path).st_mode & 0o7777 == 0o600
     assert len(left) > 3, "the commands were killed at too few places"
 
@@ -108,8 +107,7 @@ def on_a_full_disk(folder):
         assert scram("users", "list", "--db", path)[0] in (0, 4)
         filler.unlink()
         assert add_user(path, "bob") == 0
-        assert users(path) == (["bob"] if status else ["alice", "bob"])
-        assert not os.path.exists(path + ".new") and not os.path.exists(path + ".new-wal")
+        assert users(path) == (["bob"] if status else ["alice", "bob"]) and is_plain(path)
         for file in Path(folder).iterdir():
             file.unlink()
         failed += status == 4
@@ -134,44 +132,27 @@ def modes(folder):
     path.touch()
     path.chmod(0o640)
     assert add_user(str(path), "alice") == 0 and path.stat().st_mode & 0o7777 == 0o640
-    assert (folder / "empty.db-wal").stat().st_mode & 0o7777 == 0o640
+    assert is_plain(path)
 
 
 def leftovers(folder):
-    """A file without a table counts as new, and so does a new file that a killed command left beside it."""
-    path, beside = folder / "users.db", folder / "users.db.new"
-    whole = folder / "whole.db"
+    """A file without a table counts as new, and a log beside an empty file is not its own."""
+    path, whole, logged = folder / "users.db", folder / "whole.db", folder / "logged.db"
     make(str(whole), 0)
-    logged = folder / "logged.db"
     with_log(logged)
-    table_only = whole.read_bytes()
-    header_only = without_table(folder)
     old_log = (folder / "logged.db-wal").read_bytes()
-    for begun in (b"", b"\0", header_only, table_only):
+    for begun in (None, b"", b"\0", without_table(folder), whole.read_bytes()):
         for log in (None, b"", old_log):
             if log and begun:
                 continue
-            for place in (path, beside):
-                place.write_bytes(begun)
-                if log is not None:
-                    Path(f"{place}-wal").write_bytes(log)
-                assert scram("users", "list", "--db", str(path))[0] == (
-                    0 if begun == table_only and place == path else 4
-                )
-                assert add_user(str(path), "alice") == 0, (begun[:20], log, place)
-                cleared(folder, path)
-    for log in (b"", old_log):
-        Path(f"{path}-wal").write_bytes(log)
-        assert add_user(str(path), "alice") == 0
-        cleared(folder, path)
-
-
-def cleared(folder, path):
-    """Checks the rows of a new file, and removes it with all that is beside it."""
-    assert users(str(path)) == ["alice"]
-    assert not any(folder.glob("users.db.new*"))
-    for file in folder.glob("users.db*"):
-        file.unlink()
+            if begun is not None:
+                path.write_bytes(begun)
+            if log is not None:
+                Path(f"{path}-wal").write_bytes(log)
+            assert scram("users", "list", "--db", str(path))[0] == (0 if begun == whole.read_bytes() else 4)
+            assert add_user(str(path), "alice") == 0, (begun, log)
+            assert users(str(path)) == ["alice"] and is_plain(path)
+            path.unlink()
 
 
 def with_log(path):
@@ -197,31 +178,19 @@ def without_table(folder):
 
 
 def in_the_way(folder):
-    """What is beside the place of a new file stays as it is, if it is no new file."""
-    path, beside = folder / "users.db", folder / "users.db.new"
-    make(str(beside), 1)
-    others = beside.read_bytes(), b"no database" * 1000, b"text\n"
-    for text in others:
-        beside.write_bytes(text)
-        status, _, errors = scram("users", "add", "--db", str(path), "alice", "--wait", "0")
-        assert status == 4 and "This new file exists" in errors and "users.db.new" in errors, errors
-        assert beside.read_bytes() == text and not path.exists()
-        beside.unlink()
-        for file in folder.glob("users.db*"):
-            file.unlink()
-    for place in (lambda: beside.mkdir(), lambda: os.mkfifo(beside), lambda: beside.symlink_to("target")):
-        place()
-        assert scram("users", "add", "--db", str(path), "alice", "--wait", "0")[0] == 4
-        assert not path.exists() and not (folder / "target").exists()
-        beside.rmdir() if beside.is_dir() and not beside.is_symlink() else beside.unlink()
+    """A link to a file that does not exist, and a journal beside a new file, are errors."""
+    path = folder / "users.db"
     path.symlink_to("target")
     status, _, errors = scram("users", "add", "--db", str(path), "alice")
     assert status == 4 and "a link to a file that does not exist" in errors, errors
     assert path.is_symlink() and not (folder / "target").exists()
-    path.unlink()
-    (folder / "users.db-journal").write_bytes(b"\xd9\xd5\x05\xf9 \xa1c\xd7")
-    status, _, errors = scram("users", "add", "--db", str(path), "alice")
-    assert status == 4 and "rollback journal" in errors and not path.exists(), errors
+    (folder / "target").touch()
+    assert add_user(str(path), "alice") == 0 and users(str(path)) == ["alice"] and path.is_symlink()
+    assert is_plain(folder / "target")
+    other = folder / "other.db"
+    (folder / "other.db-journal").write_bytes(b"\xd9\xd5\x05\xf9 \xa1c\xd7")
+    status, _, errors = scram("users", "add", "--db", str(other), "alice")
+    assert status == 4 and "rollback journal" in errors and not other.stat().st_size, errors
 
 
 def main():

@@ -10,6 +10,7 @@ cannot be read has to stop them. A new secret or database is for its owner only,
 is well.
 """
 import base64
+import contextlib
 import ctypes
 import hashlib
 import hmac
@@ -17,6 +18,7 @@ import io
 import os
 import shutil
 import signal
+import sqlite3
 import struct
 import subprocess
 import sys
@@ -26,9 +28,10 @@ from pathlib import Path
 
 TOP = Path(__file__).resolve().parents[2]
 sys.dont_write_bytecode = True
-sys.path.insert(0, str(TOP / "tools/models"))
+sys.path[:0] = [str(TOP / "tools/models"), str(TOP / "tools")]
 
 import broker_rows as rows
+from program_database import TABLE
 
 BROKER, SCRAM = (TOP / f"crates/{name}/out/{name}" for name in ("example_broker", "scram"))
 KNOWN, UNKNOWN = b"user", b"usor"
@@ -203,19 +206,31 @@ class Restarts(unittest.TestCase):
             new.unlink()
 
     def test_a_new_database_is_never_open_to_others(self):
-        """A file that is there keeps its mode."""
+        """A new database is an empty file at first, which a killed process leaves. One that is there keeps its mode."""
         add = [SCRAM, "users", "add", "--db", "users.db", "alice", "--iterations", "1"]
         process = start(add, self.folder, umask=0, preexec_fn=stopped_at(FCHMOD))
         process.communicate(b"pencil\n", timeout=SECONDS)
         self.assertEqual(process.returncode, -signal.SIGSYS)
-        self.assertEqual((self.folder / "users.db.new").stat().st_mode & 0o7777, 0o600)
         database = self.folder / "users.db"
+        self.assertEqual((database.stat().st_mode & 0o7777, database.stat().st_size), (0o600, 0))
+        self.assertEqual(list(self.folder.glob("users.db.new*")), [])
         for mode in (0o600, 0o640):
             process = start(add, self.folder, umask=0)
             process.communicate(b"pencil\n", timeout=SECONDS)
             self.assertEqual((process.returncode, database.stat().st_mode & 0o7777), (0, mode))
             database.write_bytes(b"")
             database.chmod(0o640)
+
+    def test_what_a_new_database_has(self):
+        """The table of users and nothing else, with both records of the user, as SQLite reads them."""
+        process = start([SCRAM, "users", "add", "--db", "users.db", "alice", "--iterations", "1"], self.folder)
+        process.communicate(b"pencil\n", timeout=SECONDS)
+        self.assertEqual(process.returncode, 0)
+        with contextlib.closing(sqlite3.connect(self.folder / "users.db")) as database:
+            schema = database.execute("SELECT type, name, sql FROM sqlite_schema").fetchall()
+            kept = database.execute("SELECT name, mechanism, iterations FROM users ORDER BY mechanism").fetchall()
+        self.assertEqual(schema, [("table", "users", TABLE)])
+        self.assertEqual(kept, [("alice", mechanism, 1) for mechanism in sorted(PROOF)])
 
     def test_a_server_of_lines_that_starts_again(self):
         for mechanism in PROOF:

@@ -131,9 +131,10 @@ def apart(client, server):
     return [("client", it) for it in client] + [("server", it) for it in server]
 
 
-def row(name, users, came, audit, refused=None, status=0, password="pencil", words=(), mark="", last=None):
-    """A run: its users' lines, its bodies with their sides, and what is printed after what they say."""
-    told = [f"> {side}: {line}" for side, data in came for line in explained(data)]
+def row(name, users, came, audit, refused=None, status=0, password="pencil", words=(), mark="", last=None, said=None):
+    """A run: its users' lines, its bodies with their sides, and what is printed after what they say. `said` has the bodies
+    in another order, in which they are explained."""
+    told = [f"> {side}: {line}" for side, data in said or came for line in explained(data)]
     if last is not None:
         came = came + [last[0]]
         told += [f"> {line}" for line in last[1]]
@@ -165,7 +166,7 @@ def whole(login, client=(11, 7), server=9, all_of=True):
 
 
 NOTHING = "The two sides have no login in common."
-NOT_AUTHENTICATED = "The client does not authenticate the server that accepts it."
+NOT_AUTHENTICATED = "The server accepted the client, but the client does not verify its signature."
 UNFIT = "The bodies cannot be audited: "
 NONCES = UNFIT + "a nonce is not the base64 of 32 bytes."
 NONE = "the two sides have no login in common"
@@ -185,6 +186,17 @@ def logins():
         whole(alice, (6, 4), 10),
         mark="?",
     )
+    once = [(side, it) for it, side in zip(alice.bodies, ("client", "server", "client", "server", "client"))]
+    yield row("What each side received, each frame once.", [alice.line()], once, whole(alice, (6, 4), 5))
+    yield row(
+        "The same, the server's frames first.",
+        [alice.line()],
+        sorted(once, reverse=True, key=lambda it: it[0]),
+        whole(alice, (6, 5), 3),
+        said=once,
+    )
+    bare = once[1:]
+    yield row("The same, without the list of mechanisms.", [alice.line()], bare, whole(alice, (5, 3), 4))
     for mechanism in ("SCRAM-SHA-1", "SCRAM-SHA-512"):
         login = Login(mechanism, count=1)
         yield row(
@@ -381,13 +393,20 @@ def others():
         3,
     )
     bob = Login(user=b"bob", count=1)
-    yield row("A user without a record.", users, apart(bob.bodies, bob.bodies), [], "The user is unknown.", 3)
+    yield row(
+        "A user without a record.",
+        users,
+        apart(bob.bodies, bob.bodies),
+        [],
+        "The user has no record for the mechanism.",
+        3,
+    )
     yield row(
         "A record for another mechanism.",
         [Login("SCRAM-SHA-512", count=1).line()],
         apart(alice.bodies, alice.bodies),
         [],
-        "The user is unknown.",
+        "The user has no record for the mechanism.",
         3,
     )
     nonce = body("Challenge", b"r=x" + model.read(alice.challenge)[1][0][2:])
@@ -503,7 +522,7 @@ def unfit():
         users,
         [],
         [],
-        "The password is not printable ASCII.",
+        "The password has a character that SASLprep forbids, such as a tab, or mixes directions of writing.",
         4,
         password="pencil\\t",
     )
@@ -512,7 +531,7 @@ def unfit():
         None,
         [],
         [],
-        "users.txt: The file cannot be read: entity not found. Check its name and its mode.",
+        "users.txt: The file cannot be read: it does not exist. Check its name and its mode.",
         4,
     )
 

@@ -13,6 +13,9 @@ import hmac
 import sys
 from pathlib import Path
 
+sys.dont_write_bytecode = True
+from rejections import MARK, told
+
 FILE = Path(__file__).resolve().parents[2] / "crates/test_driver_programs/data/channels.txt"
 
 HASHES = {"SCRAM-SHA-1": "sha1", "SCRAM-SHA-256": "sha256", "SCRAM-SHA-512": "sha512"}
@@ -142,6 +145,7 @@ def line(text):
 
 
 def row(name, words, given, *wanted):
+    wanted = told(words, given, wanted)
     return "\n".join(["\n# " + name, f"$ scram {words}", *given, *wanted, ""])
 
 
@@ -205,8 +209,9 @@ def client_refuses(text):
     return f"! scram: The server's message is rejected: {text}.", "= 3"
 
 
-def server_refuses(text):
-    return f"! scram: The client's message is rejected: {text}.", "= 3"
+def server_refuses(reason):
+    """The end of a server's run that rejects the login for this reason."""
+    return MARK + reason, "= 3"
 
 
 def closed(text):
@@ -214,7 +219,8 @@ def closed(text):
 
 
 REFUSED = "! scram: The server rejected the login.", "= 1"
-NO_HEADER = server_refuses("Cannot parse GS2-header")
+OTHER_CHANNEL = server_refuses("Channel binding")
+NO_HEADER = server_refuses("SCRAM: Cannot parse GS2-header")
 MISPLACED = "Attribute in the place of an extension"
 
 
@@ -233,7 +239,7 @@ def over_lines():
                 channel(kind, b"\6" * 32),
                 [first, last],
                 [challenged, "e=channel-bindings-dont-match"],
-                *server_refuses("Invalid channel binding"),
+                *OTHER_CHANNEL,
             )
         )
     for mechanism in ("SCRAM-SHA-1", "SCRAM-SHA-512"):
@@ -273,8 +279,8 @@ def over_lines():
         ("y,,", "A client that was offered no channel binding."),
     ):
         text = plain(header).client_first
-        rows.append(server(name, channel("tls-exporter"), [text], ["e=other-error"], *NO_HEADER))
-    rows.append(server("A server without a channel.", "", [first], ["e=other-error"], *NO_HEADER))
+        rows.append(server(name, channel("tls-exporter"), [text], ["e=other-error"], *OTHER_CHANNEL))
+    rows.append(server("A server without a channel.", "", [first], ["e=other-error"], *OTHER_CHANNEL))
     return rows
 
 
@@ -289,7 +295,7 @@ def not_offered():
             DONE,
         ),
         server("A server that accepts `y,,`.", "--accept-y", [first, last], [challenged, signed], *LOGGED_IN),
-        server("A server that does not.", "", [first], ["e=other-error"], *NO_HEADER),
+        server("A server that does not.", "", [first], ["e=other-error"], *OTHER_CHANNEL),
     ]
     without, challenged, last, signed = plain("n,,").texts()
     rows.append(server("It accepts `n,,` too.", "--accept-y", [without, last], [challenged, signed], *LOGGED_IN))
@@ -300,7 +306,7 @@ def not_offered():
             "--accept-y",
             [swapped.client_first, swapped.client_final],
             [swapped.server_first, "e=channel-bindings-dont-match"],
-            *server_refuses("Invalid channel binding"),
+            *OTHER_CHANNEL,
         )
     )
     return rows
@@ -328,7 +334,9 @@ def strict():
     login = plain("n,,", client_more=",i=1")
     first, challenged, last, signed = login.texts()
     rows.append(server("A server that is not strict.", "", [first, last], [challenged, signed], *LOGGED_IN))
-    rows.append(server("A strict server.", "--strict", [first], ["e=other-error"], *server_refuses(MISPLACED)))
+    rows.append(
+        server("A strict server.", "--strict", [first], ["e=other-error"], *server_refuses("SCRAM: " + MISPLACED))
+    )
     login = bound("tls-exporter", client_more=",i=1")
     rows.append(
         server(
@@ -336,13 +344,17 @@ def strict():
             channel("tls-exporter"),
             [login.client_first],
             ["e=other-error"],
-            *server_refuses(MISPLACED),
+            *server_refuses("SCRAM: " + MISPLACED),
         )
     )
     login = plain("y,,", client_more=",i=1")
     rows.append(
         server(
-            "Both options.", "--accept-y --strict", [login.client_first], ["e=other-error"], *server_refuses(MISPLACED)
+            "Both options.",
+            "--accept-y --strict",
+            [login.client_first],
+            ["e=other-error"],
+            *server_refuses("SCRAM: " + MISPLACED),
         )
     )
     return [*rows, *misplaced()]
@@ -390,7 +402,7 @@ def misplaced():
             "--accept-y",
             [last.client_first, last.client_final],
             [last.server_first, "e=other-error"],
-            *server_refuses(MISPLACED),
+            *server_refuses("SCRAM: " + MISPLACED),
         )
     )
     last = plain("n,,", last_more=",i=1")
@@ -410,12 +422,18 @@ def misplaced():
             option,
             [last.client_first, last.client_final],
             [last.server_first, "e=other-error"],
-            *server_refuses(MISPLACED),
+            *server_refuses("SCRAM: " + MISPLACED),
         )
     )
     first = plain("n,,", client_more=",i=1")
     rows.append(
-        server("The first message.", option, [first.client_first], ["e=other-error"], *server_refuses(MISPLACED))
+        server(
+            "The first message.",
+            option,
+            [first.client_first],
+            ["e=other-error"],
+            *server_refuses("SCRAM: " + MISPLACED),
+        )
     )
     more = plain("n,,", client_more=",x=1", last_more=",y=2")
     rows.append(
@@ -434,7 +452,7 @@ def misplaced():
             option,
             [empty.client_first],
             ["e=unknown-user"],
-            "! scram: The user is unknown.",
+            MARK + "Unknown user",
             "= 3",
         )
     )
@@ -445,7 +463,7 @@ def misplaced():
             option,
             [unbound.client_first],
             ["e=other-error"],
-            *NO_HEADER,
+            *OTHER_CHANNEL,
         )
     )
     return rows
@@ -474,7 +492,7 @@ def over_frames():
                 channel(kind, b"\6" * 32),
                 client_sent,
                 [*server_sent[:2], AUTH],
-                *closed("The login was rejected"),
+                *OTHER_CHANNEL,
                 mechanism=mechanism,
             )
         )
@@ -487,7 +505,7 @@ def over_frames():
             option,
             [init(SHA_256, first)],
             [offer(plus), AUTH],
-            *closed("The login was rejected"),
+            *server_refuses("Mechanism not offered"),
         )
     )
     rows.append(
@@ -496,7 +514,7 @@ def over_frames():
             option,
             [init(plus, first)],
             [offer(plus), AUTH],
-            *closed("The login was rejected"),
+            *OTHER_CHANNEL,
         )
     )
     rows.append(
@@ -517,11 +535,7 @@ def over_frames():
         )
     )
     rows.append(server_frames("A server that accepts `y,,`.", "--accept-y", client_sent, server_sent, *LOGGED_IN))
-    rows.append(
-        server_frames(
-            "A server that does not.", "", client_sent[:1], [offer(SHA_256), AUTH], *closed("The login was rejected")
-        )
-    )
+    rows.append(server_frames("A server that does not.", "", client_sent[:1], [offer(SHA_256), AUTH], *OTHER_CHANNEL))
     login = plain("n,,", server_more=",s=AAAA")
     rows.append(
         client_frames(
@@ -535,9 +549,9 @@ def over_frames():
     return rows
 
 
-KIND = "The kind of the channel is not tls-unique, tls-server-end-point or tls-exporter."
-DIGITS = "The data of the channel are not in hexadecimal."
-LENGTH = "The data of the channel are empty or longer than 64 bytes."
+KIND = "The kind in --channel is not tls-unique, tls-server-end-point or tls-exporter."
+DIGITS = "The data in --channel are not in hexadecimal."
+LENGTH = "The data in --channel are empty or longer than 64 bytes."
 WRONG = (
     ("An unknown kind.", "tls-other:00", KIND),
     ("The name of a kind in capital letters.", "TLS-EXPORTER:00", KIND),

@@ -15,6 +15,7 @@ from typing import NamedTuple, Optional
 sys.dont_write_bytecode = True
 from channel_rows import CLIENT_NONCE, FILE, HASHES, SERVER_NONCE, b64, line, plain, row
 from name_rows import SECRET
+from rejections import MARK
 
 FILE = FILE.with_name("forms.txt")
 SHA_1, SHA_256, SHA_512 = HASHES
@@ -239,7 +240,7 @@ def misplaced(title, options, is_rejected):
     if is_rejected:
         ended = [
             "> " + line("e=other-error"),
-            "! scram: The client's message is rejected: Attribute in the place of an extension.",
+            MARK + "SCRAM: Attribute in the place of an extension",
             "= 3",
         ]
     else:

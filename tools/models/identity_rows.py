@@ -7,11 +7,12 @@
 Nothing of this repository is used: proofs, signatures and frames are those of `channel_rows.py`. The sentences are written
 by hand.
 """
+import re
 import sys
 
 sys.dont_write_bytecode = True
 from channel_rows import AUTH, CLIENT_NONCE, COUNT, DONE, FILE, KINDS, LOGGED_IN, MISPLACED, NO_HEADER, REFUSED, SALT
-from channel_rows import SHA_256, USER, Login, b64, challenge, channel, client, client_frames, closed, init, line
+from channel_rows import SHA_256, USER, Login, b64, challenge, channel, client, client_frames, init, line
 from channel_rows import message_rejected, offer, ok, plain, response, row, server, server_frames, server_refuses
 
 FILE = FILE.with_name("identities.txt")
@@ -31,7 +32,7 @@ HEAD = """# Runs of `scram client`, `scram server` and `scram explain` with an i
 # Source: written by `tools/models/identity_rows.py`, whose proofs and signatures are of Python's `hashlib` and `hmac`;
 # sentences written by hand."""
 
-NOT_ALLOWED = server_refuses("Authentication failed")
+NOT_ALLOWED = server_refuses("No right to act for this identity")
 WRONG_PROOF = "e=invalid-proof"
 PLUS = SHA_256 + "-PLUS"
 
@@ -184,8 +185,39 @@ def refused(name, options, login):
             options,
             [init(login.plus, first), response(last)],
             [offer(login.plus), challenge(challenged), AUTH],
-            *closed("The login was rejected"),
+            *NOT_ALLOWED,
         ),
+    ]
+
+
+def beside_rights(run, *lines):
+    """The run beside a file of rights with these lines, which stays as it is."""
+    before, record, after = re.split(r"(?m)(^- .*\n)", run, maxsplit=1)
+    given, kept = ("".join(f"{mark} {it}\n" for it in lines) for mark in "-+")
+    return f"{before}{record}f users.txt.rights\n{given}{after}F users.txt.rights 644\n{kept}"
+
+
+def rights_of_a_file(bob):
+    """Runs of a server with a file of rights."""
+    first, challenged, last, signed = bob.texts()
+    wrong = "is not USER IDENTITY, both escaped as in a file of records. A user has no space and no colon."
+    by_both = server(
+        "A right of the file beside one of an argument.",
+        "--may-act alice:carol",
+        [first, last],
+        [challenged, signed],
+        *logged_in("bob"),
+    )
+    rejected = [
+        server(name, "--accept-authzid", [first, last], [], f"! scram: users.txt.rights: Line {line} {wrong}", "= 4")
+        for name, line in (("A line that is no right.", 2), ("A user with a colon.", 1))
+    ]
+    by_file = allowed("A user who may act for another by the file of rights.", "--accept-authzid", bob, "bob")
+    return [
+        *(beside_rights(it, "carol bob", "alice bob") for it in by_file),
+        beside_rights(by_both, "alice bob"),
+        beside_rights(rejected[0], "alice bob", "alice"),
+        beside_rights(rejected[1], "a:b bob"),
     ]
 
 
@@ -196,6 +228,7 @@ def servers():
     rows = [
         *allowed("A user who may act for another.", "--may-act alice:bob", bob, "bob"),
         *allowed("Both options.", "--accept-authzid --may-act alice:bob", bob, "bob"),
+        *rights_of_a_file(bob),
         *allowed("The second of two rights.", "--may-act alice:carol --may-act alice:bob", bob, "bob"),
         *allowed("Its own name.", "--accept-authzid", own, USER),
         *allowed("Its own name, beside a right of another user.", "--may-act bob:carol", own, USER),
@@ -225,7 +258,7 @@ def servers():
             "--may-act alice:bob",
             [bob.client_first, with_wrong_proof(bob)],
             [bob.server_first, WRONG_PROOF],
-            *NOT_ALLOWED,
+            *server_refuses("Wrong password"),
         )
     )
     rows.append(server("A server that accepts no identity.", "", [bob.client_first], ["e=other-error"], *NO_HEADER))
@@ -235,7 +268,7 @@ def servers():
             "",
             [init(SHA_256, bob.client_first)],
             [offer(SHA_256), AUTH],
-            *closed("The login was rejected"),
+            *NO_HEADER,
         )
     )
     rows.append(
@@ -248,8 +281,7 @@ def servers():
             "--may-act carol:bob",
             [unknown.client_first],
             ["e=unknown-user"],
-            "! scram: The user is unknown.",
-            "= 3",
+            *server_refuses("Unknown user"),
         )
     )
     for name, header in (("no identity", b"n,,"), ("another identity", b"n,a=carol,")):
@@ -260,7 +292,7 @@ def servers():
                 "--may-act alice:bob",
                 [moved.client_first, moved.client_final],
                 [moved.server_first, "e=channel-bindings-dont-match"],
-                *server_refuses("Invalid channel binding"),
+                *server_refuses("Channel binding"),
             )
         )
     strict = plain("n,,", client_more=",i=1")
@@ -270,7 +302,7 @@ def servers():
             "--accept-authzid",
             [strict.client_first],
             ["e=other-error"],
-            *server_refuses(MISPLACED),
+            *server_refuses("SCRAM: " + MISPLACED),
         )
     )
     return rows

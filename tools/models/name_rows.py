@@ -9,14 +9,14 @@ mock salts are of Python's `hashlib` and `hmac`, and the frames are those of `ch
 hand.
 """
 import hmac
-import re
 import stringprep
 import sys
 import unicodedata
 
 sys.dont_write_bytecode = True
 from channel_rows import AUTH, CLIENT_NONCE, COUNT, FILE, HEADER, SALT, SERVER_NONCE, SHA_256
-from channel_rows import Keys, b64, challenge, closed, init, line, offer, ok, response, row
+from channel_rows import Keys, b64, challenge, init, line, offer, ok, response, row
+from rejections import MARK, shown
 
 FILE = FILE.with_name("names.txt")
 SECRET = b"0123456789abcdef0123456789abcde\n"
@@ -72,14 +72,6 @@ def prepared(name):
 
 def escaped(name):
     return name.replace("=", "=3D").replace(",", "=2C")
-
-
-def shown(name):
-    """A name as the program prints it: a word that a shell takes back."""
-    data = name.encode()
-    if re.fullmatch(rb"[A-Za-z0-9@._-]+", data):
-        return name
-    return "$'" + "".join(chr(b) if 32 <= b <= 126 and b not in b"'\\" else f"\\{b:03o}" for b in data) + "'"
 
 
 def logged_in(name):
@@ -143,13 +135,10 @@ class Server:
             return self.run(
                 title,
                 ["< " + line(login.first)],
-                ["> " + line("e=unknown-user"), "! scram: The user is unknown.", "= 3"],
+                ["> " + line("e=unknown-user"), MARK + "Unknown user", "= 3"],
             )
         if known is None:
-            answer, ended = "e=invalid-proof", [
-                "! scram: The client's message is rejected: Authentication failed.",
-                "= 3",
-            ]
+            answer, ended = "e=invalid-proof", [MARK + "Unknown user", "= 3"]
         else:
             answer, ended = login.signed, logged_in(known)
         return self.run(
@@ -164,11 +153,11 @@ class Server:
         received = HEADER + init(SHA_256, login.first)
         sent = HEADER + offer(SHA_256)
         if known is None and "--tell-unknown-users" in self.options:
-            sent, ended = sent + AUTH, closed("The login was rejected")
+            sent, ended = sent + AUTH, [MARK + "Unknown user", "= 3"]
         else:
             received += response(login.last)
             sent += challenge(login.challenge) + (AUTH if known is None else ok(login.signed))
-            ended = closed("The login was rejected") if known is None else logged_in(known)
+            ended = [MARK + "Unknown user", "= 3"] if known is None else logged_in(known)
         return self.run(title, ["x " + received.hex()], ["X " + sent.hex(), *ended], " --frames")
 
 

@@ -1,5 +1,5 @@
 -- What the file of the secret of mock authentication has to be: the project's own (docs/SECURITY.md).
-use Rattle.std.specs.Prelude.{◌≡◌, ◌≢◌, ◌%◌, ℕ}
+use Rattle.std.specs.Prelude.{◌≡◌, ◌≢◌, ◌%◌, ℕ, List, Option, IfSome, length}
 use Rattle.std.specs.Fs.{IsFile, file_type, metadata_mode}
 use Rattle.std.specs.declared.fs.attrs.Metadata.{Metadata}
 use Rattle.mock_secret.specs.declared.SecretError.{SecretError}
@@ -19,3 +19,11 @@ IsFirstFault metadata len errors.NotRegular = ¬ IsFile (file_type metadata)
 IsFirstFault metadata len errors.NotPrivate = IsFile (file_type metadata) × ¬ IsPrivate metadata
 IsFirstFault metadata len errors.WrongLength = IsFile (file_type metadata) × IsPrivate metadata × (len ≢ 32)
 IsFirstFault metadata len other = ⊥
+
+-- a secret is all that a file holds, if the file says what it holds (std's `remaining`): 32 bytes
+abbrev pub IsAllOf : Option (List ℕ) → List ℕ → Type 0
+IsAllOf held secret = (length secret ≡ 32) × IfSome held (λ bytes. secret ≡ bytes)
+
+-- a secret was read from some open file
+abbrev pub IsRead : {F : Type 0} → (F → Option (List ℕ)) → List ℕ → Type 0
+IsRead {F} remaining secret = (file : F) × IsAllOf (remaining file) secret

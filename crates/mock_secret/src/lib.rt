@@ -5,7 +5,7 @@
 
 ghost use Rattle.std.specs.Prelude.{◌≡◌, ◌++◌, IfOk, MatchResult, codes, length, string_bytes};
 ghost use Rattle.std.specs.Fs.{permissions_mode};
-ghost use Rattle.mock_secret.specs.Secrets.{HoldsSecret, IsFirstFault};
+ghost use Rattle.mock_secret.specs.Secrets.{HoldsSecret, IsAllOf, IsFirstFault, IsRead};
 
 use std::alloc::{AllocError, Global};
 use std::fs;
@@ -92,7 +92,7 @@ pub fn secret_of<R: Files + RandomSource + AllocGlobal>(
     rt: &R,
     records: &str,
 ) -> Result<Vec<u8>, SecretError>
-    ensures { IfOk result (λ secret. length secret.items ≡ 32) }
+    ensures { IfOk result (λ secret. IsRead R.File.remaining secret.items) }
 {
     let file = file_of(rt.alloc(), records)?;
     match read(rt, &file) {
@@ -106,7 +106,7 @@ pub fn secret_of<R: Files + RandomSource + AllocGlobal>(
 
 /// Reads the secret of a file.
 fn read<R: Files + AllocGlobal>(rt: &R, file: &str) -> Result<Vec<u8>, SecretError>
-    ensures { IfOk result (λ secret. length secret.items ≡ 32) }
+    ensures { IfOk result (λ secret. IsRead R.File.remaining secret.items) }
 {
     // This test is first because opening a pipe would wait for its other end.
     let metadata = fs::metadata(rt, file).map_err(SecretError::of_reading)?;
@@ -118,13 +118,12 @@ fn read<R: Files + AllocGlobal>(rt: &R, file: &str) -> Result<Vec<u8>, SecretErr
 }
 
 /// Reads the secret of an open file.
-fn read_open<F: Read + OpenFile>(alloc: Global, open: &mut F) -> Result<Vec<u8>, SecretError>
-    ensures { IfOk result (λ secret. length secret.items ≡ 32) }
+fn read_open<F: Read + OpenFile>(alloc: Global, file: &mut F) -> Result<Vec<u8>, SecretError>
+    ensures { IfOk result (λ secret. IsAllOf (F.remaining file.old) secret.items) }
 {
-    let metadata = open.metadata().map_err(SecretError::of_reading)?;
+    let metadata = file.metadata().map_err(SecretError::of_reading)?;
     let mut secret = Vec::new(alloc);
-    open.by_ref()
-        .take(LEN as u64 + 1)
+    file.take(LEN as u64 + 1)
         .read_to_end(&mut secret)
         .map_err(SecretError::of_reading)?;
     tested(&metadata, secret)

@@ -7,18 +7,20 @@ ghost use Rattle.sasl_lab_lib.specs.private.Audit.{FindsAll, FindsWhole, verifie
 
 mod answers;
 mod half;
+mod lines;
 mod sentences;
 
 use crate::sides::answers::print_answers;
 use crate::sides::half::{Given, Half};
+use crate::sides::lines::Line;
 use crate::sides::sentences::sentence_of;
 use fe2o3_sasl::audit::{AuditError, Finding, FindingKind, Verdict, audit_limited};
 use fe2o3_sasl::{scram_client_run_limited, scram_server_run};
-use fe2o3_scram::{MultiRecordStore, RecordStore, ScramCredentialProvider, ScramVersion, saslprep};
-use scram_base_lib::audited::Audited;
-use scram_base_lib::explain::body_of;
+use fe2o3_scram::{MultiRecordStore, RecordStore, ScramCredentialProvider, ScramVersion};
+use saslprep::Unassigned;
+use scram_base_lib::input;
+use scram_base_lib::lines::users;
 use scram_base_lib::stop::Stop;
-use scram_base_lib::{input, lines};
 use std::alloc::Global;
 use std::io::{BufRead, Result as Written, Write};
 use std::rt::Files;
@@ -40,24 +42,21 @@ struct Login<'a> {
     credentials: &'a RecordStore,
 }
 
-/// Prints what each body says, up to the first that is rejected, and then an audit of both sides.
-pub fn audit<R, I, O>(
+/// Prints what each body says, up to the first that is rejected, and then an audit of both sides against a file of users,
+/// for a client that accepts this many iterations.
+pub fn audit<R: Files + AllocGlobal, I: BufRead, O: Write>(
     rt: &R,
-    asked: &Audited<'_>,
+    file: &str,
+    max_iterations: u32,
     input: &mut I,
     output: &mut O,
-) -> Result<(), Stop>
-where
-    R: Files + AllocGlobal,
-    I: BufRead,
-    O: Write,
-{
+) -> Result<(), Stop> {
     let alloc = rt.alloc();
-    let password = input::password(alloc, input)?;
-    if saslprep(password.as_str()).is_err() {
-        return Err(Stop::WrongPassword);
+    let password = input::password(alloc, input, Unassigned::Allowed)?;
+    if !password.as_str().is_ascii() {
+        return Err(Stop::NotAscii);
     }
-    let users = lines::users(rt, asked.file)?;
+    let users = users(rt, file)?;
     let mut sides = Sides {
         client: Half::new(alloc, true),
         server: Half::new(alloc, false),
@@ -66,7 +65,7 @@ where
         alloc,
         password.as_str(),
         &users,
-        asked.max_iterations,
+        max_iterations,
         input,
         output,
     )
@@ -88,41 +87,94 @@ impl Sides {
         self.audit(alloc, &login, output)
     }
 
-    /// Reads the lines after the password, each with a side and a body, and prints what they say.
+    /// Reads the lines after the password, each with a side and a body, and prints what they say. Without a body that its
+    /// side sent, each side is taken to have sent what the other one received.
     fn read<I: BufRead, O: Write>(
         &mut self,
         alloc: Global,
         input: &mut I,
         output: &mut O,
     ) -> Result<(), Stop> {
-        for number in 2..u64::MAX {
-            let Some(line) = input::next_line(alloc, input)? else {
-                break;
+        let mut lines = Vec::new(alloc);
+        let read = lines::read(alloc, input, &mut lines);
+        if lines.iter().any(|line| line.is_sent()) {
+            self.take(alloc, &lines, output)?;
+        } else {
+            self.take_in_turn(alloc, &lines, output)?;
+        }
+        read
+    }
+
+    /// Takes the bodies in their order, those that were received and those that were sent.
+    fn take<O: Write>(
+        &mut self,
+        alloc: Global,
+        lines: &[Line],
+        output: &mut O,
+    ) -> Result<(), Stop> {
+        for line in lines {
+            let body = line.body.clone()?;
+            let taken = if line.is_client {
+                self.client.take(alloc, line.number, body, output)
+            } else {
+                self.server.take(alloc, line.number, body, output)
             };
-            let taken = self.take(alloc, number, &line, output);
-            taken.map_err(|stop| stop.at_line(number))?;
+            taken.map_err(|stop| stop.at_line(line.number))?;
         }
         Ok(())
     }
 
-    /// Reads a line, and prints what its body says.
-    fn take<O: Write>(
+    /// Takes bodies that were received, in the order of a login: one of each side in turn, from the list of mechanisms or
+    /// the init on. Without a list the client is taken to have received one with the mechanism of the first init.
+    fn take_in_turn<O: Write>(
         &mut self,
         alloc: Global,
-        number: u64,
-        line: &str,
+        lines: &[Line],
         output: &mut O,
     ) -> Result<(), Stop> {
-        match line.split_once(' ') {
-            Some(("client", digits)) => {
-                let body = body_of(alloc, digits)?;
-                self.client.take(alloc, number, body, output)
+        let begins = lines.iter().any(|line| line.is_offer());
+        if !begins {
+            self.offer(alloc, lines)?;
+        }
+        let (mut first, mut second) = (Vec::new(alloc), Vec::new(alloc));
+        for line in lines {
+            if line.is_client == begins {
+                first.push(line)?;
+            } else {
+                second.push(line)?;
             }
-            Some(("server", digits)) => {
-                let body = body_of(alloc, digits)?;
-                self.server.take(alloc, number, body, output)
+        }
+        for turn in 0..first.len().max(second.len()) {
+            self.pass(alloc, first.get(turn), output)?;
+            self.pass(alloc, second.get(turn), output)?;
+        }
+        Ok(())
+    }
+
+    /// Passes to the client a list with the mechanism of the first init. Nothing is printed of it.
+    fn offer(&mut self, alloc: Global, lines: &[Line]) -> Result<(), Stop> {
+        for line in lines {
+            if let Some(body) = line.offer(alloc)? {
+                let mut unseen = Vec::new(alloc);
+                return self.client.take(alloc, line.number, body, &mut unseen);
             }
-            _ => Err(Stop::NoSide),
+        }
+        Ok(())
+    }
+
+    /// Passes a body, if there is one, to both sides.
+    fn pass<O: Write>(
+        &mut self,
+        alloc: Global,
+        line: Option<&&Line>,
+        output: &mut O,
+    ) -> Result<(), Stop> {
+        match line {
+            Some(line) if line.is_client => {
+                line.pass(alloc, &mut self.client, &mut self.server, output)
+            }
+            Some(line) => line.pass(alloc, &mut self.server, &mut self.client, output),
+            None => Ok(()),
         }
     }
 

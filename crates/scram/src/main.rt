@@ -1,41 +1,33 @@
-//! The program `scram`: `scram_lib` and the audit of `sasl_lab_lib` over the process's arguments and streams.
+//! The program `scram`: `scram_lib` over the process's arguments and streams.
 #![tactic(auto)]
 
 mod database;
 
-use crate::database::SqliteFile;
-use sasl_lab_lib::sides::audit;
+use crate::database::Supplied;
 use scram_base_lib::stop::Stop;
+use scram_lib::task::Process;
+use std::cell::Cell;
 use std::io::{BufReader, IsTerminal};
 use std::process::ExitCode;
-use std::rt::Env;
 use std::{env, io};
-
-/// Returns the program's arguments, with its own name first.
-fn words<R: Env + AllocGlobal>(rt: &R) -> Result<Vec<String>, Stop> {
-    let mut words = Vec::new(rt.alloc());
-    for word in env::args(rt).map_err(Stop::of_input)? {
-        words.push(word)?;
-    }
-    Ok(words)
-}
 
 /// Runs the program.
 fn run(rt: &HostRuntime) -> Result<u8, Stop> {
-    let words = words(rt)?;
-    let mut input = BufReader::new(rt.alloc(), rt.reader()).map_err(Stop::of_input)?;
-    let (mut output, mut errors) = (io::writer(rt), rt.stderr());
-    let is_terminal = rt.stdin().is_terminal();
-    Ok(scram_lib::run(
+    let words: Vec<String> = env::args(rt).map_err(Stop::of_words)?.collect(rt.alloc())?;
+    let supplied = Supplied {
+        has_wrong_rows: Cell::new(false),
+    };
+    let mut process = Process {
         rt,
-        &words,
-        is_terminal,
-        &mut input,
-        &mut output,
-        &mut errors,
-        audit,
-        &SqliteFile,
-    ))
+        backend: &supplied,
+        is_terminal: rt.stdin().is_terminal(),
+        input: BufReader::new(rt.alloc(), rt.reader()).map_err(Stop::of_input)?,
+        output: io::writer(rt),
+        errors: rt.stderr(),
+    };
+    let status = scram_lib::run(&words, &mut process);
+    let wrong = supplied.has_wrong_rows.get() && status == 0;
+    Ok(if wrong { 4 } else { status })
 }
 
 fn main(rt: HostRuntime) -> ExitCode {

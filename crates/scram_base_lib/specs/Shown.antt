@@ -3,10 +3,10 @@
 use Rattle.std.specs.Prelude.{ℕ, ◌+◌, ◌/◌, ◌%◌, ◌==◌, ◌&&◌, ◌||◌, not, nat_le, Bool, if◌then◌else◌, List, [], ◌∷◌, ◌++◌, codes, flat_map}
 use Rattle.std.specs.List.{list_all}
 
--- a byte that a shell takes as it is: a letter or digit of ASCII, or one of `-.@_`
+-- a byte that a shell takes as it is: a letter or digit of ASCII, or one of `-./@_`
 abbrev pub is_bare : ℕ → Bool
 is_bare byte = (nat_le 48 byte && nat_le byte 57) || (nat_le 65 byte && nat_le byte 90)
-    || (nat_le 97 byte && nat_le byte 122) || byte == 45 || byte == 46 || byte == 64 || byte == 95
+    || (nat_le 97 byte && nat_le byte 122) || (nat_le 45 byte && nat_le byte 47) || byte == 64 || byte == 95
 
 -- a byte between `$'` and `'`: itself if it is printable ASCII other than `'` and `\`, otherwise `\` and three octal digits
 abbrev pub quoted_byte : ℕ → List ℕ

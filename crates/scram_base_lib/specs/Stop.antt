@@ -3,14 +3,16 @@ use Rattle.std.specs.Prelude.{ℕ, List, [], Option, Some, None, codes}
 use Rattle.scram_base_lib.specs.declared.stop.Stop.{Stop}
 use Rattle.scram_base_lib.specs.declared.stop.Stop.TheVariants as stops
 
--- 1: the other side refuses, or is gone. 2: wrong words. 3: this side refuses the other, or an audit finds no whole
--- login. 4: an input that cannot be read or audited, or a file, memory, random bytes or an output that fails
+-- 1: the other side rejects the login or closes. 2: wrong arguments. 3: this side rejects the login, or an audit finds no
+-- complete login. 4: an input that cannot be read or audited, or a file, memory, random bytes or an output that fails
 abbrev pub status_of : Stop → ℕ
 status_of stops.Ended = 1
 status_of stops.RefusedByServer = 1
+status_of stops.WrongWords = 2
 status_of stops.WrongSalt = 2
 status_of stops.WrongNonce = 2
 status_of stops.WrongName = 2
+status_of stops.OddName = 2
 status_of stops.Terminal = 2
 status_of (stops.NoIterations least most) = 2
 status_of stops.WrongChannelKind = 2
@@ -21,7 +23,7 @@ status_of stops.NoSuchRecord = 3
 status_of stops.NotAlike = 3
 status_of stops.OtherPassword = 3
 status_of (stops.Client kind) = 3
-status_of (stops.Server kind) = 3
+status_of (stops.Rejected reason) = 3
 status_of stops.UnknownUser = 3
 status_of (stops.Closed why) = 3
 status_of stops.OtherHash = 3
@@ -40,17 +42,24 @@ at_line stops.MessageRefused line = stops.MessageRefusedAt line
 at_line stop line = stop
 
 -- what follows the file's name in the name of the file at fault: `.new` where a change is under way, `.secret` where the
--- secret of mock records cannot be used, nothing where it is the file itself; no file is at fault otherwise
+-- secret of mock records cannot be used, `.rights` where the rights cannot be read, nothing where it is the file itself; no
+-- file is at fault otherwise
 abbrev pub suffix_of : Stop → Option (List ℕ)
 suffix_of stops.Busy = Some (codes ".new")
 suffix_of (stops.Secret fault) = Some (codes ".secret")
+suffix_of (stops.SecretUnreadable kind) = Some (codes ".secret")
+suffix_of (stops.SecretUnwritten kind) = Some (codes ".secret")
+suffix_of stops.UnreadableRights = Some (codes ".rights")
+suffix_of (stops.WrongRights line) = Some (codes ".rights")
 suffix_of (stops.Unreported kind) = Some []
 suffix_of stops.UnreportedClosed = Some []
 suffix_of (stops.Unreadable kind) = Some []
 suffix_of stops.NotUtf8 = Some []
 suffix_of stops.Marked = Some []
 suffix_of (stops.Line fault) = Some []
+suffix_of (stops.NoRecord line why) = Some []
 suffix_of stops.NotRegular = Some []
+suffix_of stops.HardLinks = Some []
 suffix_of stops.DanglingLink = Some []
 suffix_of (stops.Unwritten kind) = Some []
 suffix_of (stops.OwnerLost kind) = Some []

@@ -1,10 +1,10 @@
 //! The channel of an argument `KIND:HEX`, and what a client and a server do with it (RFC 5802, section 6).
 
-ghost use Rattle.std.specs.Prelude.{◌≡◌, ◌≢◌, ◌⊎◌, ◌||◌, ℕ, List, Ok, IfOk, IfErr, false, is_some, option_map};
-ghost use Rattle.hex.specs.Hex.{decode_of};
+ghost use Rattle.std.specs.Prelude.{◌≡◌, ◌||◌, IfOk, IfErr, is_some, option_map};
 ghost use Rattle.scram_base_lib.specs.Channel.{BindsOnly, RejectsChannel, SaysChannel, SpellsChannel, digits_in, name_in, only_data};
 
 use crate::stop::Stop;
+use crate::wire::hex_bytes;
 use fe2o3_scram::{
     ChannelBinding, ChannelBindings, ChannelData, ChannelKind, ClientChannel, ServerRules,
 };
@@ -21,7 +21,7 @@ pub fn parse_channel(alloc: Global, word: &str) -> Result<ChannelBinding, Stop>
     let Some(kind) = ChannelKind::from_name(name) else {
         return Err(Stop::WrongChannelKind);
     };
-    let bytes = bytes_of(alloc, digits)?;
+    let bytes = hex_bytes(alloc, digits, Stop::WrongChannelData)?;
     match ChannelData::new(&bytes) {
         Ok(cbind_data) => Ok(ChannelBinding { kind, cbind_data }),
         Err(_) => Err(Stop::WrongChannelLength),
@@ -29,26 +29,13 @@ pub fn parse_channel(alloc: Global, word: &str) -> Result<ChannelBinding, Stop>
 }
 
 /// Splits a word at its first colon. Without a colon the second part is empty.
-fn parts_of(word: &str) -> (&str, &str)
+pub fn parts_of(word: &str) -> (&str, &str)
     ensures name { result.0.now ≡ name_in word.now }
     ensures digits { result.1.now ≡ digits_in word.now }
 {
     match word.split_once(':') {
         Some(parts) => parts,
         None => (word, ""),
-    }
-}
-
-/// Decodes the data of a channel.
-fn bytes_of(alloc: Global, digits: &str) -> Result<Vec<u8>, Stop>
-    ensures ok { IfOk result (λ bytes. decode_of digits.now ≡ Ok bytes.items) }
-    ensures err { IfErr result (λ stop. (stop ≡ Stop.OutOfMemory) ⊎ ((stop ≡ Stop.WrongChannelData)
-        × ((bytes : List ℕ) → decode_of digits.now ≢ Ok bytes))) }
-{
-    match hex::decode(alloc, digits) {
-        Ok(bytes) => Ok(bytes),
-        Err(hex::FromHexError::OutOfMemory) => Err(Stop::OutOfMemory),
-        Err(_) => Err(Stop::WrongChannelData),
     }
 }
 
@@ -107,22 +94,14 @@ fn channels(alloc: Global, word: Option<&str>) -> Result<Option<ChannelBindings>
 fn only(binding: ChannelBinding) -> ChannelBindings
     ensures { result ≡ only_data binding.kind binding.cbind_data }
 {
-    let known = Some(binding.cbind_data);
-    match binding.kind {
-        ChannelKind::TlsUnique => ChannelBindings {
-            tls_unique: known,
-            tls_server_end_point: None,
-            tls_exporter: None,
-        },
-        ChannelKind::TlsServerEndPoint => ChannelBindings {
-            tls_unique: None,
-            tls_server_end_point: known,
-            tls_exporter: None,
-        },
-        ChannelKind::TlsExporter => ChannelBindings {
-            tls_unique: None,
-            tls_server_end_point: None,
-            tls_exporter: known,
-        },
+    let (tls_unique, tls_server_end_point, tls_exporter) = match binding.kind {
+        ChannelKind::TlsUnique => (Some(binding.cbind_data), None, None),
+        ChannelKind::TlsServerEndPoint => (None, Some(binding.cbind_data), None),
+        ChannelKind::TlsExporter => (None, None, Some(binding.cbind_data)),
+    };
+    ChannelBindings {
+        tls_unique,
+        tls_server_end_point,
+        tls_exporter,
     }
 }

@@ -9,49 +9,43 @@ use crate::explain::channels::{
 };
 use crate::stop::Stop;
 use crate::{input, wire};
-use fe2o3_sasl_wire::{Error, FrameView, SymbolsView, view_frame};
+use fe2o3_sasl_wire::{Error as FrameError, FrameView, SymbolsView, view_frame};
 use fe2o3_scram::{
     ChannelBindingFlag, ClientFirst, ScramErrorKind, ServerFinal, ServerFirst, ServerScramErrorKind,
 };
 use std::alloc::{AllocError, Global};
 use std::io::{BufRead, Write};
+use thiserror::Error;
 
 /// What the messages so far contain.
 #[derive(Drop)]
 pub struct Heard {
     /// The side, which is printed before each message, or nothing.
     side: &'static str,
-
     /// Whether the GS2 header may be that of any channel, and not only `n,,`.
     any_header: bool,
-
     /// The GS2 header of the client-first message.
     header: ChannelBindingFlag,
-
     /// The identity that the client-first message names, not escaped, if any.
     acts_for: Option<String>,
-
     /// The user of the client-first message, not escaped.
     pub user: String,
-
     /// The nonce of the client-first message.
     pub client_nonce: String,
-
     /// The nonce of the server-first message.
     pub nonce: String,
 }
 
 /// Why a message is rejected.
-#[derive(Clone, Copy)]
+#[derive(Clone, Copy, Debug, Error)]
 enum Refusal {
-    /// A client's error.
-    Client(ScramErrorKind),
-
-    /// A server's error.
-    Server(ServerScramErrorKind),
-
+    #[error("{0}")]
+    Client(#[from] ScramErrorKind),
+    #[error("{0}")]
+    Server(#[from] ServerScramErrorKind),
     /// The body is not a frame.
-    Frame(Error),
+    #[error("{0}")]
+    Frame(FrameError),
 }
 
 /// What a message says, or why it is rejected.
@@ -65,11 +59,20 @@ pub fn explain<I: BufRead, O: Write>(
     input: &mut I,
     output: &mut O,
 ) -> Result<(), Stop> {
-    let mut heard = Heard::of_any_header(alloc);
-    if frames {
-        return heard.bodies(alloc, input, output);
+    let mut heard = Heard::new(alloc, "");
+    heard.any_header = true;
+    for place in 0..usize::MAX {
+        let Some(line) = input::next_line(alloc, input)? else {
+            break;
+        };
+        let told = if frames {
+            heard.body_in(alloc, &line, output)
+        } else {
+            heard.text(alloc, place, &line, output)
+        };
+        told.map_err(|stop| stop.at_line((place as u64).saturating_add(1)))?;
     }
-    heard.texts(alloc, input, output)
+    Ok(())
 }
 
 /// The messages of an exchange (RFC 5802, section 7).
@@ -80,15 +83,6 @@ static NAMES: [&str; 4] = [
     "server-final",
 ];
 
-/// Prints why a message is rejected.
-fn refuse<O: Write>(name: &str, refusal: Refusal, output: &mut O) -> std::io::Result<()> {
-    match refusal {
-        Refusal::Client(kind) => writeln!(output, "{name}: rejected: {kind}"),
-        Refusal::Server(kind) => writeln!(output, "{name}: rejected: {kind}"),
-        Refusal::Frame(fault) => writeln!(output, "{name}: rejected: {fault}"),
-    }
-}
-
 impl Refusal {
     /// Returns why the program stops.
     fn stop(self) -> Stop {
@@ -97,18 +91,6 @@ impl Refusal {
             | Refusal::Server(ServerScramErrorKind::OutOfMemory) => Stop::OutOfMemory,
             Refusal::Client(_) | Refusal::Server(_) | Refusal::Frame(_) => Stop::MessageRefused,
         }
-    }
-}
-
-impl From<ScramErrorKind> for Refusal {
-    fn from(kind: ScramErrorKind) -> Refusal {
-        Refusal::Client(kind)
-    }
-}
-
-impl From<ServerScramErrorKind> for Refusal {
-    fn from(kind: ServerScramErrorKind) -> Refusal {
-        Refusal::Server(kind)
     }
 }
 
@@ -133,13 +115,6 @@ impl Heard {
         }
     }
 
-    /// Returns an empty value, for logins with channel binding too. Nothing is printed before a message.
-    fn of_any_header(alloc: Global) -> Heard {
-        let mut heard = Heard::new(alloc, "");
-        heard.any_header = true;
-        heard
-    }
-
     /// Returns the server's part of the nonce, which follows the client's (RFC 5802, section 5.1, `r`).
     pub fn server_nonce(&self) -> Option<&str> {
         let (nonce, client_nonce) = (self.nonce.as_str(), self.client_nonce.as_str());
@@ -152,67 +127,31 @@ impl Heard {
         match told {
             Ok(said) => writeln!(output, "{name}: {said}").map_err(Stop::of_output),
             Err(refusal) => {
-                refuse(name, refusal, output).map_err(Stop::of_output)?;
+                writeln!(output, "{name}: rejected: {refusal}").map_err(Stop::of_output)?;
                 Err(refusal.stop())
             }
         }
     }
 
-    /// Prints what each message says.
-    fn texts<I: BufRead, O: Write>(
-        &mut self,
-        alloc: Global,
-        input: &mut I,
-        output: &mut O,
-    ) -> Result<(), Stop> {
-        for place in 0..4 {
-            let Some(line) = input::next_line(alloc, input)? else {
-                return Ok(());
-            };
-            let told = self.text(alloc, place, &line, output);
-            told.map_err(|stop| stop.at_line(place as u64 + 1))?;
-        }
-        match input::next_line(alloc, input)? {
-            Some(_) => Err(Stop::ExtraLine),
-            None => Ok(()),
-        }
-    }
-
-    /// Prints what the message at a place says. The line has it in base64.
+    /// Prints what the message at a place says. A fifth is the error `ExtraLine`. The line has it in base64.
     fn text<O: Write>(
         &mut self,
         alloc: Global,
         place: usize,
         line: &str,
         output: &mut O,
-    ) -> Result<(), Stop>
-        requires { place < 4 }
-    {
+    ) -> Result<(), Stop> {
+        if place >= 4 {
+            return Err(Stop::ExtraLine);
+        }
         let message = wire::bytes_of(alloc, line)?;
         let told = self.tell(alloc, place, &message);
         self.print(NAMES[place], told, output)
     }
 
-    /// Prints what each frame body says, and the message in it.
-    fn bodies<I: BufRead, O: Write>(
-        &mut self,
-        alloc: Global,
-        input: &mut I,
-        output: &mut O,
-    ) -> Result<(), Stop> {
-        for number in 1..u64::MAX {
-            let Some(line) = input::next_line(alloc, input)? else {
-                break;
-            };
-            let told = self.body_in(alloc, &line, output);
-            told.map_err(|stop| stop.at_line(number))?;
-        }
-        Ok(())
-    }
-
     /// Prints what a frame body says, and the message in it. The line has it in hexadecimal.
     fn body_in<O: Write>(&mut self, alloc: Global, line: &str, output: &mut O) -> Result<(), Stop> {
-        let body = body_of(alloc, line)?;
+        let body = wire::hex_bytes(alloc, line, Stop::NotHex)?;
         self.body(alloc, &body, output)
     }
 
@@ -254,7 +193,10 @@ impl Heard {
         );
         let first = ClientFirst::parse_with_rules(alloc, message, rules)?;
         self.header = first.header;
-        self.acts_for = copied(alloc, first.acts_for.as_deref())?;
+        self.acts_for = match first.acts_for.as_deref() {
+            Some(name) => Some(name.to_string(alloc)?),
+            None => None,
+        };
         self.user = first.username.as_str().to_string(alloc)?;
         self.client_nonce = first.client_nonce.to_string(alloc)?;
         let (user, nonce) = (first.username.as_str(), first.client_nonce);
@@ -281,23 +223,6 @@ impl Heard {
         let channel = channel_said(alloc, &channel, acts_for)?;
         let proof = hex::encode(alloc, last.proof.as_slice())?;
         Ok(format!(in alloc; "{channel}proof {proof}, same nonce")?)
-    }
-}
-
-/// Copies a text, if there is one.
-fn copied(alloc: Global, text: Option<&str>) -> Result<Option<String>, AllocError> {
-    match text {
-        Some(text) => Ok(Some(text.to_string(alloc)?)),
-        None => Ok(None),
-    }
-}
-
-/// Decodes a line in hexadecimal.
-pub fn body_of(alloc: Global, line: &str) -> Result<Vec<u8>, Stop> {
-    match hex::decode(alloc, line) {
-        Ok(body) => Ok(body),
-        Err(hex::FromHexError::OutOfMemory) => Err(Stop::OutOfMemory),
-        Err(_) => Err(Stop::NotHex),
     }
 }
 
@@ -337,14 +262,10 @@ fn told_of(alloc: Global, view: &FrameView<'_>) -> Told {
         FrameView::Mechanisms(names) => names_of(alloc, names),
         FrameView::Init {
             mechanism,
-            hostname,
+            hostname: Some(hostname),
             ..
-        } => match hostname {
-            Some(hostname) => {
-                Ok(format!(in alloc; "mechanism {mechanism}, hostname {hostname:?}")?)
-            }
-            None => Ok(format!(in alloc; "mechanism {mechanism}")?),
-        },
+        } => Ok(format!(in alloc; "mechanism {mechanism}, hostname {hostname:?}")?),
+        FrameView::Init { mechanism, .. } => Ok(format!(in alloc; "mechanism {mechanism}")?),
         FrameView::Challenge(text) | FrameView::Response(text) => {
             let len = text.len();
             Ok(format!(in alloc; "{len} bytes")?)
@@ -370,9 +291,7 @@ fn server_final(alloc: Global, message: &[u8]) -> Told {
         let error = error.as_str();
         return Ok(format!(in alloc; "error {error:?}")?);
     }
-    let signature = hex::encode(
-        alloc,
-        ServerFinal::parse(alloc, message)?.signature.as_slice(),
-    )?;
+    let last = ServerFinal::parse(alloc, message)?;
+    let signature = hex::encode(alloc, last.signature.as_slice())?;
     Ok(format!(in alloc; "signature {signature}")?)
 }

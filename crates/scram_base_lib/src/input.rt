@@ -1,7 +1,11 @@
-//! Lines of the input.
+//! Lines of the input, of which the first has the password.
+
+ghost use Rattle.std.specs.Prelude.{◌≡◌, IfOk, None, chars, encode_utf8_all};
+ghost use Rattle.saslprep.specs.Saslprep.{prepared, refusal};
 
 use crate::stop::Stop;
 use fe2o3_scram::secrets::SecretText;
+use saslprep::{SaslprepError, Unassigned, saslprep};
 use std::alloc::Global;
 use std::io::{BufRead, Read};
 
@@ -29,15 +33,35 @@ pub fn next_line<I: BufRead>(alloc: Global, input: &mut I) -> Result<Option<Stri
     }
     match String::from_utf8(line) {
         Ok(line) => Ok(Some(line)),
-        Err(_) => Err(Stop::Input(std::io::ErrorKind::InvalidData)),
+        Err(_) => Err(Stop::NotText),
     }
 }
 
-/// Reads the password, which is the first line of the input. An empty line is the error `NoPassword`. The bytes of the
-/// returned text are overwritten before its memory is freed. Those in the buffer of the input are not.
-pub fn password<I: BufRead>(alloc: Global, input: &mut I) -> Result<SecretText, Stop> {
-    match next_line(alloc, input)? {
-        Some(line) if !line.is_empty() => Ok(SecretText::new(line)),
+/// Reads the password, which is the first line of the input, and prepares it. An empty line is the error `NoPassword`. The
+/// bytes of the line and of the returned text are overwritten before their memory is freed. Those in the buffer of the
+/// input are not, nor what SASLprep makes of a password that is not ASCII.
+pub fn password<I: BufRead>(
+    alloc: Global,
+    input: &mut I,
+    unassigned: Unassigned,
+) -> Result<SecretText, Stop> {
+    match next_line(alloc, input)?.map(SecretText::new) {
+        Some(line) if !line.as_str().is_empty() => prepared(alloc, line.as_str(), unassigned),
         _ => Err(Stop::NoPassword),
+    }
+}
+
+/// Prepares a password by SASLprep (RFC 4013; RFC 5802, section 2.2): one to store, or one to compare.
+pub fn prepared(alloc: Global, typed: &str, unassigned: Unassigned) -> Result<SecretText, Stop>
+    ensures accepted { IfOk result (λ _. refusal unassigned (chars typed.now) ≡ None) }
+    ensures value { IfOk result (λ text. text ≡ encode_utf8_all (prepared (chars typed.now))) }
+{
+    if typed.ends_with('\r') {
+        return Err(Stop::CarriageReturn);
+    }
+    match saslprep(alloc, typed, unassigned) {
+        Ok(text) => Ok(SecretText::new(text.into_owned(alloc)?)),
+        Err(SaslprepError::OutOfMemory) => Err(Stop::OutOfMemory),
+        Err(_) => Err(Stop::WrongPassword),
     }
 }

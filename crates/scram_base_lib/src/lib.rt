@@ -2,10 +2,8 @@
 //! the lines of a file of users, and what the messages of a login say.
 #![tactic(auto)]
 
-pub mod audited;
+pub mod backend;
 pub mod channel;
-pub mod database;
-pub mod database_fault;
 pub mod explain;
 pub mod input;
 pub mod lines;

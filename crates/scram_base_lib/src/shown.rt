@@ -1,4 +1,4 @@
-//! Names as the program prints them.
+//! Names of users and of files as the program prints them.
 
 ghost use Rattle.std.specs.Prelude.{◌≡◌, ◌++◌, IfOk, OnOk, flat_map};
 ghost use Rattle.std.specs.List.{list_all};
@@ -31,7 +31,7 @@ fn are_bare(name: &[u8]) -> bool
 fn is_bare(byte: u8) -> bool
     ensures { result ≡ is_bare byte }
 {
-    byte.is_ascii_alphanumeric() || byte == b'-' || byte == b'.' || byte == b'@' || byte == b'_'
+    byte.is_ascii_alphanumeric() || (byte >= b'-' && byte <= b'/') || byte == b'@' || byte == b'_'
 }
 
 /// Appends each byte of a name, quoted.

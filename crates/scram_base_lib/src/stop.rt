@@ -3,8 +3,7 @@
 ghost use Rattle.std.specs.Prelude.{◌≡◌, ◌≤◌, option_map};
 ghost use Rattle.scram_base_lib.specs.Stop.{at_line, status_of, suffix_of};
 
-use crate::database_fault::DatabaseFault;
-use fe2o3_sasl_negotiation::CloseReason;
+use fe2o3_sasl_negotiation::{CloseReason, Rejection};
 use fe2o3_scram::{
     ClientSecretError, ReadLinesError, ReadLinesErrorKind, RecordError, ScramErrorKind,
     ServerScramErrorKind,
@@ -15,244 +14,189 @@ use std::io;
 use std::io::ErrorKind;
 use thiserror::Error;
 
-/// Why the program stops.
+/// Why the program stops. The text of each reason is its documentation.
 #[derive(Debug, Clone, Copy, Error)]
 pub enum Stop {
-    /// The salt is empty or not in hexadecimal.
-    #[error("The salt is empty or not in hexadecimal.")]
+    #[error("An argument is not UTF-8.")]
+    WrongWords,
+    #[error("The value of --salt is empty or not in hexadecimal.")]
     WrongSalt,
-
-    /// The name cannot be in a line.
-    #[error("The name has a line feed, so a file cannot hold it.")]
+    #[error("NAME has a line feed, so a file cannot hold it.")]
     WrongName,
-
-    /// The first line of the input has no password.
+    #[error("NAME is empty or has spaces at its ends. Give --force to add it.")]
+    OddName,
     #[error("There is no password on the first line of standard input.")]
     NoPassword,
-
-    /// The password is not printable ASCII.
-    #[error("The password is not printable ASCII.")]
+    #[error("The password has a character that SASLprep forbids, such as a tab, or mixes directions of writing.")]
     WrongPassword,
-
-    /// A line of the input is too long.
+    #[error("The password ends with a carriage return, as in a file of Windows. Remove it, for instance with tr -d '\\r'.")]
+    CarriageReturn,
+    #[error("The two passwords differ.")]
+    OtherPasswords,
     #[error("A line of standard input is longer than 65536 bytes.")]
     LongLine,
-
-    /// Standard input is a terminal, and no option asks for a password that the terminal shows.
-    #[error("Standard input is a terminal, which shows the password. Use a file or a pipe, or --echo.")]
+    #[error("A line of standard input is not UTF-8.")]
+    NotText,
+    #[error("Standard input is a terminal, which shows the password. Give --echo, or in bash: read -rs p; scram .. <<<\"$p\"")]
     Terminal,
-
-    /// Standard input is closed.
     #[error("Standard input is closed.")]
     InputClosed,
-
-    /// A read of the input failed.
-    #[error("Standard input cannot be read: {0}.")]
+    #[error("Standard input cannot be read: {}.", cause(.0))]
     Input(ErrorKind),
-
-    /// Standard output is closed.
     #[error("Standard output is closed.")]
     OutputClosed,
-
-    /// A write to the output failed.
-    #[error("Standard output cannot be written: {0}.")]
+    #[error("Standard output cannot be written: {}.", cause(.0))]
     Output(ErrorKind),
-
-    /// The system did not return random bytes.
-    #[error("The system did not return random bytes: {0}.")]
+    #[error("The system did not return random bytes: {}.", cause(.0))]
     Random(ErrorKind),
-
-    /// The file is changed, and a write to the output failed.
-    #[error("The file is changed, but standard output cannot be written: {0}.")]
+    #[error("The file is changed, but standard output cannot be written: {}.", cause(.0))]
     Unreported(ErrorKind),
-
-    /// The file is changed, and the output is closed.
     #[error("The file is changed, but standard output is closed.")]
     UnreportedClosed,
-
-    /// The file cannot be read.
-    #[error("The file cannot be read: {0}. Check its name and its mode.")]
+    #[error("The file cannot be read: {}. Check its name and its mode.", cause(.0))]
     Unreadable(ErrorKind),
-
-    /// The file is not UTF-8.
     #[error("The file cannot be read: it is not UTF-8. Save it as UTF-8.")]
     NotUtf8,
-
-    /// The file begins with a byte order mark.
     #[error("The file cannot be read: it begins with a byte order mark. Save it without one.")]
     Marked,
-
-    /// A line of the file is not valid.
     #[error("The file cannot be read. {0}. Correct or remove that line.")]
     Line(ReadLinesError),
-
-    /// The file to change is a folder, a pipe or a device.
+    #[error("The file cannot be read: line {0} {1}.")]
+    NoRecord(usize, &'static str),
     #[error("The file is not changed: it is not a regular file. Name a regular file.")]
     NotRegular,
-
-    /// The file to change is a link, and the file that it names does not exist.
+    #[error("The file is not changed: it has another name (a hard link). Make that a symbolic link, or a copy.")]
+    HardLinks,
     #[error("The file is a link to a file that does not exist. Make that file, or remove the link.")]
     DanglingLink,
-
-    /// Another program is writing the new file, or was stopped while it was writing.
-    #[error("This new file exists: a change is under way, or was stopped. Wait with --wait, or remove it if no program \
-        is changing the file.")]
+    #[error("A change is under way in this new file, or it is another's. Wait with --wait, or remove it if no change runs.")]
     Busy,
-
-    /// The new file cannot be written. The old one stays.
-    #[error("The file is not changed: the new one beside it cannot be written: {0}. Check the folder and its space.")]
+    /// The old file stays.
+    #[error("The file is not changed: the new one beside it cannot be written: {}. Check the folder and its space.", cause(.0))]
     Unwritten(ErrorKind),
-
-    /// The new file cannot have the owner and the group of the old one. The old one stays.
-    #[error("The file is not changed: its owner and group cannot be kept: {0}. Run scram as its owner or as root.")]
+    /// The old file stays.
+    #[error("The file is not changed: its owner and group cannot be kept: {}. Run scram as its owner or as root.", cause(.0))]
     OwnerLost(ErrorKind),
-
-    /// The file is changed, and its folder cannot be synced.
-    #[error("The file is changed, but its folder cannot be synced: {0}. A power failure may undo the change.")]
+    #[error("The file is changed, but its folder cannot be synced: {}. A power failure may undo the change.", cause(.0))]
     Unsynced(ErrorKind),
-
-    /// The secret for mock records cannot be read or made, or its file is not valid.
     #[error("The secret for mock records cannot be used: {0}. Correct its file, or remove it for a new secret.")]
     Secret(SecretError),
-
-    /// The database of users cannot be used.
+    #[error("The secret for mock records cannot be read: {}. Give the file to the server's user (chown).", cause(.0))]
+    SecretUnreadable(ErrorKind),
+    #[error("The secret for mock records cannot be made: {}. Run scram server once as root, then chown it.", cause(.0))]
+    SecretUnwritten(ErrorKind),
+    #[error("The rights cannot be read. Check the mode of this file, and that it is UTF-8.")]
+    UnreadableRights,
+    #[error("Line {0} is not USER IDENTITY, both escaped as in a file of records. A user has no space and no colon.")]
+    WrongRights(usize),
     #[error("The database cannot be used: {0}.")]
-    Database(DatabaseFault),
-
-    /// No record has the name.
+    Database(&'static str),
+    #[error("Standard input cannot be imported. {0}. Nothing is changed.")]
+    NotImported(ReadLinesError),
+    #[error("Line {0} of standard input has the name and the mechanism of an earlier one. Nothing is changed.")]
+    Repeated(usize),
     #[error("The file has no such record. scram users list shows its records.")]
     NoSuchRecord,
-
-    /// The records of the file differ in form, or a user has none for a mechanism that others have.
     #[error("The records do not look alike, so clients can tell which users exist. scram users passwd mends a user's.")]
     NotAlike,
-
-    /// The password is wrong for a record.
     #[error("The password does not match every record.")]
     OtherPassword,
-
-    /// The nonce is not 64 hexadecimal digits.
-    #[error("The nonce is not 64 hexadecimal digits.")]
+    #[error("The value of --nonce is not 64 hexadecimal digits.")]
     WrongNonce,
-
-    /// The minimum iteration count is above the maximum.
-    #[error("The minimum iteration count, {0}, is above the maximum, {1}.")]
+    #[error("The value of --min-iterations, {0}, is above that of --max-iterations, {1}.")]
     NoIterations(u32, u32),
-
-    /// The kind of the channel is none that the program knows.
-    #[error("The kind of the channel is not tls-unique, tls-server-end-point or tls-exporter.")]
+    #[error("The kind in --channel is not tls-unique, tls-server-end-point or tls-exporter.")]
     WrongChannelKind,
-
-    /// The data of the channel are not in hexadecimal.
-    #[error("The data of the channel are not in hexadecimal.")]
+    #[error("The data in --channel are not in hexadecimal.")]
     WrongChannelData,
-
-    /// The data of the channel are empty or longer than 64 bytes.
-    #[error("The data of the channel are empty or longer than 64 bytes.")]
+    #[error("The data in --channel are empty or longer than 64 bytes.")]
     WrongChannelLength,
-
-    /// A right to act for an identity is not `USER:IDENTITY`.
     #[error("The value of --may-act is not a user, a colon and an identity.")]
     WrongRight,
-
-    /// A line of the input is not in hexadecimal.
     #[error("A line of standard input is not in hexadecimal.")]
     NotHex,
-
-    /// This line of the input is not in hexadecimal.
     #[error("Line {0} of standard input is not in hexadecimal.")]
     NotHexAt(u64),
-
-    /// A line of the input is not in base64.
     #[error("A line of standard input is not in base64.")]
     NotBase64,
-
-    /// This line of the input is not in base64.
     #[error("Line {0} of standard input is not in base64.")]
     NotBase64At(u64),
-
-    /// The input has a line after the last message of the exchange.
     #[error("Standard input has a line after the four messages.")]
     ExtraLine,
-
-    /// The key file is not one line of keys.
-    #[error("The key file cannot be read: it is not one line of keys. Remove it, and log in with the password.")]
+    #[error("The key file is not a line of keys. Name another, or remove it and log in with the password.")]
     WrongKeys,
-
-    /// The keys are for another mechanism.
     #[error("The key file is for another mechanism. Use its mechanism, or another file.")]
     OtherMechanism,
-
-    /// The other side closed before its message.
     #[error("The other side closed before the end of the login.")]
     Ended,
-
     /// The server sent an error.
     #[error("The server rejected the login.")]
     RefusedByServer,
-
-    /// The client rejects a message of the server.
     #[error("The server's message is rejected: {0}.")]
     Client(ScramErrorKind),
-
-    /// The server rejects a message of the client.
-    #[error("The client's message is rejected: {0}.")]
-    Server(ServerScramErrorKind),
-
-    /// The proof or the signature has the length of another mechanism.
+    /// The server has printed the user and the reason.
+    #[error("The login is rejected: {0}.")]
+    Rejected(Rejection),
+    /// The signature has the length of another mechanism, or the client names another one.
     #[error("The other side uses another mechanism.")]
     OtherHash,
-
-    /// The file has no record of the client's user for the mechanism.
-    #[error("The user is unknown.")]
+    #[error("The user has no record for the mechanism.")]
     UnknownUser,
-
-    /// The connection is closed.
     #[error("The connection is closed: {0}.")]
     Closed(CloseReason),
-
-    /// A message in the input of `explain` is rejected.
     #[error("A message is rejected.")]
     MessageRefused,
-
-    /// The message in this line of the input of `explain` is rejected.
     #[error("The message in line {0} of standard input is rejected.")]
     MessageRefusedAt(u64),
-
-    /// A line does not name its side.
     #[error("A line of standard input does not begin with client or server and a space.")]
     NoSide,
-
-    /// A nonce is not the base64 of 32 bytes. An audit replays both sides from nonces of 32 bytes.
+    /// The calls that replay a client prepare no password.
+    #[error("The bodies cannot be audited: the password is not ASCII.")]
+    NotAscii,
+    /// An audit replays both sides from nonces of 32 bytes.
     #[error("The bodies cannot be audited: a nonce is not the base64 of 32 bytes.")]
     OtherNonces,
-
-    /// The client sent no init of a SCRAM mechanism.
     #[error("The bodies cannot be audited: the client starts no SCRAM login.")]
     NoLogin,
-
-    /// Two inits of the client have different users or mechanisms.
     #[error("The bodies cannot be audited: the client logs in as two users or with two mechanisms.")]
     TwoLogins,
-
-    /// The audit has no finding.
     #[error("The two sides have no login in common.")]
     NothingInCommon,
-
-    /// The server accepted the client. The client did not receive the server's signature, or rejects it.
-    #[error("The client does not authenticate the server that accepts it.")]
+    /// The client did not receive the server's signature, or rejects it.
+    #[error("The server accepted the client, but the client does not verify its signature.")]
     NotVerified,
-
-    /// Two different logins have the same proof or signature.
     #[error("A proof or a signature belongs to two different logins.")]
     OneProofOfTwo,
-
-    /// Out of memory.
     #[error("Out of memory.")]
     OutOfMemory,
 }
 
+/// Returns the cause of a system's error, in words of an administrator.
+fn cause(kind: &ErrorKind) -> &'static str {
+    match kind {
+        ErrorKind::NotFound => "it does not exist",
+        ErrorKind::PermissionDenied => "permission denied",
+        ErrorKind::IsADirectory => "it is a folder",
+        ErrorKind::NotADirectory => "a part of its path is no folder",
+        ErrorKind::ReadOnlyFilesystem => "the file system is read-only",
+        ErrorKind::StorageFull | ErrorKind::QuotaExceeded => "no space is left",
+        ErrorKind::FileTooLarge => "it would be too large",
+        ErrorKind::FilesystemLoop => "its links lead in a circle",
+        ErrorKind::InvalidFilename => "its name is too long or not valid",
+        ErrorKind::BrokenPipe => "its reader has ended",
+        _ => "an input or output error",
+    }
+}
+
 impl Stop {
+    /// Converts the error of a read of the arguments.
+    pub fn of_words(error: io::Error) -> Stop {
+        match error.kind() {
+            ErrorKind::OutOfMemory => Stop::OutOfMemory,
+            _ => Stop::WrongWords,
+        }
+    }
+
     /// Converts the error of a read of the input.
     pub fn of_input(error: io::Error) -> Stop {
         match error.kind() {
@@ -297,16 +241,6 @@ impl Stop {
         Stop::Unwritten(error.kind())
     }
 
-    /// Converts the error of a change of a new file's owner.
-    pub fn of_owner(error: io::Error) -> Stop {
-        Stop::OwnerLost(error.kind())
-    }
-
-    /// Converts the error of a sync of a folder.
-    pub fn of_sync(error: io::Error) -> Stop {
-        Stop::Unsynced(error.kind())
-    }
-
     /// Returns the error with the line of the input at which it occurred, counted from 1.
     pub fn at_line(self, line: u64) -> Stop
         ensures { result ≡ at_line self line }
@@ -325,14 +259,19 @@ impl Stop {
     {
         match self {
             Stop::Busy => Some(".new"),
-            Stop::Secret(_) => Some(".secret"),
+            Stop::Secret(_) | Stop::SecretUnreadable(_) | Stop::SecretUnwritten(_) => {
+                Some(".secret")
+            }
+            Stop::UnreadableRights | Stop::WrongRights(_) => Some(".rights"),
             Stop::Unreported(_)
             | Stop::UnreportedClosed
             | Stop::Unreadable(_)
             | Stop::NotUtf8
             | Stop::Marked
             | Stop::Line(_)
+            | Stop::NoRecord(_, _)
             | Stop::NotRegular
+            | Stop::HardLinks
             | Stop::DanglingLink
             | Stop::Unwritten(_)
             | Stop::OwnerLost(_)
@@ -353,9 +292,11 @@ impl Stop {
     {
         match self {
             Stop::Ended | Stop::RefusedByServer => 1,
-            Stop::WrongSalt
+            Stop::WrongWords
+            | Stop::WrongSalt
             | Stop::WrongNonce
             | Stop::WrongName
+            | Stop::OddName
             | Stop::Terminal
             | Stop::NoIterations(_, _)
             | Stop::WrongChannelKind
@@ -366,7 +307,7 @@ impl Stop {
             | Stop::NotAlike
             | Stop::OtherPassword
             | Stop::Client(_)
-            | Stop::Server(_)
+            | Stop::Rejected(_)
             | Stop::UnknownUser
             | Stop::Closed(_)
             | Stop::OtherHash
@@ -375,55 +316,19 @@ impl Stop {
             | Stop::NothingInCommon
             | Stop::NotVerified
             | Stop::OneProofOfTwo => 3,
-            Stop::NoPassword
-            | Stop::WrongPassword
-            | Stop::LongLine
-            | Stop::InputClosed
-            | Stop::Input(_)
-            | Stop::OutputClosed
-            | Stop::Output(_)
-            | Stop::Random(_)
-            | Stop::Unreported(_)
-            | Stop::UnreportedClosed
-            | Stop::Unreadable(_)
-            | Stop::NotUtf8
-            | Stop::Marked
-            | Stop::Line(_)
-            | Stop::NotRegular
-            | Stop::DanglingLink
-            | Stop::Busy
-            | Stop::OwnerLost(_)
-            | Stop::Unsynced(_)
-            | Stop::Secret(_)
-            | Stop::Database(_)
-            | Stop::NotBase64
-            | Stop::NotBase64At(_)
-            | Stop::NotHex
-            | Stop::NotHexAt(_)
-            | Stop::ExtraLine
-            | Stop::NoSide
-            | Stop::OtherNonces
-            | Stop::NoLogin
-            | Stop::TwoLogins
-            | Stop::WrongKeys
-            | Stop::OtherMechanism
-            | Stop::Unwritten(_)
-            | Stop::OutOfMemory => 4,
+            _ => 4,
         }
     }
 }
 
-/// The system's number for a descriptor that is not open (`EBADF`).
-const NOT_OPEN: i32 = 9;
-
-/// Returns whether a stream is closed.
+/// Returns whether a stream is closed. The system's number for a descriptor that is not open (`EBADF`) is 9.
 fn is_closed(error: &io::Error) -> bool {
-    error.raw_os_error() == Some(NOT_OPEN)
+    error.raw_os_error() == Some(9)
 }
 
 impl From<RecordError> for Stop {
-    fn from(fault: RecordError) -> Stop {
-        match fault {
+    fn from(error: RecordError) -> Stop {
+        match error {
             RecordError::NormalizeError => Stop::WrongPassword,
             // Cannot happen: the parser takes counts from 1.
             RecordError::ZeroIterations => Stop::WrongSalt,
@@ -433,8 +338,8 @@ impl From<RecordError> for Stop {
 }
 
 impl From<ClientSecretError> for Stop {
-    fn from(fault: ClientSecretError) -> Stop {
-        match fault {
+    fn from(error: ClientSecretError) -> Stop {
+        match error {
             ClientSecretError::VersionMismatch => Stop::OtherMechanism,
             ClientSecretError::OutOfMemory => Stop::OutOfMemory,
         }
@@ -442,39 +347,41 @@ impl From<ClientSecretError> for Stop {
 }
 
 impl From<SecretError> for Stop {
-    fn from(fault: SecretError) -> Stop {
-        match fault {
+    fn from(error: SecretError) -> Stop {
+        match error {
             SecretError::OutOfMemory => Stop::OutOfMemory,
-            _ => Stop::Secret(fault),
+            SecretError::Unreadable(kind) => Stop::SecretUnreadable(kind),
+            SecretError::Unwritten(kind) => Stop::SecretUnwritten(kind),
+            SecretError::Random(kind) => Stop::Random(kind),
+            fault => Stop::Secret(fault),
         }
     }
 }
 
 impl From<ReadLinesError> for Stop {
-    fn from(fault: ReadLinesError) -> Stop {
-        match fault.kind {
+    fn from(error: ReadLinesError) -> Stop {
+        match error.kind {
             ReadLinesErrorKind::OutOfMemory => Stop::OutOfMemory,
-            _ => Stop::Line(fault),
+            _ => Stop::Line(error),
         }
     }
 }
 
 impl From<ScramErrorKind> for Stop {
-    fn from(kind: ScramErrorKind) -> Stop {
-        match kind {
+    fn from(error: ScramErrorKind) -> Stop {
+        match error {
             ScramErrorKind::OutOfMemory => Stop::OutOfMemory,
             ScramErrorKind::XorLengthMismatch => Stop::OtherHash,
-            _ => Stop::Client(kind),
+            kind => Stop::Client(kind),
         }
     }
 }
 
 impl From<ServerScramErrorKind> for Stop {
-    fn from(kind: ServerScramErrorKind) -> Stop {
-        match kind {
+    fn from(error: ServerScramErrorKind) -> Stop {
+        match error {
             ServerScramErrorKind::OutOfMemory => Stop::OutOfMemory,
-            ServerScramErrorKind::XorLengthMismatch => Stop::OtherHash,
-            _ => Stop::Server(kind),
+            kind => Stop::Rejected(Rejection::Scram(kind)),
         }
     }
 }

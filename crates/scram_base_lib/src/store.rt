@@ -4,8 +4,7 @@ ghost use Rattle.std.specs.Prelude.{◌≡◌, ◌≢◌, None, Some};
 
 use crate::stop::Stop;
 use fe2o3_scram::ScramVersion;
-use std::alloc::{AllocError, Global};
-use std::fs::{Metadata, OpenFile, OpenOptions, Permissions};
+use std::fs::{File, Metadata, OpenFile, OpenOptions, Permissions, TryLockError};
 use std::io::{Error, ErrorKind, Read, Write};
 use std::os::unix::fs::{MetadataExt, OpenOptionsExt, PermissionsExt, lchown};
 use std::random::RandomSource;
@@ -22,29 +21,66 @@ const PAUSES: u64 = 10;
 /// The character with which some editors begin a file, U+FEFF.
 const MARK: char = '\u{feff}';
 
+/// Files that can be locked. A lock ends with its file, and so with its process.
+pub trait Locks: Files {
+    /// Locks a file, unless another open file of the same inode has a lock.
+    fn try_lock(&self, file: &Self::File) -> Result<(), TryLockError>;
+}
+
+impl Locks for HostRuntime {
+    fn try_lock(&self, file: &File) -> Result<(), TryLockError> {
+        file.try_lock()
+    }
+}
+
+/// A runtime with files that can be locked, a clock and random bytes.
+pub trait System: Locks + Clock + RandomSource + AllocGlobal {}
+
+impl<R: Locks + Clock + RandomSource + AllocGlobal> System for R {}
+
 /// The result of a change.
 #[derive(Drop)]
 pub struct Changed {
-    /// The new text.
+    /// The new lines of the user.
     pub text: String,
-
     /// What the change did.
     pub done: &'static str,
-
     /// Lines for the errors, each with its line feed.
     pub notes: String,
 }
 
 /// A change of a file's text.
+pub trait Rewrite {
+    /// What the change returns.
+    type Done: Drop;
+
+    /// Returns whether a missing file counts as an empty one.
+    fn makes_files(&self) -> bool {
+        true
+    }
+
+    /// Returns the new text.
+    fn rewrite<R: RandomSource + AllocGlobal>(
+        &self,
+        rt: &R,
+        old: &str,
+    ) -> Result<(String, Self::Done), Stop>;
+}
+
+/// A change of the lines of a user.
 pub trait Change {
     /// Returns whether a missing file counts as an empty one.
-    fn makes_files(&self) -> bool;
+    fn makes_files(&self) -> bool {
+        false
+    }
 
     /// Returns whether the change makes a record for a version where a text has these lines of the user.
-    fn makes_record(&self, text: &str, version: ScramVersion) -> bool;
+    fn makes_record(&self, _text: &str, _version: ScramVersion) -> bool {
+        false
+    }
 
-    /// Returns the text after the change. Another text has the first record of all users for each version for which the
-    /// change makes a record; it is the text itself if that has all users.
+    /// Returns the lines of the user after the change. Another text has the first record of all users for each version
+    /// for which the change makes a record.
     fn apply<R: RandomSource + AllocGlobal>(
         &self,
         rt: &R,
@@ -54,19 +90,17 @@ pub trait Change {
 }
 
 /// A file's text, and its metadata if it exists.
-#[derive(Drop)]
-struct Old {
-    text: String,
-    metadata: Option<Metadata>,
-}
+type Old = (String, Option<Metadata>);
 
 /// Reads the text of a file, which may be a pipe.
 pub fn read<R: Files + AllocGlobal>(rt: &R, file: &str) -> Result<String, Stop> {
-    unmarked(fs::read_to_string(rt, file).map_err(Stop::of_reading)?)
+    let text = fs::read_to_string(rt, file).map_err(Stop::of_reading)?;
+    unmarked(&text)?;
+    Ok(text)
 }
 
 /// Returns a text that does not begin with a byte order mark.
-fn unmarked(text: String) -> Result<String, Stop> {
+pub(crate) fn unmarked(text: &str) -> Result<&str, Stop> {
     if text.starts_with(MARK) {
         return Err(Stop::Marked);
     }
@@ -76,28 +110,33 @@ fn unmarked(text: String) -> Result<String, Stop> {
 /// Changes a regular file: writes the new text to a new file beside it, `FILE.new`, and renames that to the file's name.
 /// A link is followed. The new file gets the owner, the group and the mode of the old one.
 ///
-/// While `FILE.new` exists, no other process starts a change. This one waits for it for this many seconds.
+/// `FILE.new` is locked until it is renamed, and meanwhile no other process starts a change. This one waits for it for
+/// this many seconds. A `FILE.new` without a lock is what a killed process left, and is removed.
 ///
 /// After an error other than `Unsynced` the old file is unchanged.
-pub fn make_change<R: Files + Clock + RandomSource + AllocGlobal, C: Change>(
+pub fn make_change<R: System, C: Rewrite>(
     rt: &R,
     file: &str,
     wait: u32,
     change: &C,
-) -> Result<Changed, Stop> {
+) -> Result<C::Done, Stop> {
     let target = target_of(rt, file)?;
     test_kind(rt, &target)?;
     let folder = fs::open(rt, folder_of(&target)).map_err(Stop::of_writing)?;
-    let beside = name_beside(rt.alloc(), &target)?;
-    let new = create(rt, &beside, wait)?;
-    let filled = fill(rt, &target, &beside, new, change);
+    let beside = format!(in rt.alloc(); "{target}.new")?;
+    let mut new = create(rt, &beside, wait)?;
+    let filled = fill(rt, &target, &beside, &mut new, change);
     if filled.is_err() {
         // The first error is the one to report.
         let _ = fs::remove_file(rt, beside.as_str());
     }
-    let changed = filled?;
-    folder.sync_all().map_err(Stop::of_sync)?;
-    Ok(changed)
+    // The lock ends here, so that no other process finds a file without one at this name.
+    drop(new);
+    let done = filled?;
+    folder
+        .sync_all()
+        .map_err(|error| Stop::Unsynced(error.kind()))?;
+    Ok(done)
 }
 
 /// Returns the name of the file that a change of a file is made to: for a link, that of the file that it leads to.
@@ -137,13 +176,9 @@ fn folder_of(file: &str) -> &str {
     }
 }
 
-/// Returns the name of the new file.
-fn name_beside(alloc: Global, file: &str) -> Result<String, AllocError> {
-    format!(in alloc; "{file}.new")
-}
-
-/// Creates a new file that only its owner can read and write. If it exists, tries again for this many seconds.
-fn create<R: Files + Clock>(rt: &R, beside: &str, wait: u32) -> Result<R::File, Stop> {
+/// Creates and locks a new file that only its owner can read and write. While another process has it, tries again for
+/// this many seconds.
+fn create<R: Locks + Clock>(rt: &R, beside: &str, wait: u32) -> Result<R::File, Stop> {
     for _ in 0..u64::from(wait).saturating_mul(PAUSES) {
         match create_once(rt, beside) {
             Err(Stop::Busy) => thread::sleep(rt, Duration::from_millis(PAUSE)),
@@ -153,62 +188,102 @@ fn create<R: Files + Clock>(rt: &R, beside: &str, wait: u32) -> Result<R::File, 
     create_once(rt, beside)
 }
 
-/// Creates a new file that only its owner can read and write.
-fn create_once<R: Files>(rt: &R, beside: &str) -> Result<R::File, Stop> {
+/// Creates and locks a new file that only its owner can read and write. What a killed process left is removed and not
+/// written, since it may be another user's, or have another name too.
+fn create_once<R: Locks>(rt: &R, beside: &str) -> Result<R::File, Stop> {
+    if let Some(left) = left_over(rt, beside)? {
+        fs::remove_file(rt, beside).map_err(of_beside)?;
+        drop(left);
+    }
     let mut options = OpenOptions::new();
     options.write(true).create_new(true).mode(0o600);
-    options.open(rt, beside).map_err(of_creating)
+    let locked = lock(rt, beside, options.open(rt, beside).map_err(of_beside)?);
+    if let Err(Stop::Unwritten(_)) = &locked {
+        // The first error is the one to report.
+        let _ = fs::remove_file(rt, beside);
+    }
+    locked
+}
+
+/// Opens and locks the new file of a killed process, if there is one.
+fn left_over<R: Locks>(rt: &R, beside: &str) -> Result<Option<R::File>, Stop> {
+    match fs::symlink_metadata(rt, beside) {
+        Ok(found) if !found.is_file() => return Err(Stop::Busy),
+        Err(error) if error.kind() == ErrorKind::NotFound => return Ok(None),
+        found => drop(found.map_err(Stop::of_writing)?),
+    }
+    let mut options = OpenOptions::new();
+    // NFS locks only what is open for writing.
+    match options.write(true).open(rt, beside) {
+        // It is that of another user, or was renamed.
+        Err(error)
+            if matches!(
+                error.kind(),
+                ErrorKind::NotFound | ErrorKind::PermissionDenied
+            ) => { Err(Stop::Busy) }
+        opened => Ok(Some(lock(rt, beside, opened.map_err(Stop::of_writing)?)?)),
+    }
+}
+
+/// Locks an open file. While another process has it locked, or if it has lost its name, the error is `Busy`.
+fn lock<R: Locks>(rt: &R, beside: &str, file: R::File) -> Result<R::File, Stop> {
+    rt.try_lock(&file)
+        .map_err(|error| of_beside(Error::from(error)))?;
+    // The process that had the lock before may have renamed or removed the file.
+    let found = file.metadata().map_err(Stop::of_writing)?;
+    let named = fs::symlink_metadata(rt, beside).map_err(of_beside)?;
+    if (found.dev(), found.ino()) != (named.dev(), named.ino()) {
+        return Err(Stop::Busy);
+    }
+    Ok(file)
 }
 
 /// Converts the error of a new file.
-fn of_creating(error: Error) -> Stop {
+fn of_beside(error: Error) -> Stop {
     match error.kind() {
-        ErrorKind::AlreadyExists => Stop::Busy,
+        ErrorKind::AlreadyExists | ErrorKind::WouldBlock | ErrorKind::NotFound => Stop::Busy,
         kind => Stop::Unwritten(kind),
     }
 }
 
 /// Writes the new file, and puts it in the place of the old one.
-fn fill<R: Files + RandomSource + AllocGlobal, C: Change>(
+fn fill<R: System, C: Rewrite>(
     rt: &R,
     target: &str,
     beside: &str,
-    mut new: R::File,
+    new: &mut R::File,
     change: &C,
-) -> Result<Changed, Stop> {
-    let old = read_old(rt, target, change.makes_files())?;
-    let changed = change.apply(rt, &old.text, &old.text)?;
-    let permissions = keep_owner(rt, beside, &new, &old.metadata)?;
-    put(&mut new, &changed.text, permissions).map_err(Stop::of_writing)?;
-    drop(new);
+) -> Result<C::Done, Stop> {
+    let (old, metadata) = read_old(rt, target, change.makes_files())?;
+    let (text, done) = change.rewrite(rt, &old)?;
+    let permissions = keep_owner(rt, beside, new, &metadata)?;
+    new.write_all(text.as_bytes()).map_err(Stop::of_writing)?;
+    new.set_permissions(permissions).map_err(Stop::of_writing)?;
+    new.sync_all().map_err(Stop::of_writing)?;
     fs::rename(rt, beside, target).map_err(Stop::of_writing)?;
-    Ok(changed)
+    Ok(done)
 }
 
-/// Reads the old file. If it is missing and `makes_files` is set, returns an empty one.
+/// Reads the old file, which has to be regular. If it is missing and `makes_files` is set, returns an empty one.
 fn read_old<R: Files + AllocGlobal>(rt: &R, file: &str, makes_files: bool) -> Result<Old, Stop> {
-    match fs::open(rt, file) {
-        Ok(mut open) => read_open(rt.alloc(), &mut open),
-        Err(error) if makes_files && error.kind() == ErrorKind::NotFound => Ok(Old {
-            text: String::new(rt.alloc()),
-            metadata: None,
-        }),
-        Err(error) => Err(Stop::of_reading(error)),
-    }
-}
-
-/// Reads the text and the metadata of an open file, which has to be regular.
-fn read_open<F: Read + OpenFile>(alloc: Global, open: &mut F) -> Result<Old, Stop> {
+    let mut open = match fs::open(rt, file) {
+        Err(error) if makes_files && error.kind() == ErrorKind::NotFound => {
+            return Ok((String::new(rt.alloc()), None));
+        }
+        opened => opened.map_err(Stop::of_reading)?,
+    };
     let metadata = open.metadata().map_err(Stop::of_reading)?;
     if !metadata.is_file() {
         return Err(Stop::NotRegular);
     }
-    let mut text = String::new(alloc);
+    if metadata.nlink() > 1 {
+        return Err(Stop::HardLinks);
+    }
+    let len = usize::try_from(metadata.len()).unwrap_or(0);
+    let mut text = String::with_capacity(rt.alloc(), len)?;
     open.read_to_string(&mut text).map_err(Stop::of_reading)?;
-    Ok(Old {
-        text: unmarked(text)?,
-        metadata: Some(metadata),
-    })
+    unmarked(&text)?;
+    Ok((text, Some(metadata)))
 }
 
 /// Gives a new file the owner and the group of the old one, and returns the old one's permissions. If there is no old
@@ -226,7 +301,7 @@ fn keep_owner<R: Files>(
     let uid = other_id(found.uid(), old.uid());
     let gid = other_id(found.gid(), old.gid());
     if uid.is_some() || gid.is_some() {
-        lchown(rt, beside, uid, gid).map_err(Stop::of_owner)?;
+        lchown(rt, beside, uid, gid).map_err(|error| Stop::OwnerLost(error.kind()))?;
     }
     Ok(old.permissions())
 }
@@ -237,15 +312,4 @@ fn other_id(found: u32, wanted: u32) -> Option<u32>
     ensures other { found ≢ wanted → result ≡ Some wanted }
 {
     if found == wanted { None } else { Some(wanted) }
-}
-
-/// Writes a file, sets its permissions, and syncs it to the disk.
-fn put<F: Write + OpenFile>(
-    new: &mut F,
-    text: &str,
-    permissions: Permissions,
-) -> Result<(), Error> {
-    new.write_all(text.as_bytes())?;
-    new.set_permissions(permissions)?;
-    new.sync_all()
 }

@@ -1,4 +1,7 @@
-//! Messages as lines in base64.
+//! Messages as lines in base64, and bytes in hexadecimal.
+
+ghost use Rattle.std.specs.Prelude.{◌≡◌, ◌≢◌, ◌⊎◌, ℕ, List, Ok, IfOk, IfErr};
+ghost use Rattle.hex.specs.Hex.{decode_of};
 
 use crate::input::next_line;
 use crate::stop::Stop;
@@ -62,5 +65,18 @@ pub fn bytes_of(alloc: Global, line: &str) -> Result<Vec<u8>, Stop> {
         Ok(bytes) => Ok(bytes),
         Err(DecodeAllocError::OutOfMemory) => Err(Stop::OutOfMemory),
         Err(_) => Err(Stop::NotBase64),
+    }
+}
+
+/// Decodes digits in hexadecimal. The error at another text is `otherwise`.
+pub fn hex_bytes(alloc: Global, digits: &str, otherwise: Stop) -> Result<Vec<u8>, Stop>
+    ensures ok { IfOk result (λ bytes. decode_of digits.now ≡ Ok bytes.items) }
+    ensures err { IfErr result (λ stop. (stop ≡ Stop.OutOfMemory) ⊎ ((stop ≡ otherwise)
+        × ((bytes : List ℕ) → decode_of digits.now ≢ Ok bytes))) }
+{
+    match hex::decode(alloc, digits) {
+        Ok(bytes) => Ok(bytes),
+        Err(hex::FromHexError::OutOfMemory) => Err(Stop::OutOfMemory),
+        Err(_) => Err(otherwise),
     }
 }

@@ -25,7 +25,7 @@ pub misreads : {P : Type 0} (g : Ghosts P) (old new : P) (row : Row) (e : Databa
     → FailsToFetch g old new (Some row) e
 misreads g old new row fault.Missing h = absurd h
 misreads g old new row fault.DanglingLink h = absurd h
-misreads g old new row fault.Beside h = absurd h
+misreads g old new row fault.NotAFile h = absurd h
 misreads g old new row fault.Locked h = absurd h
 misreads g old new row fault.Journal h = absurd h
 misreads g old new row (fault.Unopened kind) h = absurd h

@@ -7,66 +7,46 @@ use sqlite_pages::Error as PageError;
 use sqlite_std_file::OpenError;
 use sqlite_wal::Error as LogError;
 use std::alloc::AllocError;
-use std::error::Error;
+use std::io;
 use std::io::ErrorKind;
-use std::{fmt, io};
 
-/// Why a database cannot be used.
+/// Why a database cannot be used. [`DatabaseError::reason`] has the words for each.
 #[derive(Debug, Clone, Copy, PartialEq, Eq)]
 pub enum DatabaseError {
-    /// The file does not exist, or it has no table yet.
     Missing,
-
-    /// The file is a link to a file that does not exist.
     DanglingLink,
-
-    /// A new database cannot be made, because `FILE.new` beside it is another program's file, or has users.
-    Beside,
-
-    /// Another program had the file open during the whole wait.
+    NotAFile,
     Locked,
-
-    /// SQLite left a rollback journal, which only SQLite can play back.
     Journal,
-
-    /// The file or its log cannot be opened for reading and writing.
     Unopened(ErrorKind),
-
-    /// The file is not a SQLite database, or its header or its free list is damaged.
     NotADatabase,
-
-    /// The database does not have exactly the table of users.
     OtherSchema,
-
-    /// A page of the table is damaged.
     Damaged,
-
-    /// The user's row does not have the columns of a record.
     WrongRow,
-
-    /// The file cannot be read or written.
     Io,
-
-    /// The file or its disk is full.
     Full,
-
-    /// Out of memory.
     OutOfMemory,
 }
 
 impl DatabaseError {
-    /// Returns the reason as a part of a sentence.
-    pub fn text(self) -> &'static str {
+    /// Returns the reason in words.
+    pub fn reason(self) -> &'static str {
         match self {
             DatabaseError::Missing => "it does not exist",
             DatabaseError::DanglingLink => "it is a link to a file that does not exist",
-            DatabaseError::Beside => "the file with .new after its name is in the way",
+            DatabaseError::NotAFile => "it is not a regular file",
             DatabaseError::Locked => "another program has it open",
-            DatabaseError::Journal => "it has a rollback journal: open it with sqlite3 first",
-            DatabaseError::Unopened(_) => "it or its log cannot be opened for reading and writing",
+            DatabaseError::Journal => {
+                "it has a rollback journal, of a change that is under way or was cut off: open it with sqlite3"
+            }
+            DatabaseError::Unopened(ErrorKind::PermissionDenied) => {
+                "permission denied for it, its folder or its log"
+            }
+            DatabaseError::Unopened(_) => "it, its folder or its log cannot be opened",
             DatabaseError::NotADatabase => "it is not a SQLite database",
             DatabaseError::OtherSchema => "it does not have exactly the table of users",
-            DatabaseError::Damaged => "it is damaged",
+            DatabaseError::Damaged =>
+                "a page is damaged: PRAGMA integrity_check of sqlite3 shows which",
             DatabaseError::WrongRow => "the row of the user is not a record",
             DatabaseError::Io => "it cannot be read or written",
             DatabaseError::Full => "it is full",
@@ -98,6 +78,7 @@ impl DatabaseError {
 /// Converts the error of a call on a file.
 pub(crate) fn of_system(error: io::Error) -> DatabaseError {
     match error.kind() {
+        ErrorKind::WouldBlock => DatabaseError::Locked,
         ErrorKind::OutOfMemory => DatabaseError::OutOfMemory,
         ErrorKind::StorageFull | ErrorKind::QuotaExceeded => DatabaseError::Full,
         kind => DatabaseError::Unopened(kind),
@@ -133,11 +114,3 @@ impl From<AllocError> for DatabaseError {
         DatabaseError::OutOfMemory
     }
 }
-
-impl fmt::Display for DatabaseError {
-    fn fmt<W: fmt::Write>(&self, f: &mut fmt::Formatter<W>) -> fmt::Result {
-        f.write_str(self.text())
-    }
-}
-
-impl Error for DatabaseError {}

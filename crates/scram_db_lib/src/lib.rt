@@ -8,6 +8,7 @@ pub mod error;
 pub mod file;
 pub mod key;
 mod new_file;
+mod read_only;
 pub mod row;
 pub mod scan;
 pub mod schema;

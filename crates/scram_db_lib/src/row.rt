@@ -17,32 +17,18 @@ use std::alloc::{AllocError, Global};
 /// The record of a user for a mechanism (RFC 5802, section 3).
 #[derive(Debug, Drop)]
 pub struct StoredUser {
-    /// The salt.
     pub salt: Vec<u8>,
-
-    /// The iteration count.
     pub iterations: u32,
-
-    /// StoredKey.
     pub stored_key: Vec<u8>,
-
-    /// ServerKey.
     pub server_key: Vec<u8>,
 }
 
 /// A record that a row lends.
 #[derive(Clone, Copy, Debug)]
 pub struct Columns<'a> {
-    /// The salt.
     pub salt: &'a [u8],
-
-    /// The iteration count.
     pub iterations: u32,
-
-    /// StoredKey.
     pub stored_key: &'a [u8],
-
-    /// ServerKey.
     pub server_key: &'a [u8],
 }
 
@@ -66,7 +52,7 @@ fn blob(row: &Row, at: usize) -> Option<&[u8]>
 }
 
 /// Returns the count in a column, or `None` if it is not of 32 bits.
-fn count(row: &Row, at: usize) -> Option<u32>
+pub(crate) fn count(row: &Row, at: usize) -> Option<u32>
     ensures { result ≡ count_in (column row.now at) }
 {
     match row.get(at) {

@@ -3,10 +3,10 @@
 ghost use Rattle.std.specs.Prelude.{◌≡◌, ◌↔◌, ◌<◌, ◌^◌, ℕ, IsTrue, IfOk, IfSome, IsNone};
 ghost use Rattle.sqlite_value.specs.Order.{column};
 ghost use Rattle.sqlite_value.specs.declared.value.Value.TheVariants.{Text};
-ghost use Rattle.scram_db_lib.specs.Users.{table_text, table_row, count_in, IsUsers, IsRowOfUsers};
+ghost use Rattle.scram_db_lib.specs.Users.{table_text, table_row, IsUsers, IsRowOfUsers};
 
 use crate::error::DatabaseError;
-use crate::row::{encoded, row_of};
+use crate::row::{count, encoded, row_of};
 use sqlite_btree::{Batch, Scratch, create, table};
 use sqlite_format::Tree;
 use sqlite_pages::{Error, Pages};
@@ -31,7 +31,7 @@ pub fn root<P: Pages>(alloc: Global, pages: &mut P) -> Result<u32, DatabaseError
         return Err(DatabaseError::OtherSchema);
     }
     let found = row_of(alloc, &bytes)?;
-    if has_more(alloc, pages)? {
+    if has_rows(alloc, pages, 2)? {
         return Err(DatabaseError::OtherSchema);
     }
     root_in(&found).ok_or(DatabaseError::OtherSchema)
@@ -39,21 +39,13 @@ pub fn root<P: Pages>(alloc: Global, pages: &mut P) -> Result<u32, DatabaseError
 
 /// Returns whether the database has no table, index, view or trigger.
 pub fn is_empty<P: Pages>(alloc: Global, pages: &mut P) -> Result<bool, Error> {
-    let mut batch = Batch::new(alloc);
-    table::fill(
-        pages,
-        &mut Scratch::new(alloc),
-        SCHEMA,
-        i64::MIN,
-        &mut batch,
-    )?;
-    Ok(batch.is_empty())
+    Ok(!has_rows(alloc, pages, i64::MIN)?)
 }
 
-/// Returns whether the schema has a row after the first.
-fn has_more<P: Pages>(alloc: Global, pages: &mut P) -> Result<bool, Error> {
+/// Returns whether the schema has a row with this number or a later one.
+fn has_rows<P: Pages>(alloc: Global, pages: &mut P, first: i64) -> Result<bool, Error> {
     let mut batch = Batch::new(alloc);
-    table::fill(pages, &mut Scratch::new(alloc), SCHEMA, 2, &mut batch)?;
+    table::fill(pages, &mut Scratch::new(alloc), SCHEMA, first, &mut batch)?;
     Ok(!batch.is_empty())
 }
 
@@ -62,7 +54,7 @@ fn root_in(row: &Row) -> Option<u32>
     ensures found { IfSome result (IsRowOfUsers row.now) }
     ensures none { IsNone result → (root : ℕ) → root < 2 ^ 32 → ¬ IsRowOfUsers row.now root }
 {
-    if is_users(row) { page_in(row) } else { None }
+    if is_users(row) { count(row, 3) } else { None }
 }
 
 /// Returns whether a row of the schema is that of the table of users, at any page.
@@ -70,16 +62,6 @@ fn is_users(row: &Row) -> bool
     ensures { IsTrue result ↔ IsUsers row.now }
 {
     is_text(row, 0, "table") && is_text(row, 1, "users") && is_text(row, 4, text())
-}
-
-/// Returns the page in a row of the schema, or `None` if it is no page number.
-fn page_in(row: &Row) -> Option<u32>
-    ensures { result ≡ count_in (column row.now 3) }
-{
-    match row.get(3) {
-        ValueRef::Int(page) => u32::try_from(page).ok(),
-        _ => None,
-    }
 }
 
 /// Returns the text of the table. A function of its own, so that no other proof takes the text apart.

@@ -38,3 +38,8 @@ abbrev pub AreRightsOf : Bool → Option (List (List ℕ)) → Option (List ℕ)
 AreRightsOf saslprep words None rights = rights ≡ []
 AreRightsOf saslprep words (Some sent) rights =
     (name : Option (List ℕ)) × IsLookedUp saslprep sent name × AreRightsOfName words sent name rights
+
+-- the rights of arguments, if there are any
+abbrev pub words_of : Option (List (List ℕ)) → List (List ℕ)
+words_of None = []
+words_of (Some words) = words

@@ -1,15 +1,17 @@
 -- What a command of the program `scram` has done if it ends with status 0.
-use Rattle.std.specs.Prelude.{ℕ, List, [], ◌∷◌, ◌||◌, Bool, true, false, Option, Some, Result, Ok, ◌≡◌, ◌≤◌, box_value, is_some, map, option_map, string_bytes}
+use Rattle.std.specs.Prelude.{ℕ, List, [], ◌∷◌, ◌++◌, ◌||◌, Bool, true, false, Option, Some, Result, Ok, ◌≡◌, ◌≤◌, ◌↔◌, IsSome, box_value, is_some, map, option_map, string_bytes}
 use Rattle.std.specs.List.{Contains}
 use Rattle.fe2o3_scram.specs.declared.hmac.ScramVersion.{ScramVersion}
 use Rattle.fe2o3_scram.specs.declared.hmac.ScramVersion.TheVariants.{Sha1, Sha256, Sha512}
 use Rattle.fe2o3_scram.specs.declared.scram_messages.server_rules.ServerRules.{ServerRules}
 use Rattle.fe2o3_scram.specs.declared.scram_server.ScramAuthenticator.{ScramAuthenticator}
+use Rattle.fe2o3_scram.specs.ChannelBinding.{mechanism_of}
 use Rattle.fe2o3_scram.specs.Credentials.{Provider, Store}
 use Rattle.fe2o3_scram.specs.Mixed.{MultiRecords, provider_for}
 use Rattle.fe2o3_scram.specs.MultiRecordLines.{SpellsMixed}
 use Rattle.fe2o3_scram.specs.ScramClient.{AnswersIn, ClientInitial, ClientSide, VerifiesIn, identity_named, started}
 use Rattle.fe2o3_scram.specs.ScramServer.{ChallengesFrom, ConcludesFrom, Initial, ServerState, mock_in, provider_in, rights_in, rules_in, served_by, state_in}
+use Rattle.fe2o3_sasl_core.specs.LoginAttempts.{ClaimOf}
 use Rattle.fe2o3_sasl_negotiation.specs.Sides.{ServerConnectionSide, client_side, server_side}
 use Rattle.fe2o3_sasl_negotiation.specs.declared.progress.Progress.TheVariants.{Authenticated, InProgress}
 use Rattle.scram_base_lib.specs.Channel.{BindsOnly, SaysChannel}
@@ -17,12 +19,11 @@ use Rattle.scram_lib.specs.declared.client.Login.{Login}
 use Rattle.scram_lib.specs.declared.done.Done.{Done}
 use Rattle.scram_lib.specs.declared.done.Done.TheVariants as dones
 use Rattle.scram_lib.specs.declared.server.Service.{Service}
-use Rattle.scram_lib.specs.declared.task.Command.{Command}
-use Rattle.scram_lib.specs.declared.task.Command.TheVariants as commands
 use Rattle.scram_lib.specs.declared.task.Task.{Task}
 use Rattle.scram_lib.specs.declared.task.Task.TheVariants as tasks
 use Rattle.scram_lib.specs.declared.users.Named.{Named}
-use Rattle.scram_lib.specs.Acting.{AreRightsOf}
+use Rattle.scram_lib.specs.Acting.{AreRightsOf, words_of}
+use Rattle.scram_lib.specs.OwnLines.{AreLinesFor}
 use Rattle.scram_lib.specs.private.Passwords.{TellsEach}
 
 -- a client that these arguments ask for, which has sent nothing: of the user, who acts for the identity, by the mechanism,
@@ -61,16 +62,27 @@ pub record AreRulesOf (service : Service) (rules : ServerRules) : Type 0 where
   pub misplaced : rules.reject_misplaced ≡ (service.reject_misplaced || is_some service.channel)
   pub accept_authzid : rules.accept_authzid ≡ service.accept_authzid
 
--- a server that these arguments ask for, which has sent nothing: of the users of some lines, and with the rights of the
--- user of some name
-pub record IsServerAsked (service : Service) (server : ScramAuthenticator Store) : Type 0 where
-  pub lines : List ℕ
-  pub users : AreUsers service.version lines (provider_in server)
-  pub rules : AreRulesOf service (rules_in server)
-  pub claimed : Option (List ℕ)
+-- the rules and the secret of mock records that these arguments ask for: there is a secret unless unknown users get an error
+abbrev pub AreSettingsOf : Service → ServerRules → Option (List ℕ) → Type 0
+AreSettingsOf service rules secret = AreRulesOf service rules × (IsSome secret ↔ (service.tells_unknown_users ≡ false))
+
+-- a server that these arguments ask for, which has sent nothing: of the lines of the user of a claimed name, in the text of a
+-- file or of a database, and of no others; with the rights of that user; and with mock records by this secret, if any
+pub record IsServerFor (service : Service) (held claimed secret : Option (List ℕ)) (server : ScramAuthenticator Store)
+    : Type 0 where
+  pub own : List ℕ
+  pub lines : AreLinesFor service.saslprep held claimed own
+  pub users : AreUsers service.version own (provider_in server)
+  pub settings : AreSettingsOf service (rules_in server) secret
   pub rights : AreRightsOf service.saslprep (option_map (λ words. map (λ word. word.now) words.now) service.may_act) claimed
       (rights_in server)
+  pub mock : option_map (λ mock. mock.secret) (mock_in server) ≡ secret
   pub state : state_in server ≡ Initial
+
+-- a server that these arguments ask for, of some text and with some secret
+abbrev pub IsServerAsked : Service → Option (List ℕ) → ScramAuthenticator Store → Type 0
+IsServerAsked service claimed server = (held : Option (List ℕ)) × (secret : Option (List ℕ))
+    × IsServerFor service held claimed secret server
 
 -- the provider that a server of these users answers by
 abbrev pub provider_of : ScramAuthenticator Store → Provider
@@ -86,10 +98,10 @@ abbrev pub IsMessage : {X F : Type 0} → Result (Option X) F → Type 0
 IsMessage (Ok (Some message)) = Unit {0}
 IsMessage answer = ⊥
 
--- a server has sent a challenge, and has accepted the proof of a client-final message (RFC 5802, section 5)
-pub record HasAccepted (server next : ScramAuthenticator Store) : Type 0 where
+-- a server has answered this client-first message with a challenge, and has accepted the proof of a client-final message (RFC
+-- 5802, section 5)
+pub record HasAccepted (first : List ℕ) (server next : ScramAuthenticator Store) : Type 0 where
   pub nonce : List ℕ
-  pub first : List ℕ
   pub challenge : List ℕ
   pub opened : ServerState
   pub final : List ℕ
@@ -119,22 +131,30 @@ HasLoggedIn login done = ⊥
 abbrev pub IsWaiting : ServerConnectionSide (ScramAuthenticator Store) → Type 0
 IsWaiting side = (server_side (λ server. server) side).progress ≡ InProgress
 
--- what a server has done: a server of these arguments has accepted a proof, or a side of a connection has logged its
--- client in
+-- a client-first message claims this user name, or none, to the mechanism of a server (RFC 5802, section 7)
+abbrev pub IsClaim : Service → List ℕ → Option (List ℕ) → Type 0
+IsClaim service first claimed = ClaimOf (mechanism_of service.version (is_some service.channel)) first claimed
+
+-- what a server has done: a server of these arguments, of the user that a client-first message claims, has answered that
+-- message and accepted a proof, or a side of a connection has logged its client in
 abbrev pub HasServed : Service → Done → Type 0
-HasServed service (dones.Server server) = (fresh : ScramAuthenticator Store) × IsServerAsked service fresh
-    × HasAccepted fresh (box_value server)
+HasServed service (dones.Server server) = (fresh : ScramAuthenticator Store) × (first : List ℕ)
+    × (claimed : Option (List ℕ)) × IsClaim service first claimed × IsServerAsked service claimed fresh
+    × HasAccepted first fresh (box_value server)
 HasServed service (dones.ServerOfFrames side) = (server_side (λ server. server) (box_value side)).progress ≡ Authenticated
 HasServed service done = ⊥
+
+-- the arguments of a server with the rights of a file after theirs: with none unless clients may name identities
+pub record IsWithRights (service full : Service) : Type 0 where
+  pub same : full ≡ record service { may_act = full.may_act }
+  pub given : List (List ℕ)
+  pub rights : words_of (option_map (λ words. map (λ word. word.now) words.now) full.may_act)
+      ≡ words_of (option_map (λ words. map (λ word. word.now) words.now) service.may_act) ++ given
+  pub none : service.accept_authzid ≡ false → given ≡ []
 
 -- what a task has done
 abbrev pub IsDone : Task → Done → Type 0
 IsDone (tasks.Client login) done = HasLoggedIn login done
-IsDone (tasks.Server service) done = HasServed service done
+IsDone (tasks.Server service) done = (full : Service) × IsWithRights service full × HasServed full done
 IsDone (tasks.Check named) done = HasChecked named done
 IsDone task done = Unit {0}
-
--- what a command has done
-abbrev pub IsDoneCommand : Command → Done → Type 0
-IsDoneCommand (commands.Task task) done = IsDone task done
-IsDoneCommand (commands.Audit asked) done = Unit {0}

@@ -1,6 +1,10 @@
 pub mod Acting
+pub mod Counts
 pub mod Done
 pub mod Forms
+pub mod Gsasl
 pub mod LoginLine
 pub mod Names
+pub mod Nonces
+pub mod OwnLines
 pub mod private

@@ -5,99 +5,82 @@ ghost use Rattle.fe2o3_scram.specs.ScramClient.{AnswersIn, VerifiesIn};
 ghost use Rattle.scram_lib.specs.Done.{HasVerified, IsClientAsked, HasLoggedIn};
 
 use crate::done::Done;
-use crate::{frames, keys, nonces};
+use crate::task::Process;
+use crate::{keys, nonces};
 use fe2o3_scram::secrets::SecretText;
 use fe2o3_scram::{CachedKeys, ClientSecret, Password, ScramClient, ScramErrorKind, ScramVersion};
+use saslprep::Unassigned;
+use scram_base_lib::backend::Backend;
 use scram_base_lib::channel::client_channel;
+use scram_base_lib::input::prepared;
 use scram_base_lib::stop::Stop;
+use scram_base_lib::store::System;
 use scram_base_lib::{input, wire};
 use std::alloc::Global;
 use std::io::{BufRead, Write};
-use std::random::RandomSource;
-use std::rt::{Clock, Files};
+use std::rt::Files;
 
 /// The arguments of a login.
 #[derive(Clone, Copy)]
 pub struct Login<'a> {
-    /// The mechanism.
     pub version: ScramVersion,
-
     /// The user name, not escaped.
     pub user: &'a str,
-
     /// The identity that the client asks to act for, not escaped, if any.
     pub acts_for: Option<&'a str>,
-
-    /// The minimum iteration count that the client accepts.
     pub min_iterations: u32,
-
-    /// The maximum iteration count that the client accepts.
     pub max_iterations: u32,
-
     /// The key file, if any.
     pub keys: Option<&'a str>,
-
     /// The channel that the client binds, `KIND:HEX`, if any.
     pub channel: Option<&'a str>,
-
     /// Whether the client has a channel, but was offered no mechanism with `-PLUS`. It has no effect beside `channel`.
     pub channel_not_offered: bool,
-
-    /// Whether the client is strict.
     pub strict: bool,
-
     /// The nonce in hexadecimal, or `None` for a random one.
     pub nonce: Option<&'a str>,
-
     /// Whether the input has the bytes of an AMQP connection in place of lines.
     pub frames: bool,
 }
 
-/// The client's secret: the password, if the first line of the input has one, and the keys, if there are any.
+/// The client's secret: the password, prepared, if the first line of the input has one, and the keys, if there are any.
 #[derive(Drop)]
 struct Secret {
     password: Option<SecretText>,
     keys: Option<CachedKeys>,
 }
 
-/// Logs in, and stores the keys of the login if there is a key file.
-pub fn log_in<R, I, O>(
-    rt: &R,
-    login: &Login<'_>,
-    input: &mut I,
-    output: &mut O,
-) -> Result<Done, Stop>
-where
-    R: Files + Clock + RandomSource + AllocGlobal,
-    I: BufRead,
-    O: Write,
-    ensures { IfOk result (λ done. HasLoggedIn login.now done) }
-{
-    let client = login.client(rt, input)?;
-    if login.frames {
-        return frames::log_in(rt, login, client, input, output);
+impl<R: System, I: BufRead, O: Write, E: Write, B: Backend<R>> Process<'_, R, I, O, E, B> {
+    /// Logs in, and stores the keys of the login if there is a key file.
+    pub(crate) fn log_in(&mut self, login: &Login<'_>) -> Result<Done, Stop>
+        ensures { IfOk result (λ done. HasLoggedIn login.now done) }
+    {
+        let client = login.client(self.rt, &mut self.input)?;
+        if login.frames {
+            return self.log_in_frames(login, client);
+        }
+        self.log_in_lines(login, client)
     }
-    over_lines(rt, login, client, input, output)
-}
 
-/// Logs in over lines.
-fn over_lines<R, I, O>(
-    rt: &R,
-    login: &Login<'_>,
-    mut client: Box<ScramClient>,
-    input: &mut I,
-    output: &mut O,
-) -> Result<Done, Stop>
-where
-    R: Files + Clock + RandomSource + AllocGlobal,
-    I: BufRead,
-    O: Write,
-    ensures { IsClientAsked login.now (box_value client) → IfOk result (λ done. HasLoggedIn login.now done) }
-{
-    let nonce = nonces::nonce(rt, login.nonce)?;
-    exchange(rt.alloc(), &mut client, &nonce, input, output)?;
-    login.keep(rt, client.keys())?;
-    Ok(Done::Client(client))
+    /// Logs in over lines.
+    fn log_in_lines(
+        &mut self,
+        login: &Login<'_>,
+        mut client: Box<ScramClient>,
+    ) -> Result<Done, Stop>
+        ensures { IsClientAsked login.now (box_value client) → IfOk result (λ done. HasLoggedIn login.now done) }
+    {
+        let nonce = nonces::nonce(self.rt, login.nonce)?;
+        exchange(
+            self.rt.alloc(),
+            &mut client,
+            &nonce,
+            &mut self.input,
+            &mut self.output,
+        )?;
+        login.keep(self.rt, client.keys())?;
+        Ok(Done::Client(client))
+    }
 }
 
 impl Login<'_> {
@@ -154,21 +137,22 @@ impl Login<'_> {
         rt: &R,
         input: &mut I,
     ) -> Result<Secret, Stop> {
-        let line = input::next_line(rt.alloc(), input)?;
+        let line = input::next_line(rt.alloc(), input)?.map(SecretText::new);
         let keys = match self.keys {
             Some(file) => keys::read(rt, file, self.version)?,
             None => None,
         };
-        let password = line.filter(|line| !line.is_empty()).map(SecretText::new);
+        let password = match line {
+            Some(line) if !line.as_str().is_empty() => {
+                Some(prepared(rt.alloc(), line.as_str(), Unassigned::Allowed)?)
+            }
+            _ => None,
+        };
         Ok(Secret { password, keys })
     }
 
     /// Stores the keys of the login if there is a key file.
-    pub(crate) fn keep<R: Files + Clock + RandomSource + AllocGlobal>(
-        &self,
-        rt: &R,
-        keys: Option<&CachedKeys>,
-    ) -> Result<(), Stop> {
+    pub(crate) fn keep<R: System>(&self, rt: &R, keys: Option<&CachedKeys>) -> Result<(), Stop> {
         match (self.keys, keys) {
             (Some(file), Some(keys)) => keys::keep(rt, file, keys),
             _ => Ok(()),
@@ -181,11 +165,11 @@ impl Secret {
     fn lent(&self) -> Option<ClientSecret<'_>> {
         match (&self.password, &self.keys) {
             (Some(password), Some(keys)) => {
-                let password = Password::Typed(password.as_str());
+                let password = Password::Prepared(password.as_str());
                 Some(ClientSecret::PasswordAndKeys { password, keys })
             }
             (Some(password), None) => {
-                Some(ClientSecret::Password(Password::Typed(password.as_str())))
+                Some(ClientSecret::Password(Password::Prepared(password.as_str())))
             }
             (None, Some(keys)) => Some(ClientSecret::Keys(keys)),
             (None, None) => None,
@@ -205,10 +189,10 @@ fn exchange<I: BufRead, O: Write>(
 {
     let first = client.compute_client_first_message(alloc, nonce)?;
     wire::send(alloc, output, &first)?;
-    let server_first = receive_first(alloc, client.mechanism(), input)?;
+    let server_first = accepted(wire::receive_first(alloc, client.mechanism(), input)?)?;
     let last = answer(alloc, client, &server_first)?;
     wire::send(alloc, output, &last)?;
-    let server_final = receive(alloc, input)?;
+    let server_final = accepted(wire::receive(alloc, input)?)?;
     verify(alloc, client, &server_final)
 }
 
@@ -217,20 +201,6 @@ fn verify(alloc: Global, client: &mut ScramClient, server_final: &[u8]) -> Resul
     ensures { OnOk result (VerifiesIn client.old.state client.old server_final.now (Ok tt) client.new) }
 {
     Ok(client.validate_server_final(alloc, server_final)?)
-}
-
-/// Receives the first message of the server, after a line with the name of the mechanism, if there is one.
-fn receive_first<I: BufRead>(
-    alloc: Global,
-    mechanism: &str,
-    input: &mut I,
-) -> Result<Vec<u8>, Stop> {
-    accepted(wire::receive_first(alloc, mechanism, input)?)
-}
-
-/// Receives a message of the server.
-fn receive<I: BufRead>(alloc: Global, input: &mut I) -> Result<Vec<u8>, Stop> {
-    accepted(wire::receive(alloc, input)?)
 }
 
 /// Returns a message of the server. It can be an error (RFC 5802, section 7, `server-error`).

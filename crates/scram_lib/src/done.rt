@@ -9,19 +9,14 @@ use fe2o3_scram::{RecordStore, ScramAuthenticator, ScramClient};
 pub enum Done {
     /// A client has authenticated the server, over lines.
     Client(Box<ScramClient>),
-
     /// A client has authenticated the server, over the bytes of a connection.
     ClientOfFrames(Box<ClientNegotiation>),
-
     /// A server has authenticated a user, over lines.
     Server(Box<ScramAuthenticator<RecordStore>>),
-
     /// A server has authenticated a user, over the bytes of a connection.
     ServerOfFrames(Box<ServerNegotiation<ScramAuthenticator<RecordStore>>>),
-
     /// The text of a file of records, and the password of each record that was asked for.
     Check(String, SecretText),
-
     /// Another command is done.
     Other,
 }

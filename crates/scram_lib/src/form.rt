@@ -16,8 +16,6 @@ use std::alloc::Global;
 pub struct Form {
     /// The length of the salt, in bytes.
     pub salt_len: usize,
-
-    /// The iteration count.
     pub iterations: u32,
 }
 
@@ -73,71 +71,13 @@ impl Form {
     }
 }
 
-/// A record as it is in a line, with the space before it. Most lines of a file end with a text of its length that begins and
-/// pads the salt like it, so that the parts of few lines have to be found.
-#[derive(Clone, Copy)]
-struct Sample<'a> {
-    record: &'a str,
-    form: Form,
-
-    /// The length up to the salt.
-    head: usize,
-
-    /// The length up to the end of the salt.
-    salt_end: usize,
-}
-
-impl<'a> Sample<'a> {
-    /// Returns the record of a line with these parts.
-    fn of(line: &'a str, parts: &UserLine<'a>) -> Sample<'a> {
-        let record = line.get(parts.name.len()..).unwrap_or("");
-        // The space, the dollar sign and the colon come between.
-        let head = parts
-            .mechanism
-            .len()
-            .saturating_add(parts.iterations.len())
-            .saturating_add(3);
-        Sample {
-            record,
-            form: Form::of_line(parts),
-            head,
-            salt_end: head.saturating_add(parts.salt.len()),
-        }
-    }
-
-    /// Returns whether a line has a record with this mechanism and this form.
-    fn is_like(&self, line: &str) -> bool {
-        let record = line
-            .get(line.len().saturating_sub(self.record.len())..)
-            .unwrap_or("");
-        let (salt, own) = (
-            record.get(..self.salt_end),
-            self.record.get(..self.salt_end),
-        );
-        record.len() == self.record.len()
-            && record.get(..self.head) == self.record.get(..self.head)
-            && padding(salt) == padding(own)
-    }
-}
-
-/// Returns the number of padding characters at the end of a text in base64.
-fn padding(text: Option<&str>) -> usize {
-    let text = text.unwrap_or("");
-    text.len().saturating_sub(text.trim_end_matches('=').len())
-}
-
 /// Returns whether the records for a version in a text have several forms.
 pub fn has_several(text: &str, version: ScramVersion) -> bool {
-    let (mut first, mut other): (Option<Sample<'_>>, Option<Sample<'_>>) = (None, None);
+    let (mechanism, mut first) = (version.mechanism(), None);
     for line in text.lines() {
-        if first.is_some_and(|it| it.is_like(line)) || other.is_some_and(|it| it.is_like(line)) {
-            continue;
-        }
-        let parts = UserLine::of(line);
-        let sample = Sample::of(line, &parts);
-        if parts.mechanism != version.mechanism() {
-            other = Some(sample);
-        } else if first.get_or_insert(sample).form != sample.form {
+        let line = UserLine::of(line);
+        let form = Form::of_line(&line);
+        if line.mechanism == mechanism && *first.get_or_insert(form) != form {
             return true;
         }
     }

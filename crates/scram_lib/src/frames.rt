@@ -1,16 +1,19 @@
 //! `--frames`: a login over the bytes of an AMQP connection.
 
-ghost use Rattle.std.specs.Prelude.{◌≡◌, IfOk, IfSome, OnOk, box_value};
+ghost use Rattle.std.specs.Prelude.{◌≡◌, [], IfOk, IfSome, OnOk, box_value};
 ghost use Rattle.fe2o3_sasl_core.specs.Profiles.{ScramProfile};
-ghost use Rattle.fe2o3_sasl_negotiation.specs.Sides.{client_side, server_side, connection_side};
+ghost use Rattle.fe2o3_sasl_negotiation.specs.Sides.{acceptor_in, client_side, server_side, connection_side};
 ghost use Rattle.fe2o3_sasl_negotiation.specs.declared.progress.Progress.TheVariants.{Authenticated};
+ghost use Rattle.fe2o3_scram.specs.ScramServer.{provider_in, rules_in};
 ghost use Rattle.scram_lib.specs.Done.{HasLoggedIn, HasServed, IsWaiting};
 
 use crate::client::Login;
 use crate::done::Done;
 use crate::nonces;
+use crate::server::rejected::{reason_of, tell_rejected};
 use crate::server::source::Source;
 use crate::server::{Service, server_for, tell_user};
+use crate::task::Process;
 use bytes::BytesMut;
 use fe2o3_sasl_negotiation::{
     AuthenticatedUser, ClientNegotiation, CloseReason, ConnectionSide, Endpoint, FrameView, Meter,
@@ -18,18 +21,18 @@ use fe2o3_sasl_negotiation::{
     view_frame,
 };
 use fe2o3_scram::{OutOfMemory, RecordStore, ScramAuthenticator, ScramClient, ServerRules};
-use scram_base_lib::database::Database;
+use scram_base_lib::backend::Backend;
 use scram_base_lib::stop::Stop;
+use scram_base_lib::store::System;
 use std::alloc::Global;
 use std::io::{BufRead, Result as Written, Write};
 use std::random::RandomSource;
-use std::rt::{Clock, Files};
 
 /// A server's side.
 type Side = ServerNegotiation<ScramAuthenticator<RecordStore>>;
 
 /// Passes received bytes to a side once, and sends its answer.
-fn pass<R, E, K, I, O>(
+fn pass<R: RandomSource + AllocGlobal, E: Endpoint<K>, K: Role, I: BufRead, O: Write>(
     rt: &R,
     side: &mut ConnectionSide<E, K>,
     word: Option<&str>,
@@ -37,12 +40,6 @@ fn pass<R, E, K, I, O>(
     input: &mut I,
     output: &mut O,
 ) -> Result<Received, Stop>
-where
-    R: RandomSource + AllocGlobal,
-    E: Endpoint<K>,
-    K: Role,
-    I: BufRead,
-    O: Write,
     ensures { IfOk result (λ received. received.progress ≡ (connection_side E.state side.new).progress) }
 {
     let nonce = nonces::nonce(rt, word)?;
@@ -53,33 +50,6 @@ where
     Ok(received)
 }
 
-/// Passes bytes to a side and from it until the login ends, and returns its progress.
-fn carry<R, E, K, I, O>(
-    rt: &R,
-    side: &mut ConnectionSide<E, K>,
-    word: Option<&str>,
-    sent: &mut BytesMut,
-    input: &mut I,
-    output: &mut O,
-) -> Result<Progress, Stop>
-where
-    R: RandomSource + AllocGlobal,
-    E: Endpoint<K>,
-    K: Role,
-    I: BufRead,
-    O: Write,
-    ensures { IfOk result (λ progress. progress ≡ (connection_side E.state side.new).progress) }
-{
-    send(output, sent).map_err(Stop::of_output)?;
-    for _ in 0..u64::MAX {
-        let received = pass(rt, side, word, sent, input, output)?;
-        if received.taken == 0 || received.progress != Progress::InProgress {
-            return Ok(received.progress);
-        }
-    }
-    Err(Stop::Ended)
-}
-
 /// Sends the pending bytes.
 fn send<O: Write>(output: &mut O, sent: &mut BytesMut) -> Written<()> {
     output.write_all(sent.as_slice())?;
@@ -87,48 +57,74 @@ fn send<O: Write>(output: &mut O, sent: &mut BytesMut) -> Written<()> {
     output.flush()
 }
 
-/// Logs in.
-pub fn log_in<R, I, O>(
-    rt: &R,
-    login: &Login<'_>,
-    client: Box<ScramClient>,
-    input: &mut I,
-    output: &mut O,
-) -> Result<Done, Stop>
-where
-    R: Files + Clock + RandomSource + AllocGlobal,
-    I: BufRead,
-    O: Write,
-    ensures { IfOk result (λ done. HasLoggedIn login.now done) }
-{
-    let mut client = negotiation(rt.alloc(), client)?;
-    log_in_over(rt, login, &mut *client, input, output)?;
-    login.keep(rt, client.profile().keys())?;
-    Ok(Done::ClientOfFrames(client))
+impl<R: System, I: BufRead, O: Write, E: Write, B: Backend<R>> Process<'_, R, I, O, E, B> {
+    /// Logs in.
+    pub(crate) fn log_in_frames(
+        &mut self,
+        login: &Login<'_>,
+        client: Box<ScramClient>,
+    ) -> Result<Done, Stop>
+        ensures { IfOk result (λ done. HasLoggedIn login.now done) }
+    {
+        let mut client = negotiation(self.rt.alloc(), client)?;
+        let (input, output) = (&mut self.input, &mut self.output);
+        log_in_over(self.rt, login, &mut *client, input, output)?;
+        login.keep(self.rt, client.profile().keys())?;
+        Ok(Done::ClientOfFrames(client))
+    }
+
+    /// Serves a login, and prints on the errors who has logged in, or whose login is rejected. The server is made at the
+    /// client's init, which claims a user name.
+    pub(crate) fn serve_frames(
+        &mut self,
+        service: &Service<'_, '_>,
+        rules: ServerRules,
+        secret: Option<Vec<u8>>,
+        source: &Source<'_, B>,
+    ) -> Result<Done, Stop>
+        ensures { IfOk result (λ done. HasServed service.now done) }
+    {
+        let (rt, alloc) = (self.rt, self.rt.alloc());
+        let opener = opener(alloc, service, rules);
+        let mut opener = Box::new(alloc, ServerNegotiation::new(alloc, opener))?;
+        let claimed = receive_init(rt, service, &mut *opener, &mut self.input, &mut self.output)?;
+        let server = server_for(rt, service, rules, secret, source, claimed.as_deref())?;
+        let mut server = Box::new(alloc, continued(alloc, &opener, server)?)?;
+        let (input, output) = (&mut self.input, &mut self.output);
+        if let Err(stop) = serve_over(rt, service, &mut *server, input, output) {
+            tell_rejected(alloc, service, claimed.as_deref(), &stop, &mut self.errors)?;
+            return Err(stop);
+        }
+        let user = server.authenticated_user();
+        tell_user(alloc, service, user, server.acts_for(), &mut self.errors);
+        Ok(Done::ServerOfFrames(server))
+    }
 }
 
 /// Logs in with a client's side. After `Ok` the side has logged in.
-fn log_in_over<R, I, O>(
+fn log_in_over<R: RandomSource + AllocGlobal, I: BufRead, O: Write>(
     rt: &R,
     login: &Login<'_>,
     client: &mut ClientNegotiation,
     input: &mut I,
     output: &mut O,
 ) -> Result<(), Stop>
-where
-    R: RandomSource + AllocGlobal,
-    I: BufRead,
-    O: Write,
     ensures { OnOk result ((client_side client.new).progress ≡ Authenticated) }
 {
     let mut sent = BytesMut::new(rt.alloc());
     ClientNegotiation::open(&mut sent)?;
-    match carry(rt, client, login.nonce, &mut sent, input, output)? {
-        Progress::Authenticated => Ok(()),
-        Progress::InProgress => Err(Stop::Ended),
-        Progress::Failed(CloseReason::Refused(_)) => Err(Stop::RefusedByServer),
-        Progress::Failed(why) => Err(Stop::Closed(why)),
+    send(output, &mut sent).map_err(Stop::of_output)?;
+    for _ in 0..u64::MAX {
+        let received = pass(rt, client, login.nonce, &mut sent, input, output)?;
+        match received.progress {
+            Progress::Authenticated => return Ok(()),
+            Progress::Failed(CloseReason::Refused(_)) => return Err(Stop::RefusedByServer),
+            Progress::Failed(why) => return Err(Stop::Closed(why)),
+            Progress::InProgress if received.taken == 0 => return Err(Stop::Ended),
+            Progress::InProgress => {}
+        }
     }
+    Err(Stop::Ended)
 }
 
 /// Returns the client's side. Its mechanism is that of the client, with its channel.
@@ -142,61 +138,32 @@ fn negotiation(
     Ok(Box::new(alloc, ClientNegotiation::new(alloc, profile, None))?)
 }
 
-/// Serves a login, and prints on the errors who has logged in. The server is made at the client's init, which claims a
-/// user name.
-pub(crate) fn serve<R, I, O, E, D>(
-    rt: &R,
+/// Returns a server without users, which answers up to the client's init.
+fn opener(
+    alloc: Global,
     service: &Service<'_, '_>,
     rules: ServerRules,
-    secret: Option<Vec<u8>>,
-    source: &Source<'_, D>,
-    input: &mut I,
-    output: &mut O,
-    errors: &mut E,
-) -> Result<Done, Stop>
-where
-    R: RandomSource + AllocGlobal,
-    I: BufRead,
-    O: Write,
-    E: Write,
-    D: Database<R>,
-    ensures { IfOk result (λ done. HasServed service.now done) }
+) -> ScramAuthenticator<RecordStore>
+    ensures rules { rules_in result ≡ rules }
+    ensures nobody { provider_in result ≡ record { version = service.now.version; records = [] } }
 {
-    let alloc = rt.alloc();
-    let mut opener = Box::new(alloc, opener(alloc, service, rules))?;
-    let claimed = receive_init(rt, service, &mut *opener, input, output)?;
-    let server = server_for(rt, service, rules, secret, source, claimed.as_deref())?;
-    let mut server = Box::new(alloc, continued(alloc, &opener, server)?)?;
-    serve_over(rt, service, &mut *server, input, output)?;
-    let user = server.authenticated_user();
-    tell_user(alloc, service, user, server.acts_for(), errors);
-    Ok(Done::ServerOfFrames(server))
-}
-
-/// Returns a server's side without users, which offers the mechanism.
-fn opener(alloc: Global, service: &Service<'_, '_>, rules: ServerRules) -> Side {
-    let nobody = RecordStore::new(alloc, service.version);
-    ServerNegotiation::new(alloc, ScramAuthenticator::new(nobody).with_rules(rules))
+    ScramAuthenticator::new(RecordStore::new(alloc, service.version)).with_rules(rules)
 }
 
 /// Answers the client up to its init, and returns the user name that the init claims, if any. The init is not taken.
-fn receive_init<R, I, O>(
+fn receive_init<R: RandomSource + AllocGlobal, I: BufRead, O: Write>(
     rt: &R,
     service: &Service<'_, '_>,
     opener: &mut Side,
     input: &mut I,
     output: &mut O,
 ) -> Result<Option<String>, Stop>
-where
-    R: RandomSource + AllocGlobal,
-    I: BufRead,
-    O: Write,
     ensures { OnOk result (IsWaiting opener.new) }
 {
     let mut sent = BytesMut::new(rt.alloc());
     for _ in 0..u64::MAX {
         let bytes = input.fill_buf().map_err(Stop::of_input)?;
-        if let Some(body) = init_in(rt.alloc(), opener, bytes)? {
+        if let Some(body) = frame_in(rt.alloc(), opener, bytes)? {
             return user_of(rt.alloc(), &body);
         }
         let received = pass(rt, opener, service.nonce, &mut sent, input, output)?;
@@ -210,8 +177,8 @@ where
     Err(Stop::Ended)
 }
 
-/// Returns the body of the init that these bytes complete, if they do. Nothing is taken.
-fn init_in(alloc: Global, opener: &Side, bytes: &[u8]) -> Result<Option<Vec<u8>>, Stop>
+/// Returns the body of the frame that these bytes complete, if they do. Nothing is taken.
+fn frame_in(alloc: Global, opener: &Side, bytes: &[u8]) -> Result<Option<Vec<u8>>, Stop>
     ensures { IfOk result (λ body. IfSome body (λ _. IsWaiting opener.now)) }
 {
     match opener.snapshot().peek_frame(alloc, bytes) {
@@ -244,6 +211,7 @@ fn continued(
     server: ScramAuthenticator<RecordStore>,
 ) -> Result<Side, Stop>
     requires { IsWaiting opener.now }
+    ensures { IfOk result (λ side. acceptor_in side ≡ server) }
 {
     match ServerNegotiation::restore(alloc, server, &opener.snapshot()) {
         Ok(side) => Ok(side),
@@ -253,24 +221,44 @@ fn continued(
 }
 
 /// Serves a login with a server's side. After `Ok` the side has logged its client in.
-fn serve_over<R, S, I, O>(
+fn serve_over<R: RandomSource + AllocGlobal, I: BufRead, O: Write>(
     rt: &R,
     service: &Service<'_, '_>,
-    server: &mut ServerNegotiation<S>,
+    server: &mut Side,
     input: &mut I,
     output: &mut O,
 ) -> Result<(), Stop>
-where
-    R: RandomSource + AllocGlobal,
-    S: AuthenticatedUser,
-    I: BufRead,
-    O: Write,
-    ensures { OnOk result ((server_side S.state server.new).progress ≡ Authenticated) }
+    ensures { OnOk result ((server_side (λ server. server) server.new).progress ≡ Authenticated) }
 {
-    let mut sent = BytesMut::new(rt.alloc());
-    match carry(rt, server, service.nonce, &mut sent, input, output)? {
-        Progress::Authenticated => Ok(()),
-        Progress::InProgress => Err(Stop::Ended),
-        Progress::Failed(why) => Err(Stop::Closed(why)),
+    let (mut sent, mut last) = (BytesMut::new(rt.alloc()), Vec::new(rt.alloc()));
+    for _ in 0..u64::MAX {
+        let bytes = input.fill_buf().map_err(Stop::of_input)?;
+        if let Some(body) = frame_in(rt.alloc(), server, bytes)? {
+            last = body;
+        }
+        let received = pass(rt, server, service.nonce, &mut sent, input, output)?;
+        match received.progress {
+            Progress::Authenticated => return Ok(()),
+            Progress::Failed(why) => return Err(stop_of(rt.alloc(), server, why, &last)?),
+            Progress::InProgress if received.taken == 0 => return Err(Stop::Ended),
+            Progress::InProgress => {}
+        }
+    }
+    Err(Stop::Ended)
+}
+
+/// Returns why a login stops at a client's frame, after which the server has closed.
+fn stop_of(
+    alloc: Global,
+    server: &Side,
+    why: CloseReason,
+    body: &[u8],
+) -> Result<Stop, OutOfMemory> {
+    match (why, view_frame(body)) {
+        (CloseReason::Refused(_), Ok((frame, _))) => {
+            let reason = reason_of(alloc, server.acceptor(), &frame)?;
+            Ok(Stop::Rejected(reason))
+        }
+        _ => Ok(Stop::Closed(why)),
     }
 }

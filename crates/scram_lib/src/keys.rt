@@ -5,11 +5,11 @@ use base64::engine::general_purpose::STANDARD;
 use fe2o3_scram::{CachedKeys, ScramVersion};
 use scram_base_lib::stop::Stop;
 use scram_base_lib::store;
-use scram_base_lib::store::{Change, Changed};
+use scram_base_lib::store::{Rewrite, System};
 use scram_base_lib::wire::bytes_of;
 use std::alloc::{AllocError, Global};
 use std::random::RandomSource;
-use std::rt::{Clock, Files};
+use std::rt::Files;
 
 /// Reads the keys of a file, or returns `None` if there is no file.
 pub fn read<R: Files + AllocGlobal>(
@@ -56,36 +56,20 @@ struct Kept {
     line: String,
 }
 
-impl Change for Kept {
-    fn makes_files(&self) -> bool {
-        true
-    }
+impl Rewrite for Kept {
+    type Done = ();
 
-    fn makes_record(&self, _text: &str, _version: ScramVersion) -> bool {
-        false
-    }
-
-    fn apply<R: RandomSource + AllocGlobal>(
+    fn rewrite<R: RandomSource + AllocGlobal>(
         &self,
-        rt: &R,
-        _text: &str,
-        _firsts: &str,
-    ) -> Result<Changed, Stop> {
-        Ok(Changed {
-            text: self.line.clone()?,
-            done: "kept",
-            notes: String::new(rt.alloc()),
-        })
+        _rt: &R,
+        _old: &str,
+    ) -> Result<(String, ()), Stop> {
+        Ok((self.line.clone()?, ()))
     }
 }
 
 /// Stores the keys of a login.
-pub fn keep<R: Files + Clock + RandomSource + AllocGlobal>(
-    rt: &R,
-    file: &str,
-    keys: &CachedKeys,
-) -> Result<(), Stop> {
+pub fn keep<R: System>(rt: &R, file: &str, keys: &CachedKeys) -> Result<(), Stop> {
     let line = line_of(rt.alloc(), keys)?;
-    store::make_change(rt, file, 0, &Kept { line })?;
-    Ok(())
+    store::make_change(rt, file, 0, &Kept { line })
 }

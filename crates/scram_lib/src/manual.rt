@@ -1,13 +1,6 @@
 //! The commands of the program, with their help: one table, from which the parser is made.
 
-use crate::words::{
-    ACCEPT_AUTHZID, ACCEPT_Y, ACTS_FOR, ADDED_MECHANISM, ALL, AUDIT, AUDIT_ECHO,
-    AUDITED_ITERATIONS, BODIES, CHANGED_MECHANISM, CHANNEL, CHANNEL_ACCEPTED, CHANNEL_NOT_OFFERED,
-    CHECKED_NAME, DB, ECHO, FILE, FRAMES, HASHES, ITERATIONS, KEYS, Kind, M, MAX_ITERATIONS,
-    MAY_ACT, MECHANISM, MIN_ITERATIONS, NAME, NEW_MECHANISM, NONCE, REJECT_MISPLACED, SALT,
-    SALT_LENGTH, SASLPREP, SERVER_DB, STRICT, TAKEN_ITERATIONS, TAKEN_SALT_LENGTH,
-    TELL_UNKNOWN_USERS, USER, WAIT, Word, Words,
-};
+use crate::words::{COMMANDS, Kind, USERS_COMMANDS, Word, Words};
 use clap::builder::ValueParser;
 use clap::{Arg, ArgAction, Command};
 use std::alloc::{AllocError, Global};
@@ -21,118 +14,13 @@ pub static ABOUT: &str =
 
 /// What applies to every command.
 pub static NOTES: &str = "\
-A password is the first line of standard input, in printable ASCII. It is never an argument. At a terminal that line is
-read only with --echo, since the terminal shows it. Exit status: 0 success,
-1 the other side rejects the login or closes, 2 wrong arguments, 3 this side rejects the login or an audit finds no
-complete login, 4 the input cannot be read or audited, or a file, the output, memory or the random source fails.";
+A password is the first line of standard input, never an argument; scram man shows how to type one without an echo. Exit
+status: 0 success, 1 the other side rejects the login or closes, 2 wrong arguments, 3 this side rejects the login, an audit
+finds no complete login, or a user or a password is not that of a record, 4 the input cannot be read or audited, or a file,
+the output, memory or the random source fails.";
 
 /// What `users` does.
 pub static USERS: &str = "Manages a file of records, each on a line: NAME RECORD";
-
-/// The commands without subcommands.
-pub static COMMANDS: [Words; 5] = [
-    Words {
-        name: "record",
-        about: "Prints the record of a password (RFC 5803)",
-        words: &[NEW_MECHANISM, ITERATIONS, SALT_LENGTH, SALT, ECHO],
-    },
-    Words {
-        name: "client",
-        about: "Runs the client side of a login: after the password, each line is a message in base64",
-        words: &[
-            M,
-            USER,
-            ACTS_FOR,
-            MIN_ITERATIONS,
-            MAX_ITERATIONS,
-            KEYS,
-            CHANNEL,
-            CHANNEL_NOT_OFFERED,
-            STRICT,
-            ECHO,
-            NONCE,
-            FRAMES,
-        ],
-    },
-    Words {
-        name: "server",
-        about: "Runs the server side of a login for the users of a file: each line is a message in base64",
-        words: &[
-            M,
-            FILE,
-            SERVER_DB,
-            SASLPREP,
-            TELL_UNKNOWN_USERS,
-            CHANNEL_ACCEPTED,
-            ACCEPT_Y,
-            REJECT_MISPLACED,
-            ACCEPT_AUTHZID,
-            MAY_ACT,
-            STRICT,
-            NONCE,
-            FRAMES,
-        ],
-    },
-    Words {
-        name: "explain",
-        about: "Explains the messages of a login: each line is a message in base64",
-        words: &[BODIES, AUDIT, AUDITED_ITERATIONS, AUDIT_ECHO],
-    },
-    Words {
-        name: "man",
-        about: "Prints this manual as a page for man(1)",
-        words: &[],
-    },
-];
-
-/// The commands of `users`.
-pub static USERS_COMMANDS: [Words; 5] = [
-    Words {
-        name: "add",
-        about: "Adds the records of a user, or replaces those for the same mechanisms",
-        words: &[
-            FILE,
-            NAME,
-            DB,
-            ADDED_MECHANISM,
-            TAKEN_ITERATIONS,
-            TAKEN_SALT_LENGTH,
-            SALT,
-            ECHO,
-            WAIT,
-        ],
-    },
-    Words {
-        name: "passwd",
-        about: "Changes the password in all records of a user, and adds those that add makes",
-        words: &[
-            FILE,
-            NAME,
-            DB,
-            CHANGED_MECHANISM,
-            ALL,
-            TAKEN_ITERATIONS,
-            TAKEN_SALT_LENGTH,
-            ECHO,
-            WAIT,
-        ],
-    },
-    Words {
-        name: "remove",
-        about: "Removes the records of a user, for all mechanisms or for one",
-        words: &[FILE, NAME, DB, MECHANISM, WAIT],
-    },
-    Words {
-        name: "list",
-        about: "Prints the mechanism, the iteration count and the name of each record, quoted for a shell",
-        words: &[FILE, DB, HASHES],
-    },
-    Words {
-        name: "check",
-        about: "Checks a user's password; without a name, lists records with another form and users who lack a record",
-        words: &[FILE, CHECKED_NAME, DB, MECHANISM, ECHO],
-    },
-];
 
 impl Word {
     /// Returns the word for the parser.
@@ -148,13 +36,11 @@ impl Word {
             Kind::Text => self.option(arg),
             Kind::Texts => self.option(arg).action(ArgAction::Append),
             Kind::Mechanism => mechanism(self.option(arg)),
-            Kind::DefaultMechanism => mechanism(self.option(arg)).default_value("SCRAM-SHA-256"),
-            Kind::Iterations => count(self.option(arg)).default_value("4096"),
-            Kind::SaltLen => salt_len(self.option(arg)).default_value("16"),
-            Kind::SaltLenOf => salt_len(self.option(arg)),
-            Kind::Count => count(self.option(arg)),
-            Kind::Seconds => seconds(self.option(arg)),
-            Kind::CountOf(other) => return count(self.option(arg)).requires_arg(other),
+            // A mock record can have no longer salt.
+            Kind::SaltLen => self.number(arg, 1, 64),
+            Kind::Count => self.number(arg, 1, 4294967295),
+            Kind::Seconds => self.number(arg, 0, 86400),
+            Kind::CountOf(other) => return self.number(arg, 1, 4294967295).requires_arg(other),
         })
     }
 
@@ -174,26 +60,17 @@ impl Word {
     fn option<'a>(&self, arg: Arg<'a>) -> Arg<'a> {
         arg.long(self.name).value_name(self.value)
     }
+
+    /// Returns the word as an option with a number within these bounds.
+    fn number<'a>(&self, arg: Arg<'a>, min: u64, max: u64) -> Arg<'a> {
+        self.option(arg)
+            .value_parser(ValueParser::unsigned(min, max))
+    }
 }
 
 /// Returns a word whose value is the name of a mechanism.
 fn mechanism<'a>(arg: Arg<'a>) -> Arg<'a> {
     arg.value_parser(MECHANISMS.as_slice())
-}
-
-/// Returns a word whose value is an iteration count.
-fn count<'a>(arg: Arg<'a>) -> Arg<'a> {
-    arg.value_parser(ValueParser::unsigned(1, 4294967295))
-}
-
-/// Returns a word whose value is the length of a salt. A mock record can have no longer one.
-fn salt_len<'a>(arg: Arg<'a>) -> Arg<'a> {
-    arg.value_parser(ValueParser::unsigned(1, 64))
-}
-
-/// Returns a word whose value is a number of seconds, up to a day.
-fn seconds<'a>(arg: Arg<'a>) -> Arg<'a> {
-    arg.value_parser(ValueParser::unsigned(0, 86400))
 }
 
 impl Words {

@@ -1,48 +1,39 @@
 //! The task that the arguments ask for.
 
-ghost use Rattle.std.specs.Prelude.{◌≡◌, true, false, Some, None, IfOk, codes, is_some, map, option_map};
+ghost use Rattle.std.specs.Prelude.{◌≡◌, ℕ, List, true, false, Some, None, IfErr, IfOk, IsOk, codes, is_some, map, option_map};
 ghost use Rattle.clap.specs.Matches.{first_value, found_of, matched_of, one_text, raw_values};
+ghost use Rattle.scram_lib.specs.Counts.{IsCountOf};
 ghost use Rattle.scram_lib.specs.Done.{IsDone};
 
-use crate::client::{Login, log_in};
+use crate::client::Login;
 use crate::done::Done;
+use crate::man;
 use crate::record::NewRecord;
-use crate::server::{Service, serve};
-use crate::users::alike::{check_file, list_hashes};
-use crate::users::{Listed, Named, add, change_password, check, list, remove};
-use crate::{man, record};
+use crate::server::Service;
+use crate::users::Named;
+use crate::users::export::Printed;
 use clap::ArgMatches;
+use fe2o3_scram::secrets::SecretText;
 use fe2o3_scram::{DEFAULT_SCRAM_ITERATIONS, ScramVersion};
-use scram_base_lib::audited::Audited;
-use scram_base_lib::database::Database;
+use saslprep::Unassigned;
+use scram_base_lib::backend::Backend;
 use scram_base_lib::explain::explain;
 use scram_base_lib::input;
 use scram_base_lib::stop::Stop;
+use scram_base_lib::store::System;
 use std::io::{BufRead, Write};
-use std::random::RandomSource;
-use std::rt::{Clock, Files};
 
-/// The input and the output, and the databases.
+/// The process that runs a command.
 #[derive(Drop)]
-pub struct Streams<'a, 'd, I, O, D> {
+pub struct Process<'a, R, I, O, E, B> {
+    pub rt: &'a R,
+    /// What other crates supply.
+    pub backend: &'a B,
     /// Whether the input is a terminal.
     pub is_terminal: bool,
-
-    pub input: &'a mut I,
-    pub output: &'a mut O,
-
-    /// The databases of `--db`.
-    pub db: &'d D,
-}
-
-/// The command that the arguments ask for.
-#[derive(Clone, Copy)]
-pub enum Command<'a, 'm> {
-    /// A task of this library.
-    Task(Task<'a, 'm>),
-
-    /// An audit of both sides of a login, which the caller does.
-    Audit(Audited<'a>),
+    pub input: I,
+    pub output: O,
+    pub errors: E,
 }
 
 /// A task of this library.
@@ -50,73 +41,37 @@ pub enum Command<'a, 'm> {
 pub enum Task<'a, 'm> {
     /// Prints a record.
     Record(ScramVersion, NewRecord<'a>),
-
-    /// Adds a user's records to a file.
-    Add(Named<'a>, NewRecord<'a>),
-
+    /// Adds a user's records to a file. The flag says that the name may be empty or have spaces at its ends.
+    Add(Named<'a>, NewRecord<'a>, bool),
     /// Changes a user's password in a file.
     ChangePassword(Named<'a>, NewRecord<'a>),
-
     /// Removes a user's records from a file.
     Remove(Named<'a>),
-
-    /// Lists the records of a file.
-    List(Listed<'a>),
-
+    /// Lists or exports the records of a file.
+    List(Named<'a>, Printed),
+    /// Adds the records of the input to a file. The flag asks for a dry run.
+    Import(Named<'a>, bool),
     /// Lists the mechanisms for which all users of a file have records.
-    ListHashes(Listed<'a>),
-
+    ListHashes(Named<'a>),
     /// Checks a password.
     Check(Named<'a>),
-
     /// Checks whether the records of a file look alike.
-    CheckFile(Listed<'a>),
-
+    CheckFile(Named<'a>),
     /// Logs in.
     Client(Login<'a>),
-
     /// Serves a login.
     Server(Service<'a, 'm>),
-
     /// Explains messages. The flag says that the lines are frame bodies.
     Explain(bool),
-
+    /// Audits a login against this file, for a client that accepts this many iterations.
+    Audit(&'a str, u32),
     /// Prints the manual page.
     Man,
 }
 
-impl<'a, 'm> Command<'a, 'm> {
-    /// Returns the command of the parsed arguments.
-    pub fn of(matches: &'m ArgMatches<'a>) -> Command<'a, 'm> {
-        match matches.subcommand() {
-            Some(("explain", found)) => Command::of_explain(found),
-            _ => Command::Task(Task::of(matches)),
-        }
-    }
-
-    /// Returns the file of the command, or an empty text if it has none.
-    pub fn file(&self) -> &'a str {
-        match self {
-            Command::Task(task) => task.file(),
-            Command::Audit(asked) => asked.file,
-        }
-    }
-
-    /// Returns the command of the parsed arguments of `explain`.
-    fn of_explain(matches: &ArgMatches<'a>) -> Command<'a, 'm> {
-        match matches.get_str("audit") {
-            Some(file) => Command::Audit(Audited {
-                file,
-                max_iterations: max_iterations(matches),
-            }),
-            None => Command::Task(Task::Explain(matches.get_flag("frames"))),
-        }
-    }
-}
-
 impl<'a, 'm> Task<'a, 'm> {
-    /// Returns the task of the parsed arguments. They are not those of `explain`.
-    fn of(matches: &'m ArgMatches<'a>) -> Task<'a, 'm> {
+    /// Returns the task of the parsed arguments.
+    pub fn of(matches: &'m ArgMatches<'a>) -> Task<'a, 'm> {
         // The other tasks borrow nothing of the parsed arguments.
         if let Some(("server", found)) = matches.subcommand() {
             return Task::Server(service(found));
@@ -124,6 +79,7 @@ impl<'a, 'm> Task<'a, 'm> {
         match matches.subcommand() {
             Some(("users", found)) => Task::of_users(found),
             Some(("client", found)) => Task::Client(login(found)),
+            Some(("explain", found)) => Task::of_explain(found),
             Some(("man", _)) => Task::Man,
             Some((_, found)) => Task::of_record(found),
             None => Task::of_record(matches),
@@ -136,119 +92,127 @@ impl<'a, 'm> Task<'a, 'm> {
         Task::Record(version, new_record(matches))
     }
 
+    /// Returns the task of the parsed arguments of `explain`.
+    fn of_explain(matches: &ArgMatches<'a>) -> Task<'a, 'm> {
+        match matches.get_str("audit") {
+            Some(file) => Task::Audit(file, max_iterations(matches)),
+            None => Task::Explain(matches.get_flag("frames")),
+        }
+    }
+
     /// Returns the task of the parsed arguments of `users`.
     fn of_users(matches: &ArgMatches<'a>) -> Task<'a, 'm> {
         match matches.subcommand() {
-            Some(("add", found)) => Task::Add(named(found), new_record(found)),
+            Some(("add", found)) => {
+                Task::Add(named(found), new_record(found), found.get_flag("force"))
+            }
             Some(("passwd", found)) => Task::ChangePassword(password_of(found), new_record(found)),
             Some(("remove", found)) => Task::Remove(named(found)),
             Some(("check", found)) if found.contains_id("NAME") => Task::Check(named(found)),
-            Some(("check", found)) => Task::CheckFile(listed(found)),
-            Some((_, found)) if found.get_flag("hashes") => Task::ListHashes(listed(found)),
-            Some((_, found)) => Task::List(listed(found)),
-            None => Task::List(listed(matches)),
+            Some(("check", found)) => Task::CheckFile(named(found)),
+            Some(("import", found)) => Task::Import(named(found), found.get_flag("dry-run")),
+            Some(("export", found)) if found.get_flag("gsasl") => {
+                Task::List(named(found), Printed::Gsasl)
+            }
+            Some(("export", found)) => Task::List(named(found), Printed::Line),
+            Some((_, found)) if found.get_flag("hashes") => Task::ListHashes(named(found)),
+            Some((_, found)) => Task::List(named(found), Printed::Name),
+            None => Task::List(named(matches), Printed::Name),
         }
     }
 
     /// Returns the file of the task, or an empty text if it has none.
-    fn file(&self) -> &'a str {
+    pub fn file(&self) -> &'a str {
         match self {
-            Task::Add(named, _)
+            Task::Add(named, _, _)
             | Task::ChangePassword(named, _)
             | Task::Remove(named)
+            | Task::Import(named, _)
+            | Task::List(named, _)
+            | Task::ListHashes(named)
+            | Task::CheckFile(named)
             | Task::Check(named) => named.file,
-            Task::List(listed) | Task::ListHashes(listed) | Task::CheckFile(listed) => listed.file,
             Task::Client(login) => login.keys.unwrap_or(""),
             Task::Server(service) => service.file,
+            Task::Audit(file, _) => file,
             Task::Record(_, _) | Task::Explain(_) | Task::Man => "",
         }
     }
+}
 
-    /// Does the task.
-    pub fn run<R, I, O, E, D>(
-        &self,
-        rt: &R,
-        streams: &mut Streams<'_, '_, I, O, D>,
-        errors: &mut E,
-    ) -> Result<Done, Stop>
-    where
-        R: Files + Clock + RandomSource + AllocGlobal,
-        I: BufRead,
-        O: Write,
-        E: Write,
-        D: Database<R>,
-        ensures { IfOk result (λ done. IsDone self.now done) }
+impl<R: System, I: BufRead, O: Write, E: Write, B: Backend<R>> Process<'_, R, I, O, E, B> {
+    /// Does a task.
+    pub fn run(&mut self, task: &Task<'_, '_>) -> Result<Done, Stop>
+        ensures { IfOk result (λ done. IsDone task.now done) }
     {
-        match self {
-            Task::Client(login) => log_in(rt, login, streams.input, streams.output),
-            Task::Server(service) => {
-                let db = streams.db;
-                serve(rt, db, service, streams.input, streams.output, errors)
-            }
-            Task::Check(named) => {
-                let password = input::password(rt.alloc(), streams.input)?;
-                check(rt, streams.db, named, password, streams.output)
-            }
+        match task {
+            Task::Client(login) => self.log_in(login),
+            Task::Server(service) => self.serve(service),
+            Task::Check(named) => self.check(named),
             other => {
-                other.run_other(rt, streams, errors)?;
+                self.run_other(other)?;
                 Ok(Done::Other)
             }
         }
     }
 
     /// Does a task that is no login and no check.
-    fn run_other<R, I, O, E, D>(
-        &self,
-        rt: &R,
-        streams: &mut Streams<'_, '_, I, O, D>,
-        errors: &mut E,
-    ) -> Result<(), Stop>
-    where
-        R: Files + Clock + RandomSource + AllocGlobal,
-        I: BufRead,
-        O: Write,
-        E: Write,
-        D: Database<R>,
-    {
-        let (alloc, db) = (rt.alloc(), streams.db);
-        match self {
-            Task::Record(version, record) => {
-                let password = input::password(alloc, streams.input)?;
-                record::print(rt, *version, record, password.as_str(), streams.output)
+    fn run_other(&mut self, task: &Task<'_, '_>) -> Result<(), Stop> {
+        match task {
+            Task::Record(version, record) => self.print_record(*version, record),
+            Task::Add(named, record, force) => {
+                test_name(named.name, *force)?;
+                self.put(named, false, record)
             }
-            Task::Add(named, record) => {
-                let password = input::password(alloc, streams.input)?;
-                add(
-                    rt,
-                    db,
-                    named,
-                    record,
-                    password.as_str(),
-                    streams.output,
-                    errors,
-                )
+            Task::ChangePassword(named, record) => self.put(named, true, record),
+            Task::Remove(named) => self.remove(named),
+            Task::List(named, how) => self.print_records(named, *how),
+            Task::Import(named, dry_run) => self.import(named, *dry_run),
+            Task::ListHashes(named) => self.list_hashes(named),
+            Task::CheckFile(named) => self.check_file(named),
+            Task::Explain(frames) => {
+                let (input, output) = (&mut self.input, &mut self.output);
+                explain(self.rt.alloc(), *frames, input, output)
             }
-            Task::ChangePassword(named, record) => {
-                let password = input::password(alloc, streams.input)?;
-                change_password(
-                    rt,
-                    db,
-                    named,
-                    record,
-                    password.as_str(),
-                    streams.output,
-                    errors,
-                )
+            Task::Audit(file, limit) => {
+                self.backend
+                    .audit(self.rt, file, *limit, &mut self.input, &mut self.output)
             }
-            Task::Remove(named) => remove(rt, db, named, streams.output),
-            Task::List(listed) => list(rt, db, listed, streams.output),
-            Task::ListHashes(listed) => list_hashes(rt, db, listed, streams.output),
-            Task::CheckFile(listed) => check_file(rt, db, listed, streams.output),
-            Task::Explain(frames) => explain(alloc, *frames, streams.input, streams.output),
-            Task::Man => man::print(streams.output).map_err(Stop::of_output),
+            Task::Man => man::print(&mut self.output).map_err(Stop::of_output),
             Task::Client(_) | Task::Server(_) | Task::Check(_) => Ok(()),
         }
     }
+
+    /// Reads a password to store. At a terminal it is asked for twice.
+    pub(crate) fn new_password(&mut self) -> Result<SecretText, Stop> {
+        let alloc = self.rt.alloc();
+        let password = input::password(alloc, &mut self.input, Unassigned::Refused)?;
+        if self.is_terminal {
+            ask("The same password again: ", &mut self.errors);
+            let again = input::password(alloc, &mut self.input, Unassigned::Refused)?;
+            if again.as_str() != password.as_str() {
+                return Err(Stop::OtherPasswords);
+            }
+        }
+        Ok(password)
+    }
+}
+
+/// Asks for a line at a terminal. The program reads on, whether or not that can be written.
+pub(crate) fn ask<E: Write>(question: &str, errors: &mut E) {
+    let _ = errors.write_all(question.as_bytes());
+    let _ = errors.flush();
+}
+
+/// Checks that a name is not empty and has no spaces at its ends, unless `force` is set.
+fn test_name(name: &str, force: bool) -> Result<(), Stop>
+    ensures forced { force ≡ true → IsOk result }
+    ensures err { IfErr result (λ stop. stop ≡ Stop.OddName) }
+{
+    if !force && (name.is_empty() || name.trim().len() != name.len()) {
+        return Err(Stop::OddName);
+    }
+    Ok(())
 }
 
 /// Returns the arguments of `client`.
@@ -261,14 +225,15 @@ fn login<'a>(matches: &ArgMatches<'a>) -> Login<'a>
         → result.channel_not_offered ≡ true }
     ensures strict { (one_text (found_of matches.now) (codes "strict") ≡ Some (codes "true"))
         → result.strict ≡ true }
+    ensures default_min { one_text (found_of matches.now) (codes "min-iterations") ≡ None → result.min_iterations ≡ 4096 }
+    ensures typed_min { (text : List ℕ) → one_text (found_of matches.now) (codes "min-iterations") ≡ Some text
+        → IsCountOf text 4096 result.min_iterations }
 {
     Login {
         version: version_of(matches, "M").unwrap_or(ScramVersion::Sha256),
         user: text(matches, "USER"),
         acts_for: matches.get_str("acts-for"),
-        min_iterations: matches
-            .get_one::<u32>("min-iterations")
-            .unwrap_or(DEFAULT_SCRAM_ITERATIONS),
+        min_iterations: count_of(matches, "min-iterations", DEFAULT_SCRAM_ITERATIONS),
         max_iterations: max_iterations(matches),
         keys: matches.get_str("keys"),
         channel: matches.get_str("channel"),
@@ -281,9 +246,15 @@ fn login<'a>(matches: &ArgMatches<'a>) -> Login<'a>
 
 /// Returns the maximum iteration count, or its default.
 fn max_iterations(matches: &ArgMatches<'_>) -> u32 {
-    matches
-        .get_one::<u32>("max-iterations")
-        .unwrap_or(1_000_000)
+    count_of(matches, "max-iterations", 1_000_000)
+}
+
+/// Returns the number of an option, or this one if the option is absent.
+fn count_of(matches: &ArgMatches<'_>, id: &str, otherwise: u32) -> u32
+    ensures absent { one_text (found_of matches.now) id.now ≡ None → result ≡ otherwise }
+    ensures typed { (text : List ℕ) → one_text (found_of matches.now) id.now ≡ Some text → IsCountOf text otherwise result }
+{
+    matches.get_one::<u32>(id).unwrap_or(otherwise)
 }
 
 /// Returns the arguments of `server`.
@@ -333,14 +304,6 @@ fn new_record<'a>(matches: &ArgMatches<'a>) -> NewRecord<'a> {
     }
 }
 
-/// Returns the file to list.
-fn listed<'a>(matches: &ArgMatches<'a>) -> Listed<'a> {
-    Listed {
-        file: text(matches, "FILE"),
-        is_db: matches.get_flag("db"),
-    }
-}
-
 /// Returns the file, the user name and the mechanism, if any.
 fn named<'a>(matches: &ArgMatches<'a>) -> Named<'a>
     ensures { first_value (found_of matches.now) (codes "mechanism") ≡ None → result.version ≡ None }
@@ -369,21 +332,16 @@ fn password_of<'a>(matches: &ArgMatches<'a>) -> Named<'a>
 
 /// Returns whether `--echo` is given, or `None` for a command that reads no password.
 pub fn echo_of(matches: &ArgMatches<'_>) -> Option<bool> {
-    match matches.subcommand() {
-        Some(("users", found)) => echo_of_users(found),
-        Some(("record" | "client", found)) => Some(found.get_flag("echo")),
-        Some(("explain", found)) if found.get_str("audit").is_some() => {
+    let found = match matches.subcommand() {
+        Some(("users", found)) => found.subcommand(),
+        found => found,
+    };
+    match found? {
+        ("check", found) if !found.contains_id("NAME") => None,
+        ("explain", found) if found.get_str("audit").is_none() => None,
+        ("record" | "client" | "explain" | "add" | "passwd" | "check", found) => {
             Some(found.get_flag("echo"))
         }
-        _ => None,
-    }
-}
-
-/// Returns whether `--echo` is given to a command of `users`, or `None` if the command reads no password.
-fn echo_of_users(matches: &ArgMatches<'_>) -> Option<bool> {
-    match matches.subcommand() {
-        Some(("check", found)) if !found.contains_id("NAME") => None,
-        Some(("add" | "passwd" | "check", found)) => Some(found.get_flag("echo")),
         _ => None,
     }
 }

@@ -9,50 +9,35 @@ ghost use Rattle.scram_lib.specs.private.Passwords.{IsAsked, Tells, TellsEach};
 
 pub mod alike;
 pub mod changes;
+pub mod export;
+pub mod import;
 pub mod source;
 
 use crate::done::Done;
 use crate::record::NewRecord;
+use crate::task::Process;
 use crate::users::changes::{Put, Taken};
-use fe2o3_scram::secrets::SecretText;
 use fe2o3_scram::{Meter, MultiRecordStore, Password, ScramCredentialProvider, ScramVersion};
-use scram_base_lib::database::Database;
-use scram_base_lib::lines;
-use scram_base_lib::lines::UserLine;
-use scram_base_lib::shown::shown;
+use saslprep::Unassigned;
+use scram_base_lib::backend::Backend;
 use scram_base_lib::stop::Stop;
+use scram_base_lib::store::System;
+use scram_base_lib::{input, store};
 use std::alloc::Global;
-use std::io::{Result as Written, Write};
-use std::random::RandomSource;
-use std::rt::{Clock, Files};
+use std::io::{BufRead, Write};
 
-/// A user of a file, for one mechanism or for all.
+/// A file, and a user of it, for one mechanism or for all. A command of the whole file has no user: the name is empty.
 #[derive(Clone, Copy)]
 pub struct Named<'a> {
-    /// The file.
     pub file: &'a str,
-
     /// Whether the file is a database.
     pub is_db: bool,
-
     /// The user name, not escaped.
     pub name: &'a str,
-
     /// The mechanism, or `None` for those of the command: of `add` the two that servers offer by default, otherwise all.
     pub version: Option<ScramVersion>,
-
     /// How long a change waits for another one, in seconds.
     pub wait: u32,
-}
-
-/// A file of records to list.
-#[derive(Clone, Copy)]
-pub struct Listed<'a> {
-    /// The file.
-    pub file: &'a str,
-
-    /// Whether the file is a database.
-    pub is_db: bool,
 }
 
 /// The versions, in the order in which `check` prints their answers.
@@ -62,94 +47,60 @@ static VERSIONS: [ScramVersion; 3] = [
     ScramVersion::Sha512,
 ];
 
-/// Adds a user's records at the end of the file, or replaces those for the same mechanisms.
-pub fn add<R, O, E, D>(
-    rt: &R,
-    db: &D,
-    named: &Named<'_>,
-    record: &NewRecord<'_>,
-    password: &str,
-    output: &mut O,
-    errors: &mut E,
-) -> Result<(), Stop>
-where
-    R: Files + Clock + RandomSource + AllocGlobal,
-    O: Write,
-    E: Write,
-    D: Database<R>,
-{
-    put(
-        rt,
-        db,
-        named,
-        &Put::of(named, false, password, record),
-        output,
-        errors,
-    )
-}
+impl<R: System, I: BufRead, O: Write, E: Write, B: Backend<R>> Process<'_, R, I, O, E, B> {
+    /// Reads a password, makes new records of a user, and prints what the change did. The errors get what to look at. Records
+    /// for the same mechanisms are replaced; `must_exist` says that there has to be one.
+    pub(crate) fn put(
+        &mut self,
+        named: &Named<'_>,
+        must_exist: bool,
+        record: &NewRecord<'_>,
+    ) -> Result<(), Stop> {
+        let password = self.new_password()?;
+        let put = Put {
+            name: named.name,
+            version: named.version,
+            must_exist,
+            password: password.as_str(),
+            asked: *record,
+        };
+        let changed = self.make_change(named, &put)?;
+        report(changed.done, &mut self.output)?;
+        // The file is changed, whether or not that can be written.
+        let _ = self.errors.write_all(changed.notes.as_bytes());
+        tell_others(
+            self.rt.alloc(),
+            &changed.text,
+            named.name,
+            put.password,
+            &mut self.errors,
+        )
+    }
 
-/// Changes the password in a user's records, and adds those that `add` makes where they are missing.
-pub fn change_password<R, O, E, D>(
-    rt: &R,
-    db: &D,
-    named: &Named<'_>,
-    record: &NewRecord<'_>,
-    password: &str,
-    output: &mut O,
-    errors: &mut E,
-) -> Result<(), Stop>
-where
-    R: Files + Clock + RandomSource + AllocGlobal,
-    O: Write,
-    E: Write,
-    D: Database<R>,
-{
-    put(
-        rt,
-        db,
-        named,
-        &Put::of(named, true, password, record),
-        output,
-        errors,
-    )
-}
+    /// Removes a user's records.
+    pub(crate) fn remove(&mut self, named: &Named<'_>) -> Result<(), Stop> {
+        let taken = Taken {
+            version: named.version,
+        };
+        let changed = self.make_change(named, &taken)?;
+        report(changed.done, &mut self.output)
+    }
 
-/// Makes new records of a user, and prints what the change did. The errors get what to look at.
-fn put<R, O, E, D>(
-    rt: &R,
-    db: &D,
-    named: &Named<'_>,
-    put: &Put<'_>,
-    output: &mut O,
-    errors: &mut E,
-) -> Result<(), Stop>
-where
-    R: Files + Clock + RandomSource + AllocGlobal,
-    O: Write,
-    E: Write,
-    D: Database<R>,
-{
-    let changed = source::make_change(rt, db, named, put)?;
-    report(changed.done, output)?;
-    // The file is changed, whether or not that can be written.
-    let _ = errors.write_all(changed.notes.as_bytes());
-    tell_others(rt.alloc(), &changed.text, named.name, put.password, errors)
-}
-
-/// Removes a user's records.
-pub fn remove<R: Files + Clock + RandomSource + AllocGlobal, O: Write, D: Database<R>>(
-    rt: &R,
-    db: &D,
-    named: &Named<'_>,
-    output: &mut O,
-) -> Result<(), Stop> {
-    let name = lines::escaped(rt.alloc(), named.name)?;
-    let taken = Taken {
-        name,
-        version: named.version,
-    };
-    let changed = source::make_change(rt, db, named, &taken)?;
-    report(changed.done, output)
+    /// Reads a password, checks it against the first record of the user for each mechanism, and prints the answers.
+    pub(crate) fn check(&mut self, named: &Named<'_>) -> Result<Done, Stop>
+        ensures { IfOk result (λ done. HasChecked named.now done) }
+    {
+        let (rt, backend) = (self.rt, self.backend);
+        let password = input::password(rt.alloc(), &mut self.input, Unassigned::Allowed)?;
+        let text = if named.is_db {
+            backend.lines_of(rt, named.file, named.name, None)?
+        } else {
+            store::read(rt, named.file)?
+        };
+        let output = &mut self.output;
+        check_text(rt.alloc(), &text, named, password.as_str(), output)?;
+        Ok(Done::Check(text, password))
+    }
 }
 
 /// Prints what a change did.
@@ -165,8 +116,7 @@ fn tell_others<E: Write>(
     password: &str,
     errors: &mut E,
 ) -> Result<(), Stop> {
-    let own = lines::of_user(alloc, text, name)?;
-    let users = MultiRecordStore::parse_lines(alloc, &own)?;
+    let users = MultiRecordStore::parse_lines(alloc, text)?;
     for version in &VERSIONS {
         if answer(&users, None, name, password, *version) == Some(false) {
             let mechanism = version.mechanism();
@@ -178,52 +128,6 @@ fn tell_others<E: Write>(
         }
     }
     Ok(())
-}
-
-/// Prints the mechanism, the iteration count and the name of each line.
-pub fn list<R: Files + AllocGlobal, O: Write, D: Database<R>>(
-    rt: &R,
-    db: &D,
-    listed: &Listed<'_>,
-    output: &mut O,
-) -> Result<(), Stop> {
-    let text = source::lines(rt, db, listed)?;
-    lines::test(rt.alloc(), &text)?;
-    for line in text.lines() {
-        print_line(rt.alloc(), line, output)?;
-    }
-    Ok(())
-}
-
-/// Prints the mechanism, the iteration count and the name of a line. The name is as `remove` takes it in a shell.
-fn print_line<O: Write>(alloc: Global, line: &str, output: &mut O) -> Result<(), Stop> {
-    let line = UserLine::of(line);
-    let name = lines::unescaped(alloc, line.name)?;
-    let name = shown(alloc, name.as_bytes())?;
-    print_parts(&line, &name, output).map_err(Stop::of_output)
-}
-
-/// Prints the parts of a line.
-fn print_parts<O: Write>(line: &UserLine<'_>, name: &[u8], output: &mut O) -> Written<()> {
-    let (mechanism, iterations) = (line.mechanism, line.iterations);
-    write!(output, "{mechanism} {iterations} ")?;
-    output.write_all(name)?;
-    output.write_all(b"\n")
-}
-
-/// Checks the password against the first record of the user for each mechanism, and prints the answers.
-pub fn check<R: Files + AllocGlobal, O: Write, D: Database<R>>(
-    rt: &R,
-    db: &D,
-    named: &Named<'_>,
-    password: SecretText,
-    output: &mut O,
-) -> Result<Done, Stop>
-    ensures { IfOk result (λ done. HasChecked named.now done) }
-{
-    let text = source::lines_for(rt, db, named)?;
-    check_text(rt.alloc(), &text, named, password.as_str(), output)?;
-    Ok(Done::Check(text, password))
 }
 
 /// Checks the password against the first record of the user in a text for each mechanism, and prints the answers.
@@ -245,28 +149,11 @@ fn answers(users: &MultiRecordStore, named: &Named<'_>, password: &str) -> [Opti
     ensures { TellsEach users.now named.now.version named.now.name.now password.now
         (Sha1 ∷ Sha256 ∷ Sha512 ∷ []) result }
 {
+    let (asked, name) = (named.version, named.name);
     [
-        answer(
-            users,
-            named.version,
-            named.name,
-            password,
-            ScramVersion::Sha1,
-        ),
-        answer(
-            users,
-            named.version,
-            named.name,
-            password,
-            ScramVersion::Sha256,
-        ),
-        answer(
-            users,
-            named.version,
-            named.name,
-            password,
-            ScramVersion::Sha512,
-        ),
+        answer(users, asked, name, password, ScramVersion::Sha1),
+        answer(users, asked, name, password, ScramVersion::Sha256),
+        answer(users, asked, name, password, ScramVersion::Sha512),
     ]
 }
 
@@ -285,7 +172,7 @@ fn answer(
         return None;
     }
     let kept = users.for_version(version).get_stored_password(name)?;
-    Some(kept.verify_password(version, Password::Typed(password), &mut Meter::new()))
+    Some(kept.verify_password(version, Password::Prepared(password), &mut Meter::new()))
 }
 
 /// Returns whether a version is asked for. `None` asks for all.

@@ -1,9 +1,10 @@
 //! A mock system for the tests: files in memory, one call of which can fail, and known random bytes.
 
 use crate::streams::tell_lines;
+use scram_base_lib::store::Locks;
 use std::alloc::Global;
 use std::cell::Cell;
-use std::fs::{Metadata, OpenFile, OpenOptions, Permissions};
+use std::fs::{Metadata, OpenFile, OpenOptions, Permissions, TryLockError};
 use std::io::{Error, ErrorKind, Read, Result, Seek, SeekFrom, Write};
 use std::os::unix::fs::PermissionsExt;
 use std::random::RandomSource;
@@ -211,7 +212,6 @@ impl Files for Disk {
         self.system.count()?;
         let node = match self.find(path) {
             Ok(_) if how.asks_create_new() => return Err(Error::from(ErrorKind::AlreadyExists)),
-            Ok(_) if how.asks_write() => return unsupported(),
             Err(_) if how.asks_create_new() => self.insert(path, 0)?,
             found => found?,
         };
@@ -277,6 +277,21 @@ impl Files for Disk {
 
     fn remove_dir_all<B: std::alloc::Allocator>(&self, _alloc: B, _path: &str) -> Result<()> {
         unsupported()
+    }
+}
+
+impl Locks for Disk {
+    /// Locks a file, unless its text says that it is locked.
+    fn try_lock(&self, file: &Open) -> std::result::Result<(), TryLockError> {
+        self.system.count().map_err(TryLockError::Error)?;
+        let bytes = file.node.bytes.replace(Vec::new(self.alloc()));
+        let is_locked = bytes.as_slice() == b"locked\n".as_slice();
+        file.node.bytes.set(bytes);
+        if is_locked {
+            Err(TryLockError::WouldBlock)
+        } else {
+            Ok(())
+        }
     }
 }
 

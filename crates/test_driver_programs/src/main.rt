@@ -2,6 +2,7 @@
 #![tactic(auto)]
 
 mod disk;
+mod no_database;
 mod paragraphs;
 mod runs;
 mod streams;

@@ -1,12 +1,14 @@
 //! Runs of a program, and what each prints.
 
+use crate::disk::Disk;
+use crate::no_database::NoDatabase;
 use crate::paragraphs::{Run, read};
-use crate::streams::{End, tell_lines};
+use crate::streams::{End, Output, tell_lines};
 use example_broker_lib::log_in;
-use sasl_lab_lib::sides::audit;
-use scram_base_lib::database::NoDatabase;
+use scram_lib::task::Process;
 use std::fs::Metadata;
 use std::io::{BufRead, BufReader, Read, Result, Write};
+use std::mem::replace;
 use test_rows::Row;
 
 /// Answers the run of a paragraph. If the paragraph says so, each call of files and of random bytes fails in turn, and
@@ -58,7 +60,7 @@ fn play(run: &mut Run, piece: usize) -> Result<String> {
     let alloc = run.disk.alloc();
     let input = run.input.clone()?;
     let input = input.as_slice().chain(End(run.fault));
-    let status = run_program(run, &mut BufReader::with_capacity(alloc, piece, input)?)?;
+    let status = run_program(run, BufReader::with_capacity(alloc, piece, input)?)?;
     let mut told = String::new(alloc);
     if run.is_binary {
         let digits = hex::encode(alloc, run.output.written.as_slice())?;
@@ -81,7 +83,7 @@ fn play(run: &mut Run, piece: usize) -> Result<String> {
 }
 
 /// Runs the program that the first word names, and returns its status.
-fn run_program<I: BufRead>(run: &mut Run, input: &mut I) -> Result<u8> {
+fn run_program<I: BufRead + Drop>(run: &mut Run, mut input: I) -> Result<u8> {
     let (name, words) = match run.words.as_slice() {
         [name, words @ ..] => (name.as_str(), words),
         [] => return Ok(0),
@@ -90,7 +92,7 @@ fn run_program<I: BufRead>(run: &mut Run, input: &mut I) -> Result<u8> {
     match name {
         "example_broker" => {
             let records = words.first().map_or("", |word| word.as_str());
-            match log_in(&run.disk, records, words.len() > 1, input, output) {
+            match log_in(&run.disk, records, words.len() > 1, &mut input, output) {
                 Ok((user, wrong)) => {
                     writeln!(errors, "{user:?} logged in, after {wrong} wrong logins")?;
                     Ok(0)
@@ -98,10 +100,38 @@ fn run_program<I: BufRead>(run: &mut Run, input: &mut I) -> Result<u8> {
                 Err(_) => Ok(1),
             }
         }
-        "sasl_lab" => Ok(sasl_lab_lib::run(run.disk.alloc(), words, input, output, errors)),
+        "sasl_lab" => Ok(sasl_lab_lib::run(run.disk.alloc(), words, &mut input, output, errors)),
         _ => {
-            let (disk, words, tty, none) = (&run.disk, &run.words, run.is_terminal, &NoDatabase);
-            Ok(scram_lib::run(disk, words, tty, input, output, errors, audit, none))
+            let alloc = run.disk.alloc();
+            let output = replace(output, Output::new(alloc));
+            let errors = replace(errors, Output::new(alloc));
+            let (disk, tty) = (&run.disk, run.is_terminal);
+            let (status, output, errors) = run_scram(disk, &run.words, tty, input, output, errors);
+            run.output = output;
+            run.errors = errors;
+            Ok(status)
         }
     }
+}
+
+/// Runs `scram` over streams of its own. Returns its status, and what it has written.
+fn run_scram<I: BufRead + Drop>(
+    disk: &Disk,
+    words: &[String],
+    is_terminal: bool,
+    input: I,
+    output: Output,
+    errors: Output,
+) -> (u8, Output, Output) {
+    let mut process = Process {
+        rt: disk,
+        backend: &NoDatabase,
+        is_terminal,
+        input,
+        output,
+        errors,
+    };
+    let status = scram_lib::run(words, &mut process);
+    let Process { output, errors, .. } = process;
+    (status, output, errors)
 }

@@ -209,7 +209,7 @@ fn array_of(bytes: &[u8]) -> Option<[u8; 32]>
 }
 
 /// Returns whether a server sends the frame (AMQP 1.0, part 5, section 5.3.2).
-fn is_of_server(view: &FrameView<'_>) -> bool {
+pub fn is_of_server(view: &FrameView<'_>) -> bool {
     match view {
         FrameView::Mechanisms(_) | FrameView::Challenge(_) | FrameView::Outcome { .. } => true,
         FrameView::Init { .. } | FrameView::Response(_) => false,

@@ -2,10 +2,11 @@
 
 ghost use Rattle.std.specs.Prelude.{◌≡◌, ◌++◌, ◌↔◌, IfErr, IfOk, IfSome, IsOk, OnOk, flat_map, map, option_map, true};
 ghost use Rattle.std.specs.List.{list_all};
-ghost use Rattle.scram_lib.specs.Acting.{AreRightsOf, names_both, right_identity, right_by, right_user};
+ghost use Rattle.scram_lib.specs.Acting.{AreRightsOf, names_both, right_by};
 
 use crate::server::Service;
 use fe2o3_scram::{ActingRights, OutOfMemory};
+use scram_base_lib::channel::parts_of;
 use scram_base_lib::stop::Stop;
 use std::alloc::Global;
 
@@ -95,15 +96,4 @@ fn names_both(word: &str) -> bool
 {
     let (user, identity) = parts_of(word);
     !user.is_empty() && !identity.is_empty()
-}
-
-/// Splits an argument at its first colon. Without a colon the identity is empty.
-fn parts_of(word: &str) -> (&str, &str)
-    ensures user { result.0.now ≡ right_user word.now }
-    ensures identity { result.1.now ≡ right_identity word.now }
-{
-    match word.split_once(':') {
-        Some(parts) => parts,
-        None => (word, ""),
-    }
 }

@@ -1,43 +1,52 @@
 //! Whether the records of a file look alike: `users check` without a name, and `users list --hashes`.
 
 use crate::form::Form;
-use crate::users::{Listed, VERSIONS, source};
+use crate::task::Process;
+use crate::users::{Named, VERSIONS};
 use fe2o3_scram::{MultiRecordStore, ScramVersion};
-use scram_base_lib::database::Database;
+use scram_base_lib::backend::Backend;
 use scram_base_lib::lines;
 use scram_base_lib::lines::UserLine;
 use scram_base_lib::shown::shown;
 use scram_base_lib::stop::Stop;
+use scram_base_lib::store::System;
 use std::alloc::Global;
 use std::collections::BTreeSet;
-use std::io::Write;
-use std::rt::Files;
+use std::io::{BufRead, Write};
 
-/// Prints each record that has another form than the first for its mechanism, and each user without a record for a
-/// mechanism that others have. Returns an error if there is one.
-pub fn check_file<R: Files + AllocGlobal, O: Write, D: Database<R>>(
-    rt: &R,
-    db: &D,
-    listed: &Listed<'_>,
-    output: &mut O,
-) -> Result<(), Stop> {
-    let alloc = rt.alloc();
-    let text = source::lines(rt, db, listed)?;
-    let users = MultiRecordStore::parse_lines(alloc, &text)?;
-    let mut names = BTreeSet::new(alloc);
-    let mut is_alike = true;
-    for line in text.lines() {
-        let line = UserLine::of(line);
-        is_alike &= check_form(alloc, &users, &line, output)?;
-        let is_new = names.insert(line.name).map_err(|_| Stop::OutOfMemory)?;
-        if is_new {
-            is_alike &= check_hashes(alloc, &users, line.name, output)?;
+impl<R: System, I: BufRead, O: Write, E: Write, B: Backend<R>> Process<'_, R, I, O, E, B> {
+    /// Prints each record that has another form than the first for its mechanism, and each user without a record for a
+    /// mechanism that others have. Returns an error if there is one.
+    pub(crate) fn check_file(&mut self, named: &Named<'_>) -> Result<(), Stop> {
+        let alloc = self.rt.alloc();
+        let text = self.lines(named)?;
+        let users = lines::parse(alloc, &text)?;
+        let mut names = BTreeSet::new(alloc);
+        let mut is_alike = true;
+        for line in text.lines() {
+            let line = UserLine::of(line);
+            is_alike &= check_form(alloc, &users, &line, &mut self.output)?;
+            if names.insert(line.name)? {
+                is_alike &= check_hashes(alloc, &users, line.name, &mut self.output)?;
+            }
+        }
+        if is_alike {
+            Ok(())
+        } else {
+            Err(Stop::NotAlike)
         }
     }
-    if is_alike {
+
+    /// Prints the mechanisms for which each user of a file has a record. Of a file without users, none is printed.
+    pub(crate) fn list_hashes(&mut self, named: &Named<'_>) -> Result<(), Stop> {
+        let users = lines::parse(self.rt.alloc(), &self.lines(named)?)?;
+        for version in &VERSIONS {
+            let own = users.for_version(*version);
+            if own.first_stored_password().is_some() && users.all_have(*version) {
+                writeln!(self.output, "{}", version.mechanism()).map_err(Stop::of_output)?;
+            }
+        }
         Ok(())
-    } else {
-        Err(Stop::NotAlike)
     }
 }
 
@@ -100,39 +109,4 @@ fn print<O: Write>(
     line.extend_from_slice(said.as_bytes())?;
     line.push(b'\n')?;
     output.write_all(&line).map_err(Stop::of_output)
-}
-
-/// Prints the mechanisms for which each user of a file has a record. Of a file without users, none is printed.
-pub fn list_hashes<R: Files + AllocGlobal, O: Write, D: Database<R>>(
-    rt: &R,
-    db: &D,
-    listed: &Listed<'_>,
-    output: &mut O,
-) -> Result<(), Stop> {
-    let alloc = rt.alloc();
-    let text = source::lines(rt, db, listed)?;
-    let users = MultiRecordStore::parse_lines(alloc, &text)?;
-    for version in &VERSIONS {
-        if all_have(alloc, &users, &text, *version)? {
-            writeln!(output, "{}", version.mechanism()).map_err(Stop::of_output)?;
-        }
-    }
-    Ok(())
-}
-
-/// Returns whether there is a user, and each user of these lines has a record for a version.
-fn all_have(
-    alloc: Global,
-    users: &MultiRecordStore,
-    text: &str,
-    version: ScramVersion,
-) -> Result<bool, Stop> {
-    let own = users.for_version(version);
-    for line in text.lines() {
-        let name = lines::unescaped(alloc, UserLine::of(line).name)?;
-        if own.record(&name).is_none() {
-            return Ok(false);
-        }
-    }
-    Ok(own.first_stored_password().is_some())
 }

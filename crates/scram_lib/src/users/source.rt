@@ -1,49 +1,41 @@
 //! Where the records of a command are: in a file of lines or in a database.
 
-use crate::users::{Listed, Named};
-use scram_base_lib::database::{Database, WAIT};
+use crate::task::Process;
+use crate::users::Named;
+use scram_base_lib::backend::{Backend, WAIT};
 use scram_base_lib::stop::Stop;
-use scram_base_lib::store;
-use scram_base_lib::store::{Change, Changed};
-use std::random::RandomSource;
-use std::rt::{Clock, Files};
+use scram_base_lib::store::{Change, Changed, System};
+use scram_base_lib::{lines, store};
+use std::io::{BufRead, Write};
 
-/// Makes a change of a user's records.
-pub fn make_change<R, D, C>(rt: &R, db: &D, named: &Named<'_>, change: &C) -> Result<Changed, Stop>
-where
-    R: Files + Clock + RandomSource + AllocGlobal,
-    D: Database<R>,
-    C: Change,
-{
-    if !named.is_db {
-        return store::make_change(rt, named.file, named.wait, change);
-    }
-    let wait = if named.wait == 0 { WAIT } else { named.wait };
-    db.make_change(rt, named.file, wait, named.name, change)
-}
-
-/// Returns lines with all records of a user.
-pub fn lines_for<R: Files + AllocGlobal, D: Database<R>>(
-    rt: &R,
-    db: &D,
-    named: &Named<'_>,
-) -> Result<String, Stop> {
-    if named.is_db {
-        db.lines_of(rt, named.file, named.name, None)
-    } else {
-        store::read(rt, named.file)
+impl Named<'_> {
+    /// Returns how long a change of a database waits, in seconds.
+    pub(crate) fn database_wait(&self) -> u32 {
+        if self.wait == 0 { WAIT } else { self.wait }
     }
 }
 
-/// Returns the lines of all records.
-pub fn lines<R: Files + AllocGlobal, D: Database<R>>(
-    rt: &R,
-    db: &D,
-    listed: &Listed<'_>,
-) -> Result<String, Stop> {
-    if listed.is_db {
-        db.lines(rt, listed.file)
-    } else {
-        store::read(rt, listed.file)
+impl<R: System, I: BufRead, O: Write, E: Write, B: Backend<R>> Process<'_, R, I, O, E, B> {
+    /// Makes a change of a user's records.
+    pub(crate) fn make_change<C: Change>(
+        &mut self,
+        named: &Named<'_>,
+        change: &C,
+    ) -> Result<Changed, Stop> {
+        if !named.is_db {
+            return lines::make_change(self.rt, named.file, named.wait, named.name, change);
+        }
+        let wait = named.database_wait();
+        self.backend
+            .make_change(self.rt, named.file, wait, named.name, change)
+    }
+
+    /// Returns the lines of all records.
+    pub(crate) fn lines(&self, named: &Named<'_>) -> Result<String, Stop> {
+        if named.is_db {
+            self.backend.lines(self.rt, named.file)
+        } else {
+            store::read(self.rt, named.file)
+        }
     }
 }

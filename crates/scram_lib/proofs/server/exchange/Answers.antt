@@ -16,7 +16,6 @@ returns g c =
     let given = c.in_ok-conclude.ensures in
     record {
       nonce = c.args.nonce.now;
-      first = c.args.message.now;
       challenge = c.in_ok-challenge.ensures.opens.0;
       opened = state;
       final = given.0;

@@ -1,15 +1,16 @@
-//! A database of users, which the caller of the commands opens.
+//! What other crates supply to the commands: databases of users, and the audit.
 
-use crate::database_fault::DatabaseFault;
 use crate::stop::Stop;
 use crate::store::{Change, Changed};
 use fe2o3_scram::ScramVersion;
+use std::io::{BufRead, Write};
 
 /// How long a command waits for another one that has the database open, in seconds.
 pub const WAIT: u32 = 5;
 
-/// A database of users. Its records are read and changed as the lines of a file of records. No call keeps it open.
-pub trait Database<R> {
+/// Databases of users, and the audit. The records of a database are read and changed as the lines of a file of records. No
+/// call keeps it open.
+pub trait Backend<R> {
     /// Returns the lines of a user's records, for one mechanism or for all. The name is not escaped.
     fn lines_of(
         &self,
@@ -35,42 +36,18 @@ pub trait Database<R> {
         name: &str,
         change: &C,
     ) -> Result<Changed, Stop>;
-}
 
-/// No database: each call returns an error.
-#[derive(Clone, Copy)]
-pub struct NoDatabase;
+    /// Adds the records of these lines, or replaces those for the same names and mechanisms, all of them or none. Waits
+    /// like [`Backend::make_change`]. Returns a line for each, of [`push_report`](crate::lines::push_report).
+    fn import(&self, rt: &R, file: &str, wait: u32, lines: &str) -> Result<Vec<u8>, Stop>;
 
-/// What [`NoDatabase`] returns.
-const NONE: Stop = Stop::Database(DatabaseFault::NoDatabases);
-
-impl<R> Database<R> for NoDatabase {
-    fn lines_of(
+    /// Audits both sides of a login against a file of users, for a client that accepts this many iterations.
+    fn audit<I: BufRead, O: Write>(
         &self,
-        _rt: &R,
-        _file: &str,
-        _name: &str,
-        _version: Option<ScramVersion>,
-    ) -> Result<String, Stop> {
-        Err(NONE)
-    }
-
-    fn first_line(&self, _rt: &R, _file: &str, _version: ScramVersion) -> Result<String, Stop> {
-        Err(NONE)
-    }
-
-    fn lines(&self, _rt: &R, _file: &str) -> Result<String, Stop> {
-        Err(NONE)
-    }
-
-    fn make_change<C: Change>(
-        &self,
-        _rt: &R,
-        _file: &str,
-        _wait: u32,
-        _name: &str,
-        _change: &C,
-    ) -> Result<Changed, Stop> {
-        Err(NONE)
-    }
+        rt: &R,
+        file: &str,
+        max_iterations: u32,
+        input: &mut I,
+        output: &mut O,
+    ) -> Result<(), Stop>;
 }
