@@ -33,7 +33,7 @@ EXCEPT = {
     "ScramClient::conclude_without_data": "its answer depends on the state only",
     "Endpoint::answer": "ConnectionSide::receive makes it",
     "RecordStore::clone": "a clone shares the users and requests nothing",
-    "PlainTest::logs_in": "Server makes it, and runs out of memory in rows of PLAIN",
+    "PlainTest::logs_in": "Server makes it",
     "SingleMessage::clone": "SaslProfile::clone makes it",
     "ServerExchange::open": "ScramAuthenticator::compute_server_first_message makes it",
     "ServerExchange::conclude": "ScramAuthenticator::compute_server_final_message makes it",
