@@ -495,8 +495,10 @@ def changed_by_sqlite(folder):
         ended, changes, states = threading.Event(), [], set()
         thread = threading.Thread(target=change_all, args=(path, mode, ended, changes))
         thread.start()
-        for _ in range(40):
-            status, listed, errors = scram("users", "list", "--db", path)
+        looked, end = 0, time.monotonic() + SECONDS
+        while looked < 40 or min(len(states), len(changes)) < 4 and time.monotonic() < end:
+            looked += 1
+            status, listed, errors = scram("users", "export", "--db", path)
             assert status == 0, errors
             users = {re.sub("user[0-9]{7}", "", line) for line in listed.splitlines()}
             assert len(users) == 1 and len(listed.splitlines()) == 2000, users
