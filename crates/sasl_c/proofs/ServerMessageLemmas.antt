@@ -164,7 +164,7 @@ messages_are_of_server provider last calls over = calls_took provider fresh_serv
 
 -- ---- the numbers
 
--- a number other than 0 that stands for data which are too long
+-- the number of channel data that are too long, which is not 0
 too_long : (answer : Result (Unit {0}) WriteError) (number : ℕ) (A B : Type 0) → number ≡ text_answer_number answer
     → answer ≡ Err (Other ChannelDataLength) → B → (number ≡ 0 → A) × (number ≢ 0 → B)
 too_long (Ok done) number A B is same stays = absurd (cc)
