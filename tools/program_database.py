@@ -452,8 +452,8 @@ def journals(folder):
     beside.process.kill()
     beside.process.wait()
     assert os.path.exists(path + "-journal")
-    for words in (("check", "--db", path, "user0000007"), ("add", "--db", path, "new", "--wait", "1")):
-        status, _, errors = scram("users", *words)
+    for words in (("check", "--db", path, "user0000007"), ("add", "--db", path, "new")):
+        status, _, errors = scram("users", *words, "--wait", "1")
         assert status == 4 and "rollback journal" in errors, errors
     assert len(rows(path)) == 20_000
     assert scram("users", "check", "--db", path, "user0000007")[0] == 0
@@ -483,6 +483,13 @@ def locked(folder):
     login.client.kill()
     _, server, errors = login.end()
     assert server == 4 and "a change that is under way" in errors, errors
+    for words in ("list",), ("export",), ("check", "user0000000"):
+        begun = time.monotonic()
+        assert scram("users", words[0], path, *words[1:], "--db", "--wait", "1")[0] == 4
+        assert 0.9 < time.monotonic() - begun < 4
+    threading.Timer(7, journal.unlink).start()
+    assert log_in(path, "user0000000", options=("--wait", "30"))[:2] == (0, 0), "it waits for more than 5 seconds"
+    journal.write_bytes(JOURNAL_HEAD)
     threading.Timer(1, journal.unlink).start()
     assert scram("users", "check", "--db", path, "user0000000")[0] == 0
 

@@ -3,7 +3,7 @@
 
 use fe2o3_scram::{MultiRecordStore, ScramCredentialProvider, ScramRecord, ScramVersion};
 use sasl_lab_lib::sides::audit;
-use scram_base_lib::backend::{Backend, WAIT};
+use scram_base_lib::backend::{Backend, Named, VERSIONS};
 use scram_base_lib::lines;
 use scram_base_lib::lines::UserLine;
 use scram_base_lib::shown::shown;
@@ -27,19 +27,11 @@ pub struct Supplied {
     pub has_wrong_rows: Cell<bool>,
 }
 
-/// The versions, in the order of the lines of a user.
-static VERSIONS: [ScramVersion; 3] = [
-    ScramVersion::Sha1,
-    ScramVersion::Sha256,
-    ScramVersion::Sha512,
-];
-
 /// What a look-up found.
 #[derive(Drop)]
 struct Found {
     /// The lines of the records.
     lines: String,
-
     /// For the errors: which rows are no records.
     wrong_rows: Vec<u8>,
 }
@@ -87,15 +79,9 @@ impl Found {
 }
 
 impl Backend<HostRuntime> for Supplied {
-    fn lines_of(
-        &self,
-        rt: &HostRuntime,
-        path: &str,
-        name: &str,
-        version: Option<ScramVersion>,
-    ) -> Result<String, Stop> {
-        let alloc = rt.alloc();
-        let found = file::read(rt, path, WAIT, |pages| {
+    fn lines_of(&self, rt: &HostRuntime, named: &Named<'_>) -> Result<String, Stop> {
+        let (alloc, path, name, version) = (rt.alloc(), named.file, named.name, named.version);
+        let found = file::read(rt, path, named.seconds(), |pages| {
             find_user(alloc, path, pages, name, version)
         });
         found.map_err(stop_of)??.user_lines(rt)
@@ -104,17 +90,17 @@ impl Backend<HostRuntime> for Supplied {
     fn first_line(
         &self,
         rt: &HostRuntime,
-        path: &str,
+        named: &Named<'_>,
         version: ScramVersion,
     ) -> Result<String, Stop> {
-        let alloc = rt.alloc();
-        let found = file::read(rt, path, WAIT, |pages| find_first(alloc, pages, version));
+        let (alloc, path, wait) = (rt.alloc(), named.file, named.seconds());
+        let found = file::read(rt, path, wait, |pages| find_first(alloc, pages, version));
         found.map_err(stop_of)?
     }
 
-    fn lines(&self, rt: &HostRuntime, path: &str) -> Result<String, Stop> {
-        let alloc = rt.alloc();
-        let found = file::read(rt, path, WAIT, |pages| find_all(alloc, path, pages));
+    fn lines(&self, rt: &HostRuntime, named: &Named<'_>) -> Result<String, Stop> {
+        let (alloc, path, wait) = (rt.alloc(), named.file, named.seconds());
+        let found = file::read(rt, path, wait, |pages| find_all(alloc, path, pages));
         let found = found.map_err(stop_of)??;
         if found.print(rt) {
             self.has_wrong_rows.set(true);
@@ -125,23 +111,17 @@ impl Backend<HostRuntime> for Supplied {
     fn make_change<C: Change>(
         &self,
         rt: &HostRuntime,
-        path: &str,
-        wait: u32,
-        name: &str,
+        named: &Named<'_>,
         change: &C,
     ) -> Result<Changed, Stop> {
+        let (path, wait) = (named.file, named.seconds());
         let mut pages = file::open(rt, path, wait, change.makes_files()).map_err(stop_of)?;
-        let changed = apply(rt, path, &mut pages, name, change);
+        let changed = apply(rt, path, &mut pages, named.name, change);
         end(rt, path, pages, changed)
     }
 
-    fn import(
-        &self,
-        rt: &HostRuntime,
-        path: &str,
-        wait: u32,
-        lines: &str,
-    ) -> Result<Vec<u8>, Stop> {
+    fn import(&self, rt: &HostRuntime, named: &Named<'_>, lines: &str) -> Result<Vec<u8>, Stop> {
+        let (path, wait) = (named.file, named.seconds());
         let mut pages = file::open(rt, path, wait, true).map_err(stop_of)?;
         let report = import_lines(rt.alloc(), &mut pages, lines);
         end(rt, path, pages, report)

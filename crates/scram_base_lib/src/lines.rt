@@ -4,6 +4,7 @@ ghost use Rattle.std.specs.Prelude.{◌≡◌, ◌∷◌, [], IfOk};
 ghost use Rattle.std.specs.String.{string_bytes};
 ghost use Rattle.fe2o3_scram.specs.MultiRecordLines.{SpellsMixed, mixed_text};
 
+use crate::backend::Named;
 use crate::shown::shown;
 use crate::stop::Stop;
 use crate::store;
@@ -149,15 +150,14 @@ impl<C: Change> Rewrite for InFile<'_, C> {
     }
 }
 
-/// Changes the lines of a user in a file. The name is not escaped. The other lines stay byte for byte.
+/// Changes the lines of the user in a file. The other lines stay byte for byte.
 pub fn make_change<R: System, C: Change>(
     rt: &R,
-    file: &str,
-    wait: u32,
-    name: &str,
+    named: &Named<'_>,
     change: &C,
 ) -> Result<Changed, Stop> {
-    store::make_change(rt, file, wait, &InFile { name, change })
+    let name = named.name;
+    store::make_change(rt, named.file, named.seconds(), &InFile { name, change })
 }
 
 /// Checks each line of a text, and appends those of a name, which is escaped, and the first for each mechanism.

@@ -21,7 +21,7 @@ use Rattle.scram_lib.specs.declared.done.Done.TheVariants as dones
 use Rattle.scram_lib.specs.declared.server.Service.{Service}
 use Rattle.scram_lib.specs.declared.task.Task.{Task}
 use Rattle.scram_lib.specs.declared.task.Task.TheVariants as tasks
-use Rattle.scram_lib.specs.declared.users.Named.{Named}
+use Rattle.scram_base_lib.specs.declared.backend.Named.{Named}
 use Rattle.scram_lib.specs.Acting.{AreRightsOf, words_of}
 use Rattle.scram_lib.specs.OwnLines.{AreLinesFor}
 use Rattle.scram_lib.specs.private.Passwords.{TellsEach}

@@ -47,6 +47,8 @@ pub struct Service<'a, 'm> {
     pub file: &'a str,
     /// Whether the file is a database.
     pub is_db: bool,
+    /// How long a look-up in a database waits for another program that changes it, in seconds, or `None` for the default.
+    pub wait: Option<u32>,
     /// Whether the names that clients send are prepared by SASLprep before the look-up.
     pub saslprep: bool,
     /// Whether an unknown user is answered with an error, and not like a known one.

@@ -10,13 +10,12 @@ use crate::done::Done;
 use crate::man;
 use crate::record::NewRecord;
 use crate::server::Service;
-use crate::users::Named;
 use crate::users::export::Printed;
 use clap::ArgMatches;
 use fe2o3_scram::secrets::SecretText;
 use fe2o3_scram::{DEFAULT_SCRAM_ITERATIONS, ScramVersion};
 use saslprep::Unassigned;
-use scram_base_lib::backend::Backend;
+use scram_base_lib::backend::{Backend, Named};
 use scram_base_lib::explain::explain;
 use scram_base_lib::input;
 use scram_base_lib::stop::Stop;
@@ -280,6 +279,7 @@ fn service<'a, 'm>(matches: &'m ArgMatches<'a>) -> Service<'a, 'm>
         version: version_of(matches, "M").unwrap_or(ScramVersion::Sha256),
         file: text(matches, "FILE"),
         is_db: matches.get_flag("db"),
+        wait: matches.get_one::<u32>("wait"),
         saslprep: matches.get_flag("saslprep"),
         tells_unknown_users: matches.get_flag("tell-unknown-users"),
         channel: matches.get_str("channel"),
@@ -313,7 +313,7 @@ fn named<'a>(matches: &ArgMatches<'a>) -> Named<'a>
         is_db: matches.get_flag("db"),
         name: text(matches, "NAME"),
         version: version_of(matches, "mechanism"),
-        wait: matches.get_one::<u32>("wait").unwrap_or(0),
+        wait: matches.get_one::<u32>("wait"),
     }
 }
 

@@ -19,33 +19,12 @@ use crate::task::Process;
 use crate::users::changes::{Put, Taken};
 use fe2o3_scram::{Meter, MultiRecordStore, Password, ScramCredentialProvider, ScramVersion};
 use saslprep::Unassigned;
-use scram_base_lib::backend::Backend;
+use scram_base_lib::backend::{Backend, Named, VERSIONS};
 use scram_base_lib::stop::Stop;
 use scram_base_lib::store::System;
 use scram_base_lib::{input, store};
 use std::alloc::Global;
 use std::io::{BufRead, Write};
-
-/// A file, and a user of it, for one mechanism or for all. A command of the whole file has no user: the name is empty.
-#[derive(Clone, Copy)]
-pub struct Named<'a> {
-    pub file: &'a str,
-    /// Whether the file is a database.
-    pub is_db: bool,
-    /// The user name, not escaped.
-    pub name: &'a str,
-    /// The mechanism, or `None` for those of the command: of `add` the two that servers offer by default, otherwise all.
-    pub version: Option<ScramVersion>,
-    /// How long a change waits for another one, in seconds.
-    pub wait: u32,
-}
-
-/// The versions, in the order in which `check` prints their answers.
-static VERSIONS: [ScramVersion; 3] = [
-    ScramVersion::Sha1,
-    ScramVersion::Sha256,
-    ScramVersion::Sha512,
-];
 
 impl<R: System, I: BufRead, O: Write, E: Write, B: Backend<R>> Process<'_, R, I, O, E, B> {
     /// Reads a password, makes new records of a user, and prints what the change did. The errors get what to look at. Records
@@ -93,7 +72,7 @@ impl<R: System, I: BufRead, O: Write, E: Write, B: Backend<R>> Process<'_, R, I,
         let (rt, backend) = (self.rt, self.backend);
         let password = input::password(rt.alloc(), &mut self.input, Unassigned::Allowed)?;
         let text = if named.is_db {
-            backend.lines_of(rt, named.file, named.name, None)?
+            backend.lines_of(rt, named)?
         } else {
             store::read(rt, named.file)?
         };

@@ -60,9 +60,7 @@ const FILE: Word = word!(Place "FILE" "FILE" "The file of records");
 
 const NAME: Word = word!(Place "NAME" "NAME" "The user name");
 
-const DB: Word =
-    word!(Flag "db" "" "FILE is a SQLite database of users; a change waits up to 5 seconds for another program, \
-    or as --wait says");
+const DB: Word = word!(Flag "db" "" "FILE is a SQLite database of users");
 
 const MECHANISM: Word = word!(Mechanism "mechanism" "M" "The mechanism of the record; default all");
 
@@ -72,7 +70,8 @@ const NEW_ECHO: Word =
     word!(Flag "echo" "" "Reads the password from a terminal too, twice; the terminal shows it");
 
 const WAIT: Word =
-    word!(Seconds "wait" "SECONDS" "Waits this long for another change of the file; default 0");
+    word!(Seconds "wait" "SECONDS" "Waits at most this long for another program that changes FILE; \
+    default 0, with --db 5");
 
 const TAKEN_ITERATIONS: Word =
     word!(Count "iterations" "N" "The iteration count; default that of the file's first record \
@@ -116,6 +115,7 @@ pub static COMMANDS: [Words; 5] = [
     command!("server" "Runs the server side of a login for the users of a file: each line is a message in base64"
         M, FILE,
         word!(Flag "db" "" "FILE is a SQLite database of users, of which only the client's record and a first one are read"),
+        WAIT,
         word!(Flag "saslprep" "" "Prepares the name that the client sends by SASLprep (RFC 4013) before the look-up; default \
             as sent"),
         word!(Flag "tell-unknown-users" "" "Answers an unknown user with an error; default with a mock record in the form of \
@@ -161,7 +161,8 @@ pub static USERS_COMMANDS: [Words; 7] = [
     command!("list" "Prints the mechanism, the iteration count and the name of each record, quoted for a shell"
         FILE, DB,
         word!(Flag "hashes" "" "Prints the mechanisms for which each user has a record, which a server can offer, and \
-            nothing else")),
+            nothing else"),
+        WAIT),
     command!("import" "Adds the records of standard input, each a line NAME RECORD, or replaces those for the same names and \
             mechanisms; a record is one of this program, of PostgreSQL, or of gsasl --mkpasswd"
         FILE, DB,
@@ -169,9 +170,10 @@ pub static USERS_COMMANDS: [Words; 7] = [
         WAIT),
     command!("export" "Prints the records as lines for import; PostgreSQL takes the records too"
         FILE, DB,
-        word!(Flag "gsasl" "" "Prints records as gsasl --mkpasswd does: {M}COUNT,SALT,STOREDKEY,SERVERKEY")),
+        word!(Flag "gsasl" "" "Prints records as gsasl --mkpasswd does: {M}COUNT,SALT,STOREDKEY,SERVERKEY"),
+        WAIT),
     command!("check" "Checks a user's password; without a name, lists records with another form and users who lack a record"
         FILE,
         word!(OptionalPlace "NAME" "NAME" "The user name; default the whole file, without a password"),
-        DB, MECHANISM, ECHO),
+        DB, MECHANISM, ECHO, WAIT),
 ];

@@ -288,10 +288,9 @@ impl Locks for Disk {
         let is_locked = bytes.as_slice() == b"locked\n".as_slice();
         file.node.bytes.set(bytes);
         if is_locked {
-            Err(TryLockError::WouldBlock)
-        } else {
-            Ok(())
+            return Err(TryLockError::WouldBlock);
         }
+        Ok(())
     }
 }
 

@@ -2,7 +2,7 @@
 
 use fe2o3_scram::ScramVersion;
 use sasl_lab_lib::sides::audit;
-use scram_base_lib::backend::Backend;
+use scram_base_lib::backend::{Backend, Named};
 use scram_base_lib::stop::Stop;
 use scram_base_lib::store::{Change, Changed};
 use std::io::{BufRead, Write};
@@ -16,36 +16,23 @@ pub struct NoDatabase;
 const NONE: Stop = Stop::Database("this program has no databases");
 
 impl<R: Files + AllocGlobal> Backend<R> for NoDatabase {
-    fn lines_of(
-        &self,
-        _rt: &R,
-        _file: &str,
-        _name: &str,
-        _version: Option<ScramVersion>,
-    ) -> Result<String, Stop> {
+    fn lines_of(&self, _rt: &R, _at: &Named<'_>) -> Result<String, Stop> {
         Err(NONE)
     }
 
-    fn first_line(&self, _rt: &R, _file: &str, _version: ScramVersion) -> Result<String, Stop> {
+    fn first_line(&self, _rt: &R, _at: &Named<'_>, _of: ScramVersion) -> Result<String, Stop> {
         Err(NONE)
     }
 
-    fn lines(&self, _rt: &R, _file: &str) -> Result<String, Stop> {
+    fn lines(&self, _rt: &R, _at: &Named<'_>) -> Result<String, Stop> {
         Err(NONE)
     }
 
-    fn make_change<C: Change>(
-        &self,
-        _rt: &R,
-        _file: &str,
-        _wait: u32,
-        _name: &str,
-        _change: &C,
-    ) -> Result<Changed, Stop> {
+    fn make_change<C: Change>(&self, _rt: &R, _at: &Named<'_>, _: &C) -> Result<Changed, Stop> {
         Err(NONE)
     }
 
-    fn import(&self, _rt: &R, _file: &str, _wait: u32, _lines: &str) -> Result<Vec<u8>, Stop> {
+    fn import(&self, _rt: &R, _at: &Named<'_>, _lines: &str) -> Result<Vec<u8>, Stop> {
         Err(NONE)
     }
 

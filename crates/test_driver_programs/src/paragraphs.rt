@@ -102,9 +102,9 @@ fn store(disk: &Disk, text: &str, kind: u32) -> Result<()> {
 
 /// Replaces the escapes of line feeds, tabs, carriage returns, spaces and nothing.
 fn unescaped(alloc: Global, text: &str) -> Result<String> {
-    let text = text.replace(alloc, "\\n", "\n")?;
-    let text = text.replace(alloc, "\\t", "\t")?;
-    let text = text.replace(alloc, "\\r", "\r")?;
-    let text = text.replace(alloc, "\\e", "")?;
+    let text = text
+        .replace(alloc, "\\n", "\n")?
+        .replace(alloc, "\\t", "\t")?;
+    let text = text.replace(alloc, "\\r", "\r")?.replace(alloc, "\\e", "")?;
     Ok(text.replace(alloc, "\\s", " ")?)
 }

@@ -165,11 +165,10 @@ impl<'a> Row<'a> {
     pub fn takes(&mut self, word: &str) -> bool {
         let words = self.words.trim_start();
         let (next, rest) = words.split_once(' ').unwrap_or((words, ""));
-        let is_next = next == word;
-        if is_next {
+        if next == word {
             self.words = rest;
         }
-        is_next
+        next == word
     }
 
     /// Returns the bytes of the next word, where `\x` and two hexadecimal digits are one byte.
@@ -196,10 +195,7 @@ impl<'a> Row<'a> {
 
     /// Returns the bytes of the hexadecimal digits of the next word, where `-` is none.
     pub fn digits(&mut self) -> Vec<u8> {
-        let digits = match self.word() {
-            "-" => "",
-            digits => digits,
-        };
+        let digits = self.word().trim_start_matches('-');
         self.made(hex::decode(self.alloc, digits), Vec::new(self.alloc))
     }
 
@@ -260,12 +256,8 @@ impl<'a> Row<'a> {
 
     /// Adds a word to the answer.
     pub fn say<T: Display + Drop>(&mut self, word: T) {
-        let said = if self.answer.is_empty() {
-            write!(self.answer, "{word}")
-        } else {
-            write!(self.answer, " {word}")
-        };
-        self.is_sound &= said.is_ok();
+        let space = if self.answer.is_empty() { "" } else { " " };
+        self.is_sound &= write!(self.answer, "{space}{word}").is_ok();
     }
 
     /// Adds the name of a value to the answer.

@@ -6,12 +6,25 @@ ghost use Rattle.scram_lib.specs.OwnLines.{AreLinesAs, AreLinesFor, AreLinesOfNa
 use crate::form::{Form, has_several};
 use crate::server::Service;
 use fe2o3_scram::{OutOfMemory, escape_username};
-use scram_base_lib::backend::Backend;
+use scram_base_lib::backend::{Backend, Named};
 use scram_base_lib::stop::Stop;
 use scram_base_lib::store;
 use std::alloc::{AllocError, Global};
 use std::io::Write;
 use std::rt::Files;
+
+impl Service<'_, '_> {
+    /// Returns where the records of a user are. The name is not escaped.
+    fn named<'b>(&'b self, name: &'b str) -> Named<'b> {
+        Named {
+            file: self.file,
+            is_db: self.is_db,
+            name,
+            version: Some(self.version),
+            wait: self.wait,
+        }
+    }
+}
 
 /// Where the records of a server are.
 #[derive(Drop)]
@@ -74,7 +87,7 @@ impl<'a, B> Source<'a, B> {
         match self {
             Source::Text(text) => lines_as(rt.alloc(), text, name, sent),
             Source::Database(db) => {
-                let text = db.lines_of(rt, service.file, name, Some(service.version))?;
+                let text = db.lines_of(rt, &service.named(name))?;
                 lines_as(rt.alloc(), &text, name, sent)
             }
         }
@@ -93,7 +106,7 @@ impl<'a, B> Source<'a, B> {
         match self {
             Source::Text(text) => Form::in_text(rt.alloc(), text, version),
             Source::Database(db) => {
-                let line = db.first_line(rt, service.file, version)?;
+                let line = db.first_line(rt, &service.named(""), version)?;
                 Form::in_text(rt.alloc(), &line, version)
             }
         }

@@ -2,9 +2,8 @@
 
 use crate::form::Form;
 use crate::task::Process;
-use crate::users::{Named, VERSIONS};
 use fe2o3_scram::{MultiRecordStore, ScramVersion};
-use scram_base_lib::backend::Backend;
+use scram_base_lib::backend::{Backend, Named, VERSIONS};
 use scram_base_lib::lines;
 use scram_base_lib::lines::UserLine;
 use scram_base_lib::shown::shown;

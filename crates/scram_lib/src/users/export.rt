@@ -2,9 +2,8 @@
 
 use crate::gsasl::gsasl_text;
 use crate::task::Process;
-use crate::users::Named;
 use fe2o3_scram::ScramRecord;
-use scram_base_lib::backend::Backend;
+use scram_base_lib::backend::{Backend, Named};
 use scram_base_lib::lines;
 use scram_base_lib::lines::UserLine;
 use scram_base_lib::stop::Stop;
@@ -32,7 +31,7 @@ impl<R: System, I: BufRead, O: Write, E: Write, B: Backend<R>> Process<'_, R, I,
     pub(crate) fn print_records(&mut self, named: &Named<'_>, how: Printed) -> Result<(), Stop> {
         let alloc = self.rt.alloc();
         let count = if named.is_db {
-            let text = self.backend.lines(self.rt, named.file)?;
+            let text = self.backend.lines(self.rt, named)?;
             print_lines(alloc, &mut text.as_bytes(), how, &mut self.output)?
         } else {
             let file = fs::open(self.rt, named.file).map_err(Stop::of_reading)?;

@@ -7,11 +7,10 @@ ghost use Rattle.scram_lib.specs.Gsasl.{NamesBoth};
 
 use crate::gsasl::record_of;
 use crate::task::Process;
-use crate::users::Named;
 use fe2o3_scram::{
     ReadLinesError, ReadLinesErrorKind, RecordTextError, UnescapeError, unescape_username,
 };
-use scram_base_lib::backend::Backend;
+use scram_base_lib::backend::{Backend, Named};
 use scram_base_lib::stop::Stop;
 use scram_base_lib::store::{Rewrite, System};
 use scram_base_lib::{input, lines, store};
@@ -36,10 +35,9 @@ impl<R: System, I: BufRead, O: Write, E: Write, B: Backend<R>> Process<'_, R, I,
             );
         }
         let report = if named.is_db {
-            self.backend
-                .import(rt, named.file, named.database_wait(), &text)?
+            self.backend.import(rt, named, &text)?
         } else {
-            store::make_change(rt, named.file, named.wait, &added)?
+            store::make_change(rt, named.file, named.seconds(), &added)?
         };
         let (added, replaced) = counts(&report);
         writeln!(self.output, "{added} added, {replaced} replaced").map_err(Stop::of_report)

@@ -1,19 +1,11 @@
 //! Where the records of a command are: in a file of lines or in a database.
 
 use crate::task::Process;
-use crate::users::Named;
-use scram_base_lib::backend::{Backend, WAIT};
+use scram_base_lib::backend::{Backend, Named};
 use scram_base_lib::stop::Stop;
 use scram_base_lib::store::{Change, Changed, System};
 use scram_base_lib::{lines, store};
 use std::io::{BufRead, Write};
-
-impl Named<'_> {
-    /// Returns how long a change of a database waits, in seconds.
-    pub(crate) fn database_wait(&self) -> u32 {
-        if self.wait == 0 { WAIT } else { self.wait }
-    }
-}
 
 impl<R: System, I: BufRead, O: Write, E: Write, B: Backend<R>> Process<'_, R, I, O, E, B> {
     /// Makes a change of a user's records.
@@ -22,18 +14,17 @@ impl<R: System, I: BufRead, O: Write, E: Write, B: Backend<R>> Process<'_, R, I,
         named: &Named<'_>,
         change: &C,
     ) -> Result<Changed, Stop> {
-        if !named.is_db {
-            return lines::make_change(self.rt, named.file, named.wait, named.name, change);
+        if named.is_db {
+            self.backend.make_change(self.rt, named, change)
+        } else {
+            lines::make_change(self.rt, named, change)
         }
-        let wait = named.database_wait();
-        self.backend
-            .make_change(self.rt, named.file, wait, named.name, change)
     }
 
     /// Returns the lines of all records.
     pub(crate) fn lines(&self, named: &Named<'_>) -> Result<String, Stop> {
         if named.is_db {
-            self.backend.lines(self.rt, named.file)
+            self.backend.lines(self.rt, named)
         } else {
             store::read(self.rt, named.file)
         }
