@@ -59,3 +59,4 @@ pub mod PolicyProfileLemmas
 pub mod PolicyChoiceLemmas
 pub mod PolicyDivisionLemmas
 pub mod PolicyUnalteredLemmas
+pub mod TestedOptionLemmas

@@ -7,6 +7,7 @@ use Rattle.fe2o3_scram.specs.ChannelBinding.{cbind_data, expected_header, header
 use Rattle.fe2o3_scram.specs.ClientFinal.{ReadsClientFinal}
 use Rattle.fe2o3_scram.specs.ClientFirst.{ReadsClientFirst}
 use Rattle.fe2o3_scram.specs.Credentials.{Provider, with_rights}
+use Rattle.fe2o3_scram.specs.Mixed.{MultiRecords}
 use Rattle.fe2o3_scram.specs.Texts.{Part, base64_text}
 use Rattle.fe2o3_scram.specs.declared.channel_binding.ChannelBindings.{ChannelBindings}
 use Rattle.fe2o3_scram.specs.declared.hmac.ScramVersion.{ScramVersion}
@@ -17,10 +18,14 @@ use Rattle.fe2o3_sasl_core.specs.Events.{Answered, Given, IsLogin, IsSecret, Log
 use Rattle.fe2o3_sasl_core.specs.Headline.{VerifierAgrees}
 use Rattle.fe2o3_sasl_core.specs.Laws.{HoldsRecords}
 use Rattle.fe2o3_sasl_core.specs.ServerHistory.{Accepted, final_message, full_nonce, server_at}
-use Rattle.fe2o3_sasl_core.specs.Servers.{ServerLogin, ServerSettings, ServerStage, SignatureShown, is_offered_by, logged_in_at, provider_by, rules_by, sasl_machine, way_name}
+use Rattle.fe2o3_sasl_core.specs.Servers.{ServerLogin, ServerSettings, ServerStage, SignatureShown, is_offered_by, logged_in_at, provider_by, rules_by, sasl_machine, settings_with, way_name}
 use Rattle.fe2o3_sasl_core.specs.TwoSides.{MessagesCollide, ReportedAnswer, Sides, keys_at, proof_at, sides_of}
 use Rattle.fe2o3_sasl_core.specs.Verdicts.{JudgesProof, Verdict}
+use Rattle.fe2o3_sasl_core.specs.declared.client_options.ClientOptions.{ClientOptions}
+use Rattle.fe2o3_sasl_core.specs.declared.server.options.ServerOptions.{ServerOptions}
+use Rattle.fe2o3_sasl_core.specs.declared.server.options.Transport.{Transport}
 use Rattle.fe2o3_sasl_core.specs.declared.server.ways.Way.TheVariants as ways
+use Rattle.fe2o3_sasl.specs.Agreement.{agree_on_all}
 use Rattle.fe2o3_sasl_negotiation.specs.declared.progress.Progress.TheVariants.{Authenticated}
 use Rattle.connection_laws.specs.ConnectionLogins.{AreMessages, AreResponses, new_server}
 use Rattle.connection_laws.specs.Pairs.{BindOneOrCollide, ClientOf, IfAgreed, ReportsLast}
@@ -105,6 +110,14 @@ pub record AgreeOnAll (login : Login) (provider : Provider) (answer : Answering)
 -- an identity
 abbrev pub OneRejectsMisplaced : Login → Provider → Type 0
 OneRejectsMisplaced login provider = T (is_strict_login login) ⊎ T (is_strict provider.rules)
+
+-- the options of both sides say so before a login: then one rejects them, with or without -PLUS, whatever the connection and
+-- the records are
+abbrev pub TestedOptionsReject : Type 0
+TestedOptionsReject = (options : ServerOptions) (chosen : ClientOptions) → agree_on_all options chosen ≡ true
+    → (records : MultiRecords) (transport : Transport) (login : Login) (version : ScramVersion) (plus : Bool)
+    → login.strict ≡ chosen.strict → login.channel ≡ chosen.channel
+    → OneRejectsMisplaced login (scram_of (settings_with records options transport) version plus)
 
 -- where one side rejects them, both agree on all, or the AuthMessages collide
 abbrev pub ClientsAgreeOnAll : Type 0

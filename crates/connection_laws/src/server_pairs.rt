@@ -1,6 +1,6 @@
 //! What the bytes of a SCRAM client's connection and of a connection of a `Server` say of both.
 
-ghost use Rattle.connection_laws.specs.ServerPairs.{ClientsAgreeOnAll, ClientsAgreeWithServers, ClientsBindChannelsOfServers, ProofsAtServersAreJudged, ProofsAtServersBindChannels, SignedLoginsAreAccepted};
+ghost use Rattle.connection_laws.specs.ServerPairs.{ClientsAgreeOnAll, ClientsAgreeWithServers, ClientsBindChannelsOfServers, ProofsAtServersAreJudged, ProofsAtServersBindChannels, SignedLoginsAreAccepted, TestedOptionsReject};
 
 /// What the login of a SCRAM client says of a [`Server`](fe2o3_sasl_core::Server), each over any bytes and with any options. The
 /// client logged in on one server-final message: the data of an outcome Ok, or a challenge if the login accepts the signature
@@ -15,6 +15,12 @@ pub fn verifiers()
     ensures agree { ClientsAgreeWithServers }
     ensures on_all { ClientsAgreeOnAll }
     ensures channels { ClientsBindChannelsOfServers }
+{}
+
+/// What [`agrees_on_all`](fe2o3_sasl::agrees_on_all) says before a login: if it returns `true`, one side rejects misplaced
+/// attributes, so both agree on all (`on_all` of [`verifiers`]).
+pub fn options()
+    ensures { TestedOptionsReject }
 {}
 
 /// What a proof says that a SCRAM client's connection showed and a [`Server`](fe2o3_sasl_core::Server) accepted, each over any

@@ -1,3 +1,4 @@
+pub mod Agreement
 pub mod Audit
 pub mod examples
 pub mod private

@@ -6,14 +6,17 @@
 //! the headline theorem of every login over SCRAM, for any bodies.
 //!
 //! The modules of `fe2o3_sasl_core` and of `fe2o3_scram` are re-exported under their own names, and events, steps and
-//! whole runs in [`runs`], so that code for SCRAM over AMQP names only this crate. Its own are [`audit`], what two
-//! lists of bodies say of the two sides, and [`laws`], what holds of every list of frame bodies.
+//! whole runs in [`runs`], so that code for SCRAM over AMQP names only this crate. Its own are [`agreement`], what
+//! two sides agree on by their options, [`audit`], what two lists of bodies say of them, and [`laws`], what holds of every
+//! list of frame bodies.
 #![tactic(auto)]
 
+pub mod agreement;
 pub mod audit;
 pub mod laws;
 pub mod runs;
 
+pub use crate::agreement::agrees_on_all;
 pub use crate::audit::AuditError;
 pub use crate::audit::Finding;
 pub use crate::audit::FindingKind;
