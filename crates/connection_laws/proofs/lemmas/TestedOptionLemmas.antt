@@ -1,5 +1,5 @@
 -- What the options of both sides say before a login: `tested_options_reject`.
-use Rattle.std.proofs.Common.{◌≡◌, ◌⊎◌, Bool, true, false, sym, subst, inl, inr, tt}
+use Rattle.std.proofs.Common.{◌≡◌, ◌⊎◌, Bool, true, false, sym, subst, inl, inr}
 use Rattle.std.specs.Prelude.{◌||◌, T, is_some}
 use Rattle.fe2o3_scram.specs.ChannelBinding.{has_channel, is_strict}
 use Rattle.fe2o3_scram.specs.declared.scram_messages.server_rules.ServerRules.{ServerRules}
@@ -15,11 +15,11 @@ one_of false b is = inr is
 -- a server that rejects misplaced attributes by its options does so with -PLUS and without
 server_strict : (plus : Bool) (rules : ServerRules) → T (rules.accept_authzid || (rules.reject_misplaced || rules.strict))
     → T (is_strict (rules_by plus rules))
-server_strict true rules is = go (is_some rules.channels) is
+server_strict true rules is = go (rules.accept_authzid || (rules.reject_misplaced || rules.strict)) (is_some rules.channels) is
   where
-    go : {set : Bool} (binds : Bool) → T set → T (binds || set)
-    go true is = tt
-    go false is = is
+    go : (set binds : Bool) → T set → T (binds || set)
+    go set true is = tt
+    go set false is = is
 server_strict false rules is =
     go rules.accept_authzid rules.reject_misplaced rules.strict (is_some rules.channels) is
   where
