@@ -171,10 +171,21 @@ static uint32_t server_step(const struct fe2o3_sasl_server_config *config, struc
     return unframed(status, &server->connection, &sent, progress, out);
 }
 
+/* The user for whose records a server asks before it takes a body. Answers FE2O3_NEEDS_RECORDS, or, if it asks for none,
+ * FE2O3_NO_SUCH_MECHANISM, since nothing is offered here. Nothing may change by it. */
 static uint32_t claimed_user(const struct fe2o3_sasl_server *server, const uint8_t *body, size_t len, struct body *name)
 {
+    static const struct fe2o3_sasl_server_config no_offer;
     const struct frame came = framed(body, len);
-    return fe2o3_sasl_server_claimed_user(server, GIVEN(came), ROOM(*name));
+    struct fe2o3_sasl_server copy = *server;
+    struct frame asked = {{0}, 0};
+    size_t taken = 9;
+    uint32_t status = fe2o3_sasl_server_receive(&no_offer, &copy, GIVEN(came), server_nonce, &taken, ROOM(asked));
+    if (taken != 9 || asked.len > sizeof name->bytes || memcmp(&copy, server, sizeof copy) != 0)
+        return FE2O3_ENDED;
+    name->len = asked.len;
+    memcpy(name->bytes, asked.bytes, asked.len);
+    return status;
 }
 
 /* A client takes a body, and before the first one the header. */
@@ -227,7 +238,7 @@ static struct fe2o3_sasl_server_config config_of(const struct fe2o3_scram_record
 {
     struct fe2o3_sasl_server_config config = {offer_of(record->version) | FE2O3_OFFER_PLAIN | FE2O3_OFFER_ANONYMOUS
             | FE2O3_OFFER_EXTERNAL,
-        4096, TEXT("user"), record, 1, TEXT("peer"), {0}, 0, FE2O3_NONE};
+        0, 4096, 1, TEXT("user"), record, 1, TEXT("peer"), {0}, 0, FE2O3_NONE};
     return config;
 }
 
@@ -247,16 +258,20 @@ static uint32_t offer_by(const struct fe2o3_sasl_server_config *config, struct b
     return open_server(config, &server, offer);
 }
 
-/* What a server makes of a body, with the record of the user whom the body names, if the config knows one. */
+/* What a server makes of a body, with the record of the user for whose records it asks, if the config knows one. */
 static uint32_t served(struct exchange *one, const struct fe2o3_sasl_server_config *config, const struct body *came,
     struct body *next)
 {
     struct fe2o3_sasl_server_config with = *config;
     struct body name;
-    uint32_t number = claimed_user(&one->server, GIVEN(*came), &name);
-    if (number != FE2O3_OK && number != FE2O3_NAMES_NO_USER)
+    uint32_t number;
+    with.looked_up = 0;
+    number = server_step(&with, &one->server, GIVEN(*came), server_nonce, &one->server_progress, next);
+    if (number != FE2O3_NEEDS_RECORDS)
         return number;
-    if (number != FE2O3_OK || !spells(&name, config->username, config->username_len))
+    with.looked_up = 1;
+    claimed_user(&one->server, GIVEN(*came), &name);
+    if (!spells(&name, config->username, config->username_len))
         with.records = &no_record;
     return server_step(&with, &one->server, GIVEN(*came), server_nonce, &one->server_progress, next);
 }
@@ -314,7 +329,7 @@ static int ends_late(const struct fe2o3_sasl_login *login, struct fe2o3_sasl_ser
     struct body init, late, body, asks;
     uint32_t number = FE2O3_OK;
     memset(&one, 0, sizeof one);
-    config.mechanisms |= FE2O3_INITIAL_RESPONSE_BY_CHALLENGE;
+    config.flags |= FE2O3_INITIAL_RESPONSE_BY_CHALLENGE;
     if (open_server(&config, &one.server, &body) != FE2O3_OK
         || client_step(login, &one.client, GIVEN(body), &one.client_progress, &init) != FE2O3_OK)
         return 0;
@@ -336,12 +351,14 @@ static int bodies_name(const struct fe2o3_sasl_server_config *config, const stru
     struct fe2o3_sasl_server server = opened(config);
     struct body name, out;
     uint32_t progress = 9;
-    int holds = claimed_user(&server, GIVEN(whole->sent[1]), &name) == FE2O3_OK && spells(&name, TEXT("user"));
-    holds &= claimed_user(&server, GIVEN(whole->sent[3]), &name) == FE2O3_NAMES_NO_USER;
-    holds &= claimed_user(&server, GIVEN(whole->sent[0]), &name) == FE2O3_NAMES_NO_USER;
+    int holds =
+        claimed_user(&server, GIVEN(whole->sent[1]), &name) == FE2O3_NEEDS_RECORDS && spells(&name, TEXT("user"));
+    holds &= claimed_user(&server, GIVEN(whole->sent[3]), &name) == FE2O3_NO_SUCH_MECHANISM;
+    holds &= claimed_user(&server, GIVEN(whole->sent[0]), &name) == FE2O3_NO_SUCH_MECHANISM;
     holds &= server_step(config, &server, GIVEN(whole->sent[1]), server_nonce, &progress, &out) == FE2O3_OK
         && progress == FE2O3_IN_PROGRESS;
-    return holds && claimed_user(&server, GIVEN(whole->sent[3]), &name) == FE2O3_OK && spells(&name, TEXT("user"));
+    return holds && claimed_user(&server, GIVEN(whole->sent[3]), &name) == FE2O3_NEEDS_RECORDS
+        && spells(&name, TEXT("user"));
 }
 
 static void by_scram(const char *mechanism, uint32_t version)
@@ -469,7 +486,7 @@ static void by_others(void)
             && spells(&one.sent[1], TEXT("\2\1\0\0\0\x53\x41\xc0\x1c\3\xa3\5PLAIN\xa0\14\0user\0pencil\xa1\4host"))
             && spells(&one.sent[2], TEXT(BARE_OK)));
     told("PLAIN", "whom its init names",
-        claimed_user(&waiting, GIVEN(one.sent[1]), &name) == FE2O3_OK && spells(&name, TEXT("user")));
+        claimed_user(&waiting, GIVEN(one.sent[1]), &name) == FE2O3_NEEDS_RECORDS && spells(&name, TEXT("user")));
     told("PLAIN", "a login without an initial response", ends_late(&plain, config, FE2O3_REJECTION_NONE));
     plain.login.password_len--;
     told("PLAIN", "a wrong password without an initial response",
@@ -542,14 +559,16 @@ static void cbind_flag_y(void)
         server_step(&config, &server, TEXT(CBIND_FLAG_Y_INIT), server_nonce, &progress, &out) == FE2O3_OK
             && progress == FE2O3_REFUSED_AUTH && spells(&out, TEXT(BARE_AUTH))
             && rejects(&server, FE2O3_REJECTION_CHANNEL));
-    config.mechanisms = FE2O3_OFFER_SCRAM_SHA_256 | FE2O3_ACCEPT_CBIND_FLAG_Y;
+    config.mechanisms = FE2O3_OFFER_SCRAM_SHA_256;
+    config.flags = FE2O3_ACCEPT_CBIND_FLAG_Y;
     server = opened(&config);
     told("SCRAM-SHA-256", "the header `y,,` is taken on wish",
         server_step(&config, &server, TEXT(CBIND_FLAG_Y_INIT), server_nonce, &progress, &out) == FE2O3_OK
             && progress == FE2O3_IN_PROGRESS && spells(&out, TEXT(CHALLENGE))
             && server_step(&config, &server, TEXT(CBIND_FLAG_Y_RESPONSE), server_nonce, &progress, &out) == FE2O3_OK
             && progress == FE2O3_AUTHENTICATED && spells(&out, TEXT(CBIND_FLAG_Y_OK)) && names(&server, TEXT("user")));
-    config.mechanisms = FE2O3_ACCEPT_CBIND_FLAG_Y;
+    config.mechanisms = 0;
+    config.flags = FE2O3_ACCEPT_CBIND_FLAG_Y;
     told("nothing", "offered, but to take `y,,`", offer_by(&config, &out) == FE2O3_NO_SUCH_MECHANISM);
 }
 
@@ -565,7 +584,7 @@ static void strict(void)
     told("SCRAM-SHA-256", "an attribute of RFC 5802 is ignored as an extension",
         server_step(&config, &server, TEXT(ATTRIBUTE_INIT), server_nonce, &progress, &out) == FE2O3_OK
             && progress == FE2O3_IN_PROGRESS && spells(&out, TEXT(CHALLENGE)));
-    config.mechanisms |= FE2O3_STRICT;
+    config.flags |= FE2O3_STRICT;
     server = opened(&config);
     told("SCRAM-SHA-256", "a strict server rejects it",
         server_step(&config, &server, TEXT(ATTRIBUTE_INIT), server_nonce, &progress, &out) == FE2O3_OK
@@ -576,7 +595,8 @@ static void strict(void)
         server_step(&config, &server, TEXT(EXTENSION_INIT), server_nonce, &progress, &out) == FE2O3_OK
             && progress == FE2O3_IN_PROGRESS && spells(&out, TEXT(CHALLENGE))
             && server.scram.rejection == FE2O3_REJECTION_NONE);
-    config.mechanisms = FE2O3_STRICT;
+    config.mechanisms = 0;
+    config.flags = FE2O3_STRICT;
     told("nothing", "offered, but to be strict", offer_by(&config, &out) == FE2O3_NO_SUCH_MECHANISM);
 }
 
@@ -588,7 +608,7 @@ static void signature_by_challenge(void)
     struct fe2o3_sasl_server server = opened(&config), other;
     struct body out;
     uint32_t progress = 9;
-    config.mechanisms |= FE2O3_SIGNATURE_BY_CHALLENGE;
+    config.flags |= FE2O3_SIGNATURE_BY_CHALLENGE;
     told("SCRAM-SHA-256", "the signature in a challenge",
         server_step(&config, &server, TEXT(INIT), server_nonce, &progress, &out) == FE2O3_OK
             && spells(&out, TEXT(CHALLENGE))
@@ -599,7 +619,7 @@ static void signature_by_challenge(void)
                 == FE2O3_SERVER_ILLEGAL_AUTHENTICATOR_STATE);
     other = server;
     told("SCRAM-SHA-256", "the response to it names no user",
-        claimed_user(&server, TEXT(EMPTY_RESPONSE), &out) == FE2O3_NAMES_NO_USER);
+        claimed_user(&server, TEXT(EMPTY_RESPONSE), &out) == FE2O3_NO_SUCH_MECHANISM);
     told("SCRAM-SHA-256", "an empty response to it logs in",
         server_step(&config, &server, TEXT(EMPTY_RESPONSE), server_nonce, &progress, &out) == FE2O3_OK
             && progress == FE2O3_AUTHENTICATED && spells(&out, TEXT(BARE_OK)) && names(&server, TEXT("user")));
@@ -641,13 +661,13 @@ static void after_an_empty_challenge(const struct fe2o3_sasl_server_config *conf
     struct body out;
     uint32_t progress = 9;
     told("SCRAM-SHA-256", "the response names the user",
-        claimed_user(&server, TEXT(LATE_FIRST), &out) == FE2O3_OK && spells(&out, TEXT("user")));
+        claimed_user(&server, TEXT(LATE_FIRST), &out) == FE2O3_NEEDS_RECORDS && spells(&out, TEXT("user")));
     told("SCRAM-SHA-256", "the response is the initial response, with the nonce of the init",
         server_step(config, &server, TEXT(LATE_FIRST), client_nonce, &progress, &out) == FE2O3_OK
             && progress == FE2O3_IN_PROGRESS && spells(&out, TEXT(CHALLENGE))
             && answers(&server, config, TEXT(RESPONSE), TEXT(OUTCOME_OK), FE2O3_AUTHENTICATED)
             && names(&server, TEXT("user")));
-    signing.mechanisms |= FE2O3_SIGNATURE_BY_CHALLENGE;
+    signing.flags |= FE2O3_SIGNATURE_BY_CHALLENGE;
     server = saved;
     told("SCRAM-SHA-256", "the initial response and the signature by challenges",
         answers(&server, &signing, TEXT(LATE_FIRST), TEXT(CHALLENGE), FE2O3_IN_PROGRESS)
@@ -656,14 +676,14 @@ static void after_an_empty_challenge(const struct fe2o3_sasl_server_config *conf
             && names(&server, TEXT("user")));
     server = saved;
     told("SCRAM-SHA-256", "a second init after the empty challenge",
-        claimed_user(&server, TEXT(LATE_INIT), &out) == FE2O3_NAMES_NO_USER
+        claimed_user(&server, TEXT(LATE_INIT), &out) == FE2O3_NO_SUCH_MECHANISM
             && server_step(config, &server, TEXT(LATE_INIT), server_nonce, &progress, &out) == FE2O3_UNEXPECTED_FRAME);
     server = saved;
     told("SCRAM-SHA-256", "a second init with an initial response",
         server_step(config, &server, TEXT(INIT), server_nonce, &progress, &out) == FE2O3_UNEXPECTED_FRAME);
     server = saved;
     told("SCRAM-SHA-256", "an empty response to the empty challenge",
-        claimed_user(&server, TEXT(EMPTY_RESPONSE), &out) == FE2O3_NAMES_NO_USER
+        claimed_user(&server, TEXT(EMPTY_RESPONSE), &out) == FE2O3_NO_SUCH_MECHANISM
             && answers(&server, config, TEXT(EMPTY_RESPONSE), TEXT(BARE_AUTH), FE2O3_REFUSED_AUTH)
             && rejects(&server, FE2O3_SERVER_CANNOT_PARSE_GS2_HEADER));
 }
@@ -678,10 +698,10 @@ static void initial_response_by_challenge(void)
     told("SCRAM-SHA-256", "no initial response, which is not asked for",
         answers(&server, &config, TEXT(LATE_INIT), TEXT(BARE_AUTH), FE2O3_REFUSED_AUTH)
             && rejects(&server, FE2O3_REJECTION_NO_INITIAL_RESPONSE));
-    config.mechanisms |= FE2O3_INITIAL_RESPONSE_BY_CHALLENGE;
+    config.flags |= FE2O3_INITIAL_RESPONSE_BY_CHALLENGE;
     server = opened(&config);
     told("SCRAM-SHA-256", "an init without an initial response",
-        claimed_user(&server, TEXT(LATE_INIT), &out) == FE2O3_NAMES_NO_USER
+        claimed_user(&server, TEXT(LATE_INIT), &out) == FE2O3_NO_SUCH_MECHANISM
             && answers(&server, &config, TEXT(LATE_INIT), TEXT(EMPTY_CHALLENGE), FE2O3_IN_PROGRESS)
             && memcmp(&server, &wanted, sizeof server) == 0
             && fe2o3_scram_server_authenticated_user(&server.scram, ROOM(out))
@@ -699,7 +719,7 @@ static void initial_response_by_challenge(void)
     server = opened(&config);
     told("PLAIN", "an init without an initial response",
         answers(&server, &config, TEXT(LATE_PLAIN_INIT), TEXT(EMPTY_CHALLENGE), FE2O3_IN_PROGRESS)
-            && claimed_user(&server, TEXT(LATE_PLAIN), &out) == FE2O3_OK && spells(&out, TEXT("user"))
+            && claimed_user(&server, TEXT(LATE_PLAIN), &out) == FE2O3_NEEDS_RECORDS && spells(&out, TEXT("user"))
             && answers(&server, &config, TEXT(LATE_PLAIN), TEXT(BARE_OK), FE2O3_AUTHENTICATED)
             && names(&server, TEXT("user")));
     server = opened(&config);
@@ -712,11 +732,13 @@ static void initial_response_by_challenge(void)
         answers(&server, &config, TEXT(LATE_FIRST), TEXT(BARE_AUTH), FE2O3_REFUSED_AUTH)
             && rejects(&server, FE2O3_REJECTION_UNEXPECTED_RESPONSE));
     server = asked();
-    config.mechanisms = FE2O3_OFFER_PLAIN | FE2O3_INITIAL_RESPONSE_BY_CHALLENGE;
+    config.mechanisms = FE2O3_OFFER_PLAIN;
+    config.flags = FE2O3_INITIAL_RESPONSE_BY_CHALLENGE;
     told("SCRAM-SHA-256", "an init that was asked, at a server that does not offer its mechanism",
         answers(&server, &config, TEXT(LATE_FIRST), TEXT(BARE_AUTH), FE2O3_REFUSED_AUTH)
             && rejects(&server, FE2O3_REJECTION_UNEXPECTED_RESPONSE));
-    config.mechanisms = FE2O3_INITIAL_RESPONSE_BY_CHALLENGE;
+    config.mechanisms = 0;
+    config.flags = FE2O3_INITIAL_RESPONSE_BY_CHALLENGE;
     told("nothing", "offered, but to ask for initial responses", offer_by(&config, &out) == FE2O3_NO_SUCH_MECHANISM);
 }
 
@@ -809,7 +831,7 @@ static void channels(const char *mechanism, uint32_t version)
     struct fe2o3_sasl_server_config config = config_of(&record);
     struct exchange one;
     struct body offer;
-    config.mechanisms |= FE2O3_ACCEPT_CBIND_FLAG_Y;
+    config.flags |= FE2O3_ACCEPT_CBIND_FLAG_Y;
     config.channels.binds_channel = 1;
     config.channels.tls_exporter_len = login.login.channel_data_len = 32;
     memset(config.channels.tls_exporter, 7, 32);

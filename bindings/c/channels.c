@@ -67,8 +67,8 @@ static void begin(struct pair *pair, const struct hash *hash, uint32_t use, int 
     memset(pair, 0, sizeof *pair);
     pair->hash = hash;
     fe2o3_scram_record_make(hash->version, FE2O3_TYPED, TEXT("pencil"), salt, sizeof salt, 4096, &pair->record);
-    pair->config = (struct fe2o3_sasl_server_config){hash->offer, 4096, TEXT("user"), &pair->record, 1, FE2O3_NONE, {0},
-        0, FE2O3_NONE};
+    pair->config = (struct fe2o3_sasl_server_config){hash->offer, 0, 4096, 1, TEXT("user"), &pair->record, 1,
+        FE2O3_NONE, {0}, 0, FE2O3_NONE};
     pair->config.channels.binds_channel = (uint32_t)server_binds;
     pair->config.channels.tls_exporter_len = 32;
     memset(pair->config.channels.tls_exporter, 's', 32);
@@ -225,7 +225,7 @@ static void foreign(const struct hash *hash, const char *what, int binds, uint32
 {
     struct pair pair;
     begin(&pair, hash, FE2O3_CHANNEL_NOT_OFFERED, binds);
-    pair.config.mechanisms |= options;
+    pair.config.flags |= options;
     told(&pair, what,
         offered(&pair, binds, "y,,") && init_moved(&pair) && response_moved(&pair, hash->final)
             && is_at(&pair.server.connection, progress, progress == FE2O3_FAILED ? FE2O3_REFUSED_AUTH : FE2O3_OK)

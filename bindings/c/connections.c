@@ -80,20 +80,23 @@ static uint32_t serves(const struct fe2o3_sasl_server_config *config, struct fe2
 /* Whether an init leaves a server so that accepts extended headers or not, as one call and as one for each byte. */
 static int serves_init(const struct fe2o3_sasl_server_config *config, uint32_t accepts, const struct row *row)
 {
+    static const struct fe2o3_sasl_server_config no_offer;
     uint32_t wanted = accepts ? row->accepted : row->otherwise;
     int holds = 1;
     for (size_t piece = 1; piece <= row->len; piece += row->len - 1) {
         struct fe2o3_sasl_server server = {0};
         struct sent sent, name, body;
-        size_t last = row->len - piece;
+        size_t last = row->len - piece, taken = 9;
         server.connection.extended_headers = accepts;
         holds &= serves(config, &server, TEXT(SASL), &sent) == FE2O3_OK;
         for (size_t at = 0; at < last; at += piece)
             holds &= serves(config, &server, row->frame + at, piece, &sent) == FE2O3_OK
                 && server.connection.progress == FE2O3_IN_PROGRESS && server.scram.rejection == FE2O3_REJECTION_NONE;
-        holds &= fe2o3_sasl_server_claimed_user(&server, row->frame + last, piece, ROOM(name))
-            == (wanted == FE2O3_OK ? FE2O3_OK : FE2O3_NAMES_NO_USER);
-        holds &= wanted != FE2O3_OK || spells(&name, TEXT("user"));
+        /* (a server that offers nothing asks for records, or rejects the configuration) */
+        holds &=
+            fe2o3_sasl_server_receive(&no_offer, &server, row->frame + last, piece, server_nonce, &taken, ROOM(name))
+            == (wanted == FE2O3_OK ? FE2O3_NEEDS_RECORDS : FE2O3_NO_SUCH_MECHANISM);
+        holds &= taken == 9 && (wanted != FE2O3_OK || spells(&name, TEXT("user")));
         holds &= fe2o3_sasl_peek_frame(&server.connection, row->frame + last, piece, ROOM(body)) == FE2O3_OK;
         holds &= wanted != FE2O3_OK || spells(&body, TEXT("\2\1\0\0" PLAIN_LIST));
         holds &= accepts != 0 || (body.len == row->len - 4 && memcmp(body.bytes, row->frame + 4, body.len) == 0);
@@ -108,7 +111,7 @@ static int serves_init(const struct fe2o3_sasl_server_config *config, uint32_t a
 static void servers(void)
 {
     struct fe2o3_scram_record record = {0};
-    struct fe2o3_sasl_server_config config = {FE2O3_OFFER_PLAIN, 4096, TEXT("user"), &record, 1, TEXT(""), {0}, 0,
+    struct fe2o3_sasl_server_config config = {FE2O3_OFFER_PLAIN, 0, 4096, 1, TEXT("user"), &record, 1, TEXT(""), {0}, 0,
         FE2O3_NONE};
     fe2o3_scram_record_make(FE2O3_SHA_256, FE2O3_TYPED, TEXT("pencil"), salt, sizeof salt, 4096, &record);
     for (size_t at = 0; at < sizeof inits / sizeof *inits; at++) {
@@ -255,8 +258,8 @@ static int hears_twice(const struct fe2o3_sasl_login *login, struct fe2o3_sasl_c
 static void nonces(void)
 {
     struct fe2o3_scram_record record = {0};
-    struct fe2o3_sasl_server_config config = {FE2O3_OFFER_SCRAM_SHA_256, 4096, TEXT("user"), &record, 1, FE2O3_NONE,
-        {0}, 0, FE2O3_NONE};
+    struct fe2o3_sasl_server_config config = {FE2O3_OFFER_SCRAM_SHA_256, 0, 4096, 1, TEXT("user"), &record, 1,
+        FE2O3_NONE, {0}, 0, FE2O3_NONE};
     struct fe2o3_sasl_login login = {FE2O3_SCRAM, FE2O3_NONE,
         {.version = FE2O3_SHA_256,
             .min_iterations = 4096,

@@ -210,10 +210,17 @@ static void connection(const struct fe2o3_sasl_login *login, struct fe2o3_sasl_s
         if (all.to_server.len > 0) {
             CALL(sasl_wants_nonce, &all.server_side.connection);
             CALL(sasl_peek_frame, &all.server_side.connection, GIVEN(all.to_server), ROOM(all.out));
+            config->looked_up = 0;
             config->username_len = 0;
-            if (CALL(sasl_server_claimed_user, &all.server_side, GIVEN(all.to_server), ROOM(all.user)) == FE2O3_OK)
-                config->username_len = all.user.len;
-            CALL(sasl_server_receive, config, &all.server_side, GIVEN(all.to_server), nonce, &all.taken, ROOM(all.out));
+            if (CALL(sasl_server_receive, config, &all.server_side, GIVEN(all.to_server), nonce, &all.taken,
+                    ROOM(all.out))
+                == FE2O3_NEEDS_RECORDS) {
+                config->looked_up = 1;
+                config->username_len = all.out.len;
+                memcpy(all.user.bytes, all.out.bytes, all.out.len);
+                CALL(sasl_server_receive, config, &all.server_side, GIVEN(all.to_server), nonce, &all.taken,
+                    ROOM(all.out));
+            }
             send(&all.to_client);
             drop(&all.to_server);
         }
@@ -239,12 +246,11 @@ static void connections(const struct fe2o3_sasl_login *login, struct fe2o3_sasl_
 {
     static const uint32_t options[] = {0, FE2O3_SIGNATURE_BY_CHALLENGE, FE2O3_INITIAL_RESPONSE_BY_CHALLENGE,
         FE2O3_PLAIN_SASLPREP, FE2O3_STRICT, FE2O3_REJECT_MISPLACED};
-    uint32_t offers = config->mechanisms;
     for (size_t which = 0; which < sizeof options / sizeof *options; which++) {
-        config->mechanisms = offers | options[which];
+        config->flags = options[which];
         connection(login, config, due);
     }
-    config->mechanisms = offers;
+    config->flags = 0;
 }
 
 static void logins(uint32_t version)

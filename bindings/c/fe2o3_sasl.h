@@ -25,8 +25,9 @@
  *
  * What the calls promise:
  *
- * - A call that fails changes nothing, with two exceptions: with FE2O3_ROOM_TOO_SMALL `out_len` says how many bytes
- *   suffice, and `fe2o3_scram_lines_find` and `fe2o3_scram_lines_all_have` write `line`.
+ * - A call that fails changes nothing, with three exceptions: with FE2O3_ROOM_TOO_SMALL `out_len` says how many bytes
+ *   suffice, with FE2O3_NEEDS_RECORDS a user name is written to `out`, and its length to `out_len`, and
+ *   `fe2o3_scram_lines_find` and `fe2o3_scram_lines_all_have` write `line`.
  * - A call that succeeds writes its text to the beginning of `out`, and the text's length to `out_len`. The rest of `out`
  *   stays as it was. There is no zero at the end of the text.
  * - Each call returns, never aborts, and keeps no pointer. It allocates by malloc and frees all of it. If an allocation
@@ -85,8 +86,8 @@ enum fe2o3_secret {
     FE2O3_BY_PASSWORD = 0,
     /* The keys. */
     FE2O3_BY_KEYS = 1,
-    /* The keys if they are of the server's salt and iteration count, otherwise the password. The login has to have both:
-     * without keys the calls return FE2O3_NO_KEYS. */
+    /* The keys if they are of the server's salt and iteration count, otherwise the password. A struct of zeros has no keys
+     * yet: then the password. */
     FE2O3_BY_PASSWORD_AND_KEYS = 2
 };
 
@@ -157,24 +158,28 @@ enum fe2o3_offer {
     /* ANONYMOUS. */
     FE2O3_OFFER_ANONYMOUS = 16,
     /* EXTERNAL, if `external_authcid` is not empty. */
-    FE2O3_OFFER_EXTERNAL = 32,
-    /* No mechanism: SCRAM also accepts the GS2 header `y,,`: see the field `accept_cbind_flag_y` of struct
+    FE2O3_OFFER_EXTERNAL = 32
+};
+
+/* What else a server does: a sum of these values. */
+enum fe2o3_server_flag {
+    /* SCRAM also accepts the GS2 header `y,,`: see the field `accept_cbind_flag_y` of struct
      * fe2o3_scram_rules. */
     FE2O3_ACCEPT_CBIND_FLAG_Y = 64,
-    /* No mechanism: PLAIN tests the password as received, also a non-ASCII one. Clients prepare their passwords. */
+    /* PLAIN tests the password as received, also a non-ASCII one. Clients prepare their passwords. */
     FE2O3_PLAIN_PREPARED = 128,
-    /* No mechanism: PLAIN tests the text that SASLprep prepares the password to. Not with FE2O3_PLAIN_PREPARED. */
+    /* PLAIN tests the text that SASLprep prepares the password to. Not with FE2O3_PLAIN_PREPARED. */
     FE2O3_PLAIN_SASLPREP = 256,
-    /* No mechanism: SCRAM and PLAIN answer an init without an initial response by an empty challenge. The client's
+    /* SCRAM and PLAIN answer an init without an initial response by an empty challenge. The client's
      * response is then the initial response (RFC 4422, section 5). Without this value such an init fails. */
     FE2O3_INITIAL_RESPONSE_BY_CHALLENGE = 512,
-    /* No mechanism: SCRAM sends the server's signature in a challenge, and the outcome OK follows the client's empty
+    /* SCRAM sends the server's signature in a challenge, and the outcome OK follows the client's empty
      * response (RFC 4422, section 5). For clients that do not read the data of an outcome. */
     FE2O3_SIGNATURE_BY_CHALLENGE = 1024,
-    /* No mechanism: SCRAM is strict. It reads messages by the grammar of RFC 5802, section 7: see the field `strict` of
+    /* SCRAM is strict. It reads messages by the grammar of RFC 5802, section 7: see the field `strict` of
      * struct fe2o3_scram_rules. */
     FE2O3_STRICT = 2048,
-    /* No mechanism: SCRAM rejects what is no extension in the place of one, and nothing more: see the field
+    /* SCRAM rejects what is no extension in the place of one, and nothing more: see the field
      * `reject_misplaced` of struct fe2o3_scram_rules. A server with `channels` does so in any case. */
     FE2O3_REJECT_MISPLACED = 4096
 };
@@ -392,9 +397,11 @@ enum fe2o3_status {
     FE2O3_ENDED = 13,
     /* The struct of the connection has a value that no call writes. */
     FE2O3_INVALID_SNAPSHOT = 14,
-    /* The bytes do not complete a frame that claims a user name, the message of PLAIN claims none, or the user name for
-     * a message of PLAIN is empty. */
+    /* The message of PLAIN claims no user name, or the user name for a message of PLAIN is empty. */
     FE2O3_NAMES_NO_USER = 15,
+    /* The server needs the records of the user whose name is in `out`. Nothing has changed: look the user up, and repeat
+     * the call with the same bytes. */
+    FE2O3_NEEDS_RECORDS = 16,
     /* The message is not UTF-8. */
     FE2O3_CLIENT_UTF8_ERROR = 20,
     /* The server-first message has fewer than three parts. */
@@ -576,7 +583,10 @@ void fe2o3_wipe(void *memory, size_t len);
  *
  * Prepare a non-ASCII password before you store or use it, and pass the result where a prepared password is expected.
  * `unassigned` is FE2O3_UNASSIGNED_REFUSED for a text that is stored, and FE2O3_UNASSIGNED_ALLOWED for one that is
- * only compared with stored texts (RFC 3454, section 7). */
+ * only compared with stored texts (RFC 3454, section 7).
+ *
+ * The errors are, in this order: FE2O3_NO_SUCH_CHOICE for another `unassigned`; FE2O3_NOT_UTF8;
+ * FE2O3_PROHIBITED_CHARACTER; FE2O3_MIXED_DIRECTIONS; FE2O3_UNASSIGNED_CODE_POINT; and FE2O3_ROOM_TOO_SMALL. */
 uint32_t fe2o3_saslprep(
     const uint8_t *text,
     size_t text_len,
@@ -609,7 +619,11 @@ struct fe2o3_scram_record {
  * of which the record was made.
  *
  * `salt` is random bytes, fresh for each record, at most 128: 16 suffice. For SCRAM-SHA-256 some clients of MongoDB
- * require 28. */
+ * require 28.
+ *
+ * The errors are, in this order: FE2O3_NO_SUCH_VERSION; FE2O3_NO_SUCH_CHOICE for another `form`; FE2O3_NOT_UTF8;
+ * FE2O3_TOO_LONG for a salt of more than 128 bytes; FE2O3_NOT_PRINTABLE for a typed password that is not printable
+ * ASCII; and FE2O3_ZERO_ITERATIONS. */
 uint32_t fe2o3_scram_record_make(
     uint32_t version,
     uint32_t form,
@@ -640,7 +654,10 @@ uint32_t fe2o3_scram_record_from_fields(
  * answers unknown users like known ones. The login then fails at its proof.
  *
  * `secret` is 32 random bytes, one value for all names, kept as long as the records. `salt_len`, at most 64, and
- * `iterations` are those of the server's other records. An iteration count of 0 is not rejected here. */
+ * `iterations` are those of the server's other records. An iteration count of 0 is not rejected here.
+ *
+ * The errors are, in this order: FE2O3_NO_SUCH_VERSION; FE2O3_NOT_UTF8 for the name; and FE2O3_TOO_LONG for a
+ * `salt_len` above 64. */
 uint32_t fe2o3_scram_record_mock(
     uint32_t version,
     const uint8_t *secret,
@@ -651,10 +668,16 @@ uint32_t fe2o3_scram_record_mock(
     uint32_t iterations,
     struct fe2o3_scram_record *kept);
 
-/* Parses the text of a record, as PostgreSQL writes it (RFC 5803, section 2). */
+/* Parses the text of a record, as PostgreSQL writes it (RFC 5803, section 2).
+ *
+ * The errors are, in this order: FE2O3_NOT_UTF8; the fault of the text, such as FE2O3_RECORD_PARTS_MISMATCH; and
+ * FE2O3_TOO_LONG for a salt of more than 128 bytes. */
 uint32_t fe2o3_scram_record_parse(const uint8_t *text, size_t text_len, struct fe2o3_scram_record *kept);
 
-/* Writes the text of a record, as PostgreSQL reads it (RFC 5803, section 2): at most 384 bytes. */
+/* Writes the text of a record, as PostgreSQL reads it (RFC 5803, section 2): at most 384 bytes.
+ *
+ * The errors are, in this order: FE2O3_NO_SUCH_VERSION, and FE2O3_TOO_LONG for a `salt_len` above 128, if the struct
+ * holds no record; and FE2O3_ROOM_TOO_SMALL. */
 uint32_t fe2o3_scram_record_text(
     const struct fe2o3_scram_record *kept,
     uint8_t *out,
@@ -663,7 +686,10 @@ uint32_t fe2o3_scram_record_text(
 
 /* Compares a password, for instance one received by PLAIN, with a record: FE2O3_OK if it is the record's,
  * FE2O3_OTHER_PASSWORD if not. `form` is one of enum fe2o3_password_form. The call hashes as often as the record's
- * iteration count says, so pass only your own records. */
+ * iteration count says, so pass only your own records.
+ *
+ * The errors are, in this order: FE2O3_NO_SUCH_VERSION, and FE2O3_TOO_LONG for a `salt_len` above 128, if the struct
+ * holds no record; FE2O3_NO_SUCH_CHOICE for another `form`; FE2O3_NOT_UTF8; and FE2O3_OTHER_PASSWORD. */
 uint32_t fe2o3_scram_record_verify(
     const struct fe2o3_scram_record *kept,
     uint32_t form,
@@ -704,7 +730,10 @@ uint32_t fe2o3_scram_record_verify_salted(
  * the first counts.
  *
  * If nothing is found, `line` is the number of the line that cannot be parsed, counted from 1, or 0 if every line
- * can. */
+ * can.
+ *
+ * The errors are, in this order: FE2O3_NO_SUCH_VERSION; FE2O3_NOT_UTF8 for the name or the text; the fault of the
+ * first line that cannot be parsed; and FE2O3_NO_SUCH_USER, or FE2O3_TOO_LONG for a salt of more than 128 bytes. */
 uint32_t fe2o3_scram_lines_find(
     const uint8_t *lines,
     size_t lines_len,
@@ -719,7 +748,10 @@ uint32_t fe2o3_scram_lines_find(
  * is offered, whether its user has a record of it or not. A text without users has 1 for every version.
  *
  * If the text cannot be parsed, `line` is the number of the first line that cannot, counted from 1. It is 0 after the other
- * errors, except FE2O3_OUT_OF_MEMORY, which leaves it unchanged. */
+ * errors, except FE2O3_OUT_OF_MEMORY, which leaves it unchanged.
+ *
+ * The errors are, in this order: FE2O3_NO_SUCH_VERSION; FE2O3_NOT_UTF8; and the fault of the first line that cannot
+ * be parsed. */
 uint32_t fe2o3_scram_lines_all_have(
     const uint8_t *lines,
     size_t lines_len,
@@ -727,8 +759,11 @@ uint32_t fe2o3_scram_lines_all_have(
     size_t *line,
     uint32_t *all);
 
-/* Writes the line of a user and a record, with its line feed, as `fe2o3_scram_lines_find` reads it. Returns
- * FE2O3_NOT_WRITABLE if the name contains a line feed or the iteration count is 0. */
+/* Writes the line of a user and a record, with its line feed, as `fe2o3_scram_lines_find` reads it.
+ *
+ * The errors are, in this order: FE2O3_NOT_UTF8 for the name; FE2O3_NO_SUCH_VERSION, and FE2O3_TOO_LONG for a `salt_len`
+ * above 128, if the struct holds no record; FE2O3_NOT_WRITABLE if the name contains a line feed or the iteration count
+ * is 0; and FE2O3_ROOM_TOO_SMALL. */
 uint32_t fe2o3_scram_line(
     const uint8_t *username,
     size_t username_len,
@@ -758,7 +793,9 @@ struct fe2o3_scram_keys {
 #define FE2O3_SCRAM_KEYS_INIT { 0, 0, 0, { 0 }, { 0 }, { 0 } }
 
 /* Derives the keys of a password, for a server that uses this salt and iteration count. `form` is one of enum
- * fe2o3_password_form. */
+ * fe2o3_password_form.
+ *
+ * The errors are those of `fe2o3_scram_record_make`, in the same order. */
 uint32_t fe2o3_scram_keys_make(
     uint32_t version,
     uint32_t form,
@@ -869,7 +906,11 @@ struct fe2o3_scram_client {
 /* Writes the client-first message. This starts a new exchange, whatever the state of the client is. `nonce` is 32
  * fresh random bytes. With FE2O3_CHANNEL_BOUND name the mechanism with `-PLUS` to the server, such as
  * SCRAM-SHA-256-PLUS (RFC 5802, section 6). The whole login is tested, also the secret, which this message does not use.
- */
+ *
+ * The faults of a login are, in this order: FE2O3_NO_SUCH_VERSION; FE2O3_NOT_UTF8 for the user name; FE2O3_NOT_UTF8,
+ * FE2O3_PROHIBITED_CHARACTER for a zero byte, and FE2O3_TOO_LONG for the identity; FE2O3_NO_SUCH_CHANNEL and
+ * FE2O3_CHANNEL_DATA_LENGTH; FE2O3_NO_SUCH_SECRET; FE2O3_NO_SUCH_CHOICE and FE2O3_NOT_UTF8 for the password;
+ * FE2O3_NO_KEYS and FE2O3_OTHER_VERSION for the keys. After these comes FE2O3_ROOM_TOO_SMALL. */
 uint32_t fe2o3_scram_client_first(
     const struct fe2o3_login *login,
     struct fe2o3_scram_client *client,
@@ -908,7 +949,10 @@ uint32_t fe2o3_scram_client_verify(
     size_t server_final_len);
 
 /* Writes the keys of a complete login, for the next login to the same server. As long as the server keeps its salt
- * and iteration count, a login by keys needs no password and no PBKDF2. The keys are secret: they suffice to log in. */
+ * and iteration count, a login by keys needs no password and no PBKDF2. The keys are secret: they suffice to log in.
+ *
+ * The errors are, in this order: FE2O3_CLIENT_ILLEGAL_CLIENT_STATE unless a login is complete; and FE2O3_NO_KEYS if
+ * the struct had no room for its salt. */
 uint32_t fe2o3_scram_client_get_keys(const struct fe2o3_scram_client *client, struct fe2o3_scram_keys *keys);
 
 /* ---- A SCRAM server, over messages ---- */
@@ -1153,9 +1197,9 @@ uint32_t fe2o3_scram_server_error_message(uint32_t status, uint8_t *out, size_t 
  * which is empty if it acts for itself, the user name and the password, with a zero byte between them. The message has
  * the password in clear, so send it over TLS only. Prepare a non-ASCII password first (`fe2o3_saslprep`).
  *
- * Returns FE2O3_NOT_UTF8 if a word is not UTF-8, FE2O3_NAMES_NO_USER if the user name is empty, FE2O3_EMPTY_PASSWORD if
- * the password is, FE2O3_PROHIBITED_CHARACTER if a word contains a zero byte, and FE2O3_TOO_LONG if the identity has more
- * than 256 bytes. */
+ * Returns, in this order, FE2O3_NOT_UTF8 if a word is not UTF-8, FE2O3_NAMES_NO_USER if the user name is empty,
+ * FE2O3_EMPTY_PASSWORD if the password is, FE2O3_PROHIBITED_CHARACTER if a word contains a zero byte, and
+ * FE2O3_TOO_LONG if the identity has more than 256 bytes. */
 uint32_t fe2o3_plain_message(
     const uint8_t *acts_for,
     size_t acts_for_len,
@@ -1202,9 +1246,9 @@ uint32_t fe2o3_plain_claimed_identity(
  * `identities` are those that the user may act for besides itself (RFC 4422, section 2), with a zero byte after each but
  * the last, which may have one too.
  *
- * Returns FE2O3_NO_SUCH_CHOICE if `passwords` is none of the enum, FE2O3_NOT_UTF8 if the identities are not UTF-8, and
- * FE2O3_SERVER_AUTHENTICATION_FAILED for every message that does not log in: a wrong password, an unknown user, an
- * identity that the user may not act for, or no acceptable message. */
+ * Returns, in this order, FE2O3_NO_SUCH_CHOICE if `passwords` is none of the enum, FE2O3_NOT_UTF8 if the identities
+ * are not UTF-8, and FE2O3_SERVER_AUTHENTICATION_FAILED for every message that does not log in: a wrong password, an
+ * unknown user, an identity that the user may not act for, or no acceptable message. */
 uint32_t fe2o3_plain_verify(
     const struct fe2o3_scram_record *records,
     size_t records_count,
@@ -1293,7 +1337,11 @@ uint32_t fe2o3_sasl_client_open(uint8_t *out, size_t out_size, size_t *out_len);
  *
  * FE2O3_OK does not mean that the login succeeds: look at `progress` and `why` of the connection. `taken` is how many
  * bytes were used. While `progress` is FE2O3_IN_PROGRESS, pass the rest in the next call; after the login it belongs
- * to AMQP. */
+ * to AMQP.
+ *
+ * The errors are, in this order: FE2O3_ROOM_TOO_SMALL; FE2O3_ENDED; FE2O3_INVALID_SNAPSHOT for a struct that no call
+ * has written; FE2O3_NOT_UTF8 for the hostname; the faults of the login, for SCRAM as in `fe2o3_scram_client_first`;
+ * and FE2O3_INVALID_SNAPSHOT for a part of a frame that is not expected. Each leaves the struct unchanged. */
 uint32_t fe2o3_sasl_client_receive(
     const struct fe2o3_sasl_login *login,
     struct fe2o3_sasl_client *client,
@@ -1310,16 +1358,22 @@ uint32_t fe2o3_sasl_client_receive(
 /* What a server offers, and the records of one user. You lend the struct to each call. */
 struct fe2o3_sasl_server_config {
     /* The offered mechanisms: a sum of values of enum fe2o3_offer. PLAIN sends the password in clear, so offer it
-     * over TLS only. It rejects every password that is not printable ASCII, unless the sum has FE2O3_PLAIN_PREPARED
-     * or FE2O3_PLAIN_SASLPREP. By the latter it also rejects a password that SASLprep rejects or prepares to the empty
-     * text. With FE2O3_SIGNATURE_BY_CHALLENGE SCRAM's outcome OK follows the client's empty response to a challenge.
-     * With FE2O3_INITIAL_RESPONSE_BY_CHALLENGE an init for SCRAM or PLAIN without an initial response is answered by
-     * an empty challenge, and the response is the initial response. With FE2O3_STRICT SCRAM is strict, as by the
-     * field `strict` of struct fe2o3_scram_rules, and with FE2O3_REJECT_MISPLACED as by its field `reject_misplaced`.
-     */
+     * over TLS only. */
     uint32_t mechanisms;
+    /* What else the server does: a sum of values of enum fe2o3_server_flag. PLAIN rejects every password that is not
+     * printable ASCII, unless the sum has FE2O3_PLAIN_PREPARED or FE2O3_PLAIN_SASLPREP. By the latter it also rejects a
+     * password that SASLprep rejects or prepares to the empty text. With FE2O3_SIGNATURE_BY_CHALLENGE SCRAM's outcome
+     * OK follows the client's empty response to a challenge. With FE2O3_INITIAL_RESPONSE_BY_CHALLENGE an init for SCRAM
+     * or PLAIN without an initial response is answered by an empty challenge, and the response is the initial response.
+     * With FE2O3_STRICT SCRAM is strict, as by the field `strict` of struct fe2o3_scram_rules, and with
+     * FE2O3_REJECT_MISPLACED as by its field `reject_misplaced`. */
+    uint32_t flags;
     /* The iteration count with which PLAIN hashes a password if no record can be read. */
     uint32_t iterations;
+    /* Whether `username`, `records` and `identities` are what your store has of the user whom the bytes claim. 0 is no,
+     * any other value yes. If it is 0 and the bytes claim a user, `fe2o3_sasl_server_receive` returns
+     * FE2O3_NEEDS_RECORDS. If they claim none, these fields play no part. */
+    uint32_t looked_up;
     /* The name of the user whose records these are, without escapes. */
     const uint8_t *username;
     size_t username_len;
@@ -1353,8 +1407,8 @@ struct fe2o3_sasl_server_config {
     size_t identities_len;
 };
 /* All zeros. */
-#define FE2O3_SASL_SERVER_CONFIG_INIT { 0, 0, NULL, 0, NULL, 0, NULL, 0, { 0, 0, { 0 }, 0, { 0 }, 0, { 0 } }, 0, NULL, \
-    0 }
+#define FE2O3_SASL_SERVER_CONFIG_INIT { 0, 0, 0, 0, NULL, 0, NULL, 0, NULL, 0, { 0, 0, { 0 }, 0, { 0 }, 0, { 0 } }, 0, \
+    NULL, 0 }
 
 /* The server's side of a connection between calls. All zeros is a connection that has received nothing. */
 struct fe2o3_sasl_server {
@@ -1369,30 +1423,34 @@ struct fe2o3_sasl_server {
 #define FE2O3_SASL_SERVER_INIT { { 0, 0, 0, 0, { 0 }, 0 }, { 0, 0, 0, 0, 0, 0, 0, 0, { 0 }, { 0 }, { 0 }, { 0 }, { 0 } \
     } }
 
-/* Writes the user name that the next frame claims, if `bytes` complete it: that of an init for SCRAM or PLAIN, for a
- * response that of the open challenge of SCRAM, and for the response to an empty challenge that of the initial
- * response. Nobody is authenticated yet: use it only to look up the record
- * for `fe2o3_sasl_server_receive`. Returns FE2O3_NAMES_NO_USER if the frame is not complete or claims no name; then no
- * record is needed. */
-uint32_t fe2o3_sasl_server_claimed_user(
-    const struct fe2o3_sasl_server *server,
-    const uint8_t *bytes,
-    size_t bytes_len,
-    uint8_t *out,
-    size_t out_size,
-    size_t *out_len);
-
 /* Takes received bytes, to the end of the expected header or frame, and writes the bytes to send, at most 520. `out`
  * needs 520 bytes, which is tested before anything is hashed. `nonce` is 32 fresh random bytes, or any bytes if
  * `fe2o3_sasl_wants_nonce` returns 0.
  *
- * Before the call, look up the record of the user that the bytes claim (`fe2o3_sasl_server_claimed_user`). FE2O3_OK
- * does not mean that the login succeeds: look at `progress` and `why` of the connection. `taken` is how many bytes
- * were used. While `progress` is FE2O3_IN_PROGRESS, pass the rest in the next call; after the login it belongs to
+ * Call it first with `looked_up` 0. If the bytes complete a frame that claims a user, it takes nothing, writes the name
+ * to `out`, at most 512 bytes, and returns FE2O3_NEEDS_RECORDS. Nobody is authenticated yet: use the name only to look
+ * the user up. Put what your store has of the user into `config`, set `looked_up`, and repeat the call with the same
+ * bytes.
+ *
+ * An init for SCRAM or PLAIN claims the user of its initial response, and so does the response to an empty challenge. The
+ * response to a challenge of SCRAM claims the user of that challenge, `user` of the field `scram` while its `state` says
+ * that a challenge is open. You can look that user up before, and set `looked_up` at once.
+ *
+ * FE2O3_OK does not mean that the login succeeds: look at `progress` and `why` of the connection. `taken` is how many
+ * bytes were used. While `progress` is FE2O3_IN_PROGRESS, pass the rest in the next call; after the login it belongs to
  * AMQP.
  *
- * If a name or a message does not fit into the struct, the call returns FE2O3_TOO_LONG, and you have to close the
- * connection. */
+ * A call that returns an error changes neither `server` nor `taken`. The errors are, in this order:
+ *
+ * - FE2O3_ROOM_TOO_SMALL if `out` has fewer than 520 bytes,
+ * - FE2O3_NEEDS_RECORDS,
+ * - FE2O3_ENDED and FE2O3_INVALID_SNAPSHOT of the connection,
+ * - FE2O3_NO_SUCH_MECHANISM if `mechanisms` is no sum of values of enum fe2o3_offer,
+ * - FE2O3_NOT_UTF8 for `username`, `external_authcid` and `identities`,
+ * - FE2O3_CHANNEL_DATA_LENGTH if the server binds channels, and data have more than 64 bytes,
+ * - FE2O3_NO_SUCH_MECHANISM if nothing would be offered,
+ * - FE2O3_INVALID_SNAPSHOT if no connection of a server has this struct,
+ * - FE2O3_TOO_LONG if a name or a message does not fit into the struct. Close the connection then. */
 uint32_t fe2o3_sasl_server_receive(
     const struct fe2o3_sasl_server_config *config,
     struct fe2o3_sasl_server *server,
@@ -1418,7 +1476,10 @@ uint32_t fe2o3_sasl_wants_nonce(const struct fe2o3_connection *connection);
  *
  * `expected` of the connection is the frame that has to come next. Parse the body with `fe2o3_sasl_view_frame`: a server
  * reads in it the mechanism and the hostname of an init, and a client the additional data of an outcome. Pass a list of
- * mechanisms to `fe2o3_sasl_offers`. */
+ * mechanisms to `fe2o3_sasl_offers`.
+ *
+ * The errors are, in this order: FE2O3_ENDED; FE2O3_INVALID_SNAPSHOT for a struct that no call has written; and
+ * FE2O3_ROOM_TOO_SMALL. */
 uint32_t fe2o3_sasl_peek_frame(
     const struct fe2o3_connection *connection,
     const uint8_t *bytes,
@@ -1460,11 +1521,14 @@ struct fe2o3_sasl_frame_view {
 /* All zeros. */
 #define FE2O3_SASL_FRAME_VIEW_INIT { 0, 0, 0, 0, 0, 0, NULL, 0, NULL, 0, NULL, 0 }
 
-/* Parses a frame body, without the four bytes of the frame's size. It allocates no memory. */
+/* Parses a frame body, without the four bytes of the frame's size. It allocates no memory.
+ *
+ * Returns FE2O3_MALFORMED_FRAME or FE2O3_NO_SASL_FRAME for a body that holds no frame. */
 uint32_t fe2o3_sasl_view_frame(const uint8_t *body, size_t body_len, struct fe2o3_sasl_frame_view *view);
 
-/* Tests whether a frame body is a list of mechanisms with `mechanism` in it. Returns FE2O3_NOT_IMPLEMENTED if the
- * list lacks it, and FE2O3_UNEXPECTED_FRAME for another frame. */
+/* Tests whether a frame body is a list of mechanisms with `mechanism` in it. The errors are, in this order:
+ * FE2O3_NOT_UTF8 for `mechanism`; those of `fe2o3_sasl_view_frame`; FE2O3_UNEXPECTED_FRAME for another frame; and
+ * FE2O3_NOT_IMPLEMENTED if the list lacks it. */
 uint32_t fe2o3_sasl_offers(const uint8_t *body, size_t body_len, const uint8_t *mechanism, size_t mechanism_len);
 
 #ifdef __cplusplus

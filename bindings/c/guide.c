@@ -83,7 +83,7 @@ struct store {
 
 /* The user that a client claims to be, with a record for each hash that the server offers. */
 struct user {
-    uint8_t name[256];
+    uint8_t name[512];
     size_t len, count;
     struct fe2o3_scram_record records[2];
 };
@@ -132,11 +132,13 @@ static size_t owner(const struct fe2o3_sasl_server *server, uint8_t name[256])
     return len;
 }
 
-/* Logs why a login failed. The claimed name may hold line feeds, so it is written in hexadecimal. */
+/* Logs why a login failed, if it did. The claimed name may hold line feeds, so it is written in hexadecimal. */
 static void log_failure(uint32_t status, uint32_t rejection, const struct user *user)
 {
     struct fe2o3_text text = FE2O3_TEXT_INIT;
     size_t i;
+    if (status == FE2O3_OK)
+        return;
     fe2o3_status_text(status, &text);
     fprintf(stderr, "%s, rejection %u, user ", (const char *)text.bytes, (unsigned)rejection);
     for (i = 0; i < user->len; i++)
@@ -148,30 +150,30 @@ static struct fe2o3_sasl_server_config new_config(int is_tls)
 {
     struct fe2o3_sasl_server_config config = FE2O3_SASL_SERVER_CONFIG_INIT;
     config.iterations = FE2O3_DEFAULT_ITERATIONS;
-    config.mechanisms = FE2O3_OFFER_SCRAM_SHA_512 | FE2O3_OFFER_SCRAM_SHA_256 | FE2O3_REJECT_MISPLACED;
+    config.mechanisms = FE2O3_OFFER_SCRAM_SHA_512 | FE2O3_OFFER_SCRAM_SHA_256;
+    config.flags = FE2O3_REJECT_MISPLACED;
     if (is_tls)
         config.mechanisms |= FE2O3_OFFER_PLAIN;
     return config;
 }
 
-/* Looks up the user that the next frame claims, if it claims one. */
-static uint32_t look_up(const struct store *store, const struct fe2o3_sasl_server *server, const struct input *in,
-    struct user *user, struct fe2o3_sasl_server_config *config)
+/* Passes what the store has of the user whom received bytes claim. The server has written the name. */
+static uint32_t look_up(const struct store *store, const uint8_t *name, size_t len, struct user *user,
+    struct fe2o3_sasl_server_config *config)
 {
     uint32_t status;
     memset(user, 0, sizeof *user);
-    status = fe2o3_sasl_server_claimed_user(server, in->bytes + in->at, in->len - in->at, user->name, sizeof user->name,
-        &user->len);
-    if (status == FE2O3_OK) {
-        find(store, user);
-        status = add_mocks(store, user);
-    }
+    memcpy(user->name, name, len);
+    user->len = len;
+    find(store, user);
+    status = add_mocks(store, user);
+    config->looked_up = 1;
     config->username = user->name;
     config->username_len = user->len;
     config->records = user->records;
     config->records_count = user->count;
     set_rights(config, user);
-    return status == FE2O3_NAMES_NO_USER ? FE2O3_OK : status;
+    return status;
 }
 
 /* Returns FE2O3_OK if a user has logged in. `server` and `in` begin as zeros. */
@@ -184,18 +186,18 @@ static uint32_t serve(int sock, struct fe2o3_sasl_server_config config, const st
     uint32_t status = FE2O3_OK;
     while (server->connection.progress == FE2O3_IN_PROGRESS && has_input(sock, in)
         && getrandom(nonce, sizeof nonce, 0) == sizeof nonce) {
-        status = look_up(store, server, in, &user, &config);
-        if (status == FE2O3_OK)
-            status = fe2o3_sasl_server_receive(&config, server, in->bytes + in->at, in->len - in->at, nonce, &taken,
-                out, sizeof out, &len);
+        status = fe2o3_sasl_server_receive(&config, server, in->bytes + in->at, in->len - in->at, nonce, &taken, out,
+            sizeof out, &len);
+        if (status == FE2O3_NEEDS_RECORDS && look_up(store, out, len, &user, &config) == FE2O3_OK)
+            continue;
+        config.looked_up = 0;
         if (status != FE2O3_OK || !send_all(sock, out, len))
             break;
         in->at += taken;
     }
     fe2o3_sasl_end_of_input(&server->connection);
     status = status == FE2O3_OK ? server->connection.why : status;
-    if (status != FE2O3_OK)
-        log_failure(status, server->scram.rejection, &user);
+    log_failure(status, server->scram.rejection, &user);
     fe2o3_wipe(&user, sizeof user);
     return status;
 }

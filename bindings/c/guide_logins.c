@@ -47,10 +47,9 @@ enum how { AT_ONCE, SAVED };
 static uint32_t serve_saved(int sock, struct fe2o3_sasl_server_config config, const struct store *store,
     struct fe2o3_sasl_server *server, struct input *in)
 {
+    struct user user;
     uint32_t status = FE2O3_OK;
     while (status == FE2O3_OK && server->connection.progress == FE2O3_IN_PROGRESS) {
-        struct input one = {{0}, 0, 1};
-        struct user user;
         uint8_t out[520], nonce[32] = {7};
         size_t taken = 0, len = 0;
         FILE *file = tmpfile();
@@ -61,10 +60,13 @@ static uint32_t serve_saved(int sock, struct fe2o3_sasl_server_config config, co
         fclose(file);
         if (!has_input(sock, in))
             return FE2O3_END_OF_INPUT;
-        one.bytes[0] = in->bytes[in->at];
-        status = look_up(store, server, &one, &user, &config);
-        if (status == FE2O3_OK)
-            status = fe2o3_sasl_server_receive(&config, server, one.bytes, 1, nonce, &taken, out, sizeof out, &len);
+        status =
+            fe2o3_sasl_server_receive(&config, server, in->bytes + in->at, 1, nonce, &taken, out, sizeof out, &len);
+        config.looked_up = 0;
+        if (status == FE2O3_NEEDS_RECORDS) {
+            status = look_up(store, out, len, &user, &config);
+            len = 0;
+        }
         if (status == FE2O3_OK && send_all(sock, out, len))
             in->at += taken;
     }

@@ -195,7 +195,14 @@ static uint32_t client_takes(void)
     return fe2o3_sasl_client_receive(&sasl_login, &all.client_side, GIVEN(came), nonce, &all.taken, ROOM(all.out));
 }
 static uint32_t peek(void) { return fe2o3_sasl_peek_frame(&all.server_side.connection, GIVEN(came), ROOM(all.out)); }
-static uint32_t name(void) { return fe2o3_sasl_server_claimed_user(&all.server_side, GIVEN(came), ROOM(all.user)); }
+static uint32_t server_asks(void)
+{
+    uint32_t status;
+    config.looked_up = 0;
+    status = fe2o3_sasl_server_receive(&config, &all.server_side, GIVEN(came), nonce, &all.taken, ROOM(all.user));
+    config.looked_up = 1;
+    return status == FE2O3_NEEDS_RECORDS ? FE2O3_OK : status;
+}
 static uint32_t server_takes(void)
 {
     return fe2o3_sasl_server_receive(&config, &all.server_side, GIVEN(came), nonce, &all.taken, ROOM(all.out));
@@ -222,13 +229,14 @@ static void connection(uint32_t mechanism, const char *user_name)
     memset(&all.client_side, 0, sizeof all.client_side);
     memset(&all.server_side, 0, sizeof all.server_side);
     sasl_login.mechanism = mechanism;
+    config.looked_up = 0;
     config.username_len = 0;
     tried("client_open", begin);
     came = all.out;
     while (came.len > 0 && all.server_side.connection.progress == FE2O3_IN_PROGRESS && differences == 0) {
         /* (of the frames that come to a server those of these mechanisms name a user) */
         if (came.bytes[0] == 0 && (mechanism == FE2O3_SCRAM || mechanism == FE2O3_PLAIN)) {
-            tried("server_user", name);
+            tried("server_receive, which asks for records", server_asks);
             config.username = all.user.bytes;
             config.username_len = all.user.len;
         }
@@ -246,7 +254,8 @@ static void connection(uint32_t mechanism, const char *user_name)
 static void late_connection(const uint8_t *init, size_t init_len, const uint8_t *response, size_t response_len)
 {
     memset(&all.server_side, 0, sizeof all.server_side);
-    config.mechanisms |= FE2O3_INITIAL_RESPONSE_BY_CHALLENGE;
+    config.flags |= FE2O3_INITIAL_RESPONSE_BY_CHALLENGE;
+    config.looked_up = 0;
     config.username_len = 0;
     came = (struct text){"AMQP\3\1\0\0", 8};
     tried("server_receive", server_takes);
@@ -259,7 +268,7 @@ static void late_connection(const uint8_t *init, size_t init_len, const uint8_t 
     differences += fe2o3_sasl_wants_nonce(&all.server_side.connection) != 0;
     memcpy(came.bytes, response, response_len);
     came.len = response_len;
-    tried("server_user", name);
+    tried("server_receive, which asks for records", server_asks);
     config.username = all.user.bytes;
     config.username_len = all.user.len;
     tried("server_receive", server_takes);

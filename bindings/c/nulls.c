@@ -117,7 +117,7 @@ static void connections(void)
     login.login.version = FE2O3_SHA_256;
     config.mechanisms = FE2O3_OFFER_ANONYMOUS;
     config.username = config.external_authcid = config.identities = none;
-    EXPECT(fe2o3_sasl_server_claimed_user(&server, NOTHING, NULL, 0, &len), FE2O3_NAMES_NO_USER);
+    EXPECT(fe2o3_sasl_server_receive(&config, &server, NOTHING, nonce, &taken, NULL, 0, &len), FE2O3_ROOM_TOO_SMALL);
     EXPECT(fe2o3_sasl_peek_frame(&server.connection, NOTHING, NULL, 0, &len), FE2O3_OK);
     EXPECT(
         fe2o3_sasl_server_receive(&config, &server, NOTHING, nonce, &taken, to_client, sizeof to_client, &client_len),

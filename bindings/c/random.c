@@ -140,6 +140,11 @@ static void answered(const char *name, uint32_t status)
     }
     if (status == FE2O3_ROOM_TOO_SMALL)
         all.out.len = drawn.out.len;
+    if (status == FE2O3_NEEDS_RECORDS) {
+        /* (which writes the name of a user) */
+        differences += all.out.len > 512;
+        all.out = drawn.out;
+    }
     if (status != FE2O3_OK && memcmp(&all, &drawn, sizeof all) != 0) {
         printf("%s answers %u, and has changed something\n", name, (unsigned)status);
         differences++;
@@ -445,7 +450,8 @@ static void with_a_side_of_a_server(void)
 {
     const uint32_t option = ONE_OF(0, FE2O3_INITIAL_RESPONSE_BY_CHALLENGE, FE2O3_SIGNATURE_BY_CHALLENGE, FE2O3_STRICT)
         | (below(4) ? 0 : FE2O3_REJECT_MISPLACED);
-    struct fe2o3_sasl_server_config config = {.mechanisms = below(129) | option,
+    struct fe2o3_sasl_server_config config = {.mechanisms = below(65),
+        .flags = option | below(2) * FE2O3_ACCEPT_CBIND_FLAG_Y | (below(16) ? 0 : below(64)),
         .iterations = below(9),
         .username = TEXT("user"),
         .records = &all.record,
@@ -466,8 +472,12 @@ static void with_a_side_of_a_server(void)
     if (below(4) == 0)
         fill(came.bytes, came.len);
     answered("sasl_peek_frame", fe2o3_sasl_peek_frame(&all.server_side.connection, GIVEN(came), ROOM));
-    answered("sasl_server_user", fe2o3_sasl_server_claimed_user(&all.server_side, GIVEN(came), ROOM));
     status = fe2o3_sasl_server_receive(&config, &all.server_side, GIVEN(came), nonce, &all.taken, ROOM);
+    if (status == FE2O3_NEEDS_RECORDS) {
+        answered("sasl_server_receive", status);
+        config.looked_up = ONE_OF(1, UINT32_MAX);
+        status = fe2o3_sasl_server_receive(&config, &all.server_side, GIVEN(came), nonce, &all.taken, ROOM);
+    }
     never("sasl_server_receive", status == FE2O3_OK && all.server_side.connection.progress == FE2O3_AUTHENTICATED);
     if (status == FE2O3_OK)
         closed("sasl_server_receive, why it closes", &all.server_side.connection);
@@ -581,7 +591,7 @@ int main(void)
     reached("sasl_client_receive", FE2O3_INVALID_SNAPSHOT);
     reached("sasl_client_receive, why it closes", FE2O3_CLIENT_SERVER_SIGNATURE_MISMATCH);
     reached("sasl_client_receive, why it closes", FE2O3_UNEXPECTED_FRAME);
-    reached("sasl_server_user", FE2O3_OK);
+    reached("sasl_server_receive", FE2O3_NEEDS_RECORDS);
     reached("sasl_server_receive", FE2O3_OK);
     reached("sasl_server_receive, which asks", FE2O3_OK);
     reached("sasl_server_receive", FE2O3_ENDED);

@@ -25,7 +25,7 @@
 
 static const uint32_t versions[3] = {FE2O3_SHA_512, FE2O3_SHA_256, FE2O3_SHA_1};
 static const uint32_t hashes[3] = {FE2O3_OFFER_SCRAM_SHA_512, FE2O3_OFFER_SCRAM_SHA_256, FE2O3_OFFER_SCRAM_SHA_1};
-static uint32_t mechanisms;
+static uint32_t mechanisms, flags = FE2O3_REJECT_MISPLACED;
 static const char *peer = "", *identity = "";
 static uint32_t accept_authzid;
 static uint8_t users[65536], secret[32];
@@ -55,9 +55,9 @@ static int add_options(int count, char **words)
     int known = 1;
     for (int i = 0; i < count; i++) {
         if (strcmp(words[i], "challenge") == 0)
-            mechanisms |= FE2O3_SIGNATURE_BY_CHALLENGE;
+            flags |= FE2O3_SIGNATURE_BY_CHALLENGE;
         else if (strcmp(words[i], "ask") == 0)
-            mechanisms |= FE2O3_INITIAL_RESPONSE_BY_CHALLENGE;
+            flags |= FE2O3_INITIAL_RESPONSE_BY_CHALLENGE;
         else if (strncmp(words[i], "for:", 4) == 0) {
             accept_authzid = 1;
             identity = words[i] + 4;
@@ -128,11 +128,12 @@ struct secrets {
  * refused, and -1 where the connection ends. */
 static int64_t serve(int channel, struct fe2o3_sasl_server *server, struct secrets *keep)
 {
-    uint8_t *came = keep->came, out[520], nonce[32] = {0}, name[256];
-    size_t len = 0, at = 0, taken = 0, out_len = 0, name_len = 0;
+    uint8_t *came = keep->came, out[520], nonce[32] = {0}, name[512];
+    size_t len = 0, at = 0, taken = 0, out_len = 0;
     while (server->connection.progress == FE2O3_IN_PROGRESS) {
-        struct fe2o3_sasl_server_config config = {mechanisms, FE2O3_DEFAULT_ITERATIONS, name, 0, keep->records, 3,
-            (const uint8_t *)peer, strlen(peer), {0}, accept_authzid, (const uint8_t *)identity, strlen(identity) + 1};
+        struct fe2o3_sasl_server_config config = {mechanisms, flags, FE2O3_DEFAULT_ITERATIONS, 0, name, 0,
+            keep->records, 3, (const uint8_t *)peer, strlen(peer), {0}, accept_authzid, (const uint8_t *)identity,
+            strlen(identity) + 1};
         uint32_t status;
         memset(keep->records, 0, sizeof keep->records);
         if (at == len) {
@@ -142,15 +143,18 @@ static int64_t serve(int channel, struct fe2o3_sasl_server *server, struct secre
             len = (size_t)some;
             at = 0;
         }
-        status = fe2o3_sasl_server_claimed_user(server, came + at, len - at, name, sizeof name, &name_len);
-        if (status == FE2O3_OK) {
-            fetch(name, name_len, keep->records);
-            config.username_len = name_len;
-        }
         if (fe2o3_sasl_wants_nonce(&server->connection) && !random_bytes(nonce, sizeof nonce))
             return -1;
         status =
             fe2o3_sasl_server_receive(&config, server, came + at, len - at, nonce, &taken, out, sizeof out, &out_len);
+        if (status == FE2O3_NEEDS_RECORDS) {
+            memcpy(name, out, out_len);
+            fetch(name, out_len, keep->records);
+            config.looked_up = 1;
+            config.username_len = out_len;
+            status = fe2o3_sasl_server_receive(&config, server, came + at, len - at, nonce, &taken, out, sizeof out,
+                &out_len);
+        }
         if (status != FE2O3_OK)
             return status;
         at += taken;

@@ -32,6 +32,7 @@ from fe2o3_sasl import (
     Refused,
     Server,
     ServerConnection,
+    ServerFlag,
     Status,
     Wiped,
 )
@@ -154,7 +155,8 @@ class Arguments(Case):
             (ValueError, lambda: select("user", "pencil", must_bind=True)),
             (TypeError, lambda: select("user", "pencil", channel=32)),  # type: ignore[arg-type]
             (ValueError, lambda: server(lambda name: [], mechanisms=0)),
-            (ValueError, lambda: server(lambda name: [], mechanisms=Offer.STRICT)),
+            (ValueError, lambda: server(lambda name: [], mechanisms=ServerFlag.STRICT)),
+            (ValueError, lambda: server(lambda name: [], flags=Offer.PLAIN)),
             (ValueError, lambda: server(lambda name: [], iterations=0)),
             (TypeError, lambda: server([record])),  # type: ignore[arg-type]
             (TypeError, lambda: server(lambda name: [], identities_of=["bob"])),  # type: ignore[arg-type]

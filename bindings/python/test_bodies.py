@@ -24,7 +24,7 @@ from cases import (
     sized,
 )
 from fe2o3_sasl import _structs
-from fe2o3_sasl import SHA_256, Client, Offer, Progress, Record, Rejection, Status
+from fe2o3_sasl import SHA_256, Client, Offer, Progress, Record, Rejection, ServerFlag, Status
 from peers import (
     CHALLENGE,
     INIT,
@@ -120,10 +120,10 @@ class Bodies(Case):
     def test_a_server_that_sends_its_signature_in_a_challenge(self) -> None:
         for version in VERSIONS:
             known = of({"user": Record.make(version, "pencil", salt=SALT)})
-            offer = OFFERS[version] | Offer.SIGNATURE_BY_CHALLENGE
+            signs = ServerFlag.SIGNATURE_BY_CHALLENGE
             for accept in (True, False):
                 client = ClientBodies(Client(version, "user", "pencil", signature_by_challenge=accept))
-                side = ServerBodies(known, mechanisms=offer)
+                side = ServerBodies(known, mechanisms=OFFERS[version], flags=signs)
                 challenge = side.on_frame(client.on_frame(side.offer()))
                 signed = side.on_frame(client.on_frame(challenge))
                 self.assertEqual((signed[6], side.progress), (CHALLENGE, Progress.IN_PROGRESS))
@@ -142,15 +142,15 @@ class Bodies(Case):
     def test_clients_that_withhold_their_initial_response(self) -> None:
         for version in VERSIONS:
             known = of({name: Record.make(version, "pencil", salt=SALT) for name in NAMES[1:-1]})
-            offer = OFFERS[version] | Offer.PLAIN | Offer.INITIAL_RESPONSE_BY_CHALLENGE
+            offer, asks = OFFERS[version] | Offer.PLAIN, ServerFlag.INITIAL_RESPONSE_BY_CHALLENGE
             for name, password, signs in (
                 (name, password, signs)
                 for name in NAMES[:-1]
                 for password in ("pencil", "pencils")
-                for signs in (0, Offer.SIGNATURE_BY_CHALLENGE)
+                for signs in (0, ServerFlag.SIGNATURE_BY_CHALLENGE)
             ):
                 for by in (Login(version, name, password), Plain(name, password)):
-                    side = ServerBodies(known, mechanisms=offer | signs)
+                    side = ServerBodies(known, mechanisms=offer, flags=asks | signs)
                     bodies_served(side, by, late=True)
                     # (PLAIN has no empty name, and "user" has no record)
                     logged_in = password == "pencil" and name in NAMES[1:] and (name != "" or isinstance(by, Login))
@@ -161,8 +161,8 @@ class Bodies(Case):
                         self.closed(side, Status.REFUSED_AUTH)
         # Inits of ANONYMOUS and EXTERNAL may go without a message, and are not asked for one.
         for by in (Other("ANONYMOUS"), Other("EXTERNAL")):
-            offer = ALL_OTHERS | Offer.INITIAL_RESPONSE_BY_CHALLENGE
-            side = ServerBodies(nobody, mechanisms=offer, external_authcid="peer")
+            asks = ServerFlag.INITIAL_RESPONSE_BY_CHALLENGE
+            side = ServerBodies(nobody, mechanisms=ALL_OTHERS, flags=asks, external_authcid="peer")
             bodies_served(side, by)
             self.assertEqual((side.progress, by.logged_in), (Progress.AUTHENTICATED, True))
 

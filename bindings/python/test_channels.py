@@ -40,6 +40,7 @@ from fe2o3_sasl import (
     Server,
     ServerConnection,
     ServerError,
+    ServerFlag,
     Status,
     offers,
     server_error_message,
@@ -305,7 +306,7 @@ class Channels(Case):
             self.assertEqual((connection.mechanism(), connection.progress), (mechanism, Progress.AUTHENTICATED))
 
     def test_servers_on_connections(self) -> None:
-        accept_y = Offer.ACCEPT_CBIND_FLAG_Y
+        accept_y = ServerFlag.ACCEPT_CBIND_FLAG_Y
         for version, mechanism in MECHANISMS.items():
             known = of({"user": Record.make(version, "pencil", salt=SALT)})
             for kind, name in KIND_NAMES.items():
@@ -325,7 +326,7 @@ class Channels(Case):
                     (b"y,,", b"", None, accept_y, True),
                 ):
                     by = Login(version, "user", "pencil", header, sent)
-                    options: Any = {"mechanisms": OFFERS[version] | option, "channels": channels}
+                    options: Any = {"mechanisms": OFFERS[version], "flags": option, "channels": channels}
                     offer = ServerConnection(known, **options).receive(SASL_HEADER)[0][12:]
                     self.assertEqual(offers(offer, mechanism + "-PLUS"), channels is not None)
                     self.assertTrue(offers(offer, mechanism))

@@ -21,6 +21,7 @@ from fe2o3_sasl import (
     Progress,
     Record,
     ServerConnection,
+    ServerFlag,
     Status,
 )
 from peers import (
@@ -178,7 +179,10 @@ class Connections(Case):
         ):
             with self.subTest(name=name, password=password):
                 offer = SASL_HEADER + mechanisms_frame("PLAIN")
-                for call in (ClientConnection.plain, lambda *words, **more: ClientConnection.select(*words, ["PLAIN"], **more)):
+                for call in (
+                    ClientConnection.plain,
+                    lambda *words, **more: ClientConnection.select(*words, ["PLAIN"], **more),
+                ):
                     self.refused(status, lambda: call(name, password, strict=True))
                 strict = ClientConnection.plain(name, password)
                 strict._login[0].login.strict = 1
@@ -257,12 +261,17 @@ class Connections(Case):
             by.begin(ask=True)
             served(side, by, 5)
             self.assertEqual(side.progress, Progress.FAILED)
-        both_forms = Offer.PLAIN | Offer.PLAIN_PREPARED | Offer.PLAIN_SASLPREP
-        for mechanisms in (0, 64, 128, 512, 1024, 4096, both_forms, Offer.PLAIN | 8192):
+        for mechanisms in (0, 64, 128, 512, 1024, 4096, Offer.PLAIN | 64):
             self.refused(Status.NO_SUCH_MECHANISM, server, mechanisms)
             side = server(Offer.PLAIN)
             side._mechanisms = int(mechanisms)
             self.refused(Status.NO_SUCH_MECHANISM, side.receive, b"A")
+        both_forms = ServerFlag.PLAIN_PREPARED | ServerFlag.PLAIN_SASLPREP
+        for flags in (1, 32, 63, 65, both_forms, ServerFlag.STRICT | 8192):
+            self.refused(Status.NO_SUCH_CHOICE, lambda: ServerConnection(nobody, flags=flags))
+            side = server(Offer.PLAIN)
+            side._flags = int(flags)
+            self.refused(Status.NO_SUCH_CHOICE, side.receive, b"A")
         self.refused(Status.NOT_UTF8, lambda: ServerConnection(nobody, external_authcid=b"\xff"))
 
     def rejected(self, side: ServerConnection, status: int) -> None:
@@ -274,7 +283,7 @@ class Connections(Case):
     def test_servers_that_ask_for_the_initial_response(self) -> None:
         for version in VERSIONS:
             known = of({name: Record.make(version, "pencil", salt=SALT) for name in ("user", "a=b,c")})
-            offer = OFFERS[version] | Offer.PLAIN | Offer.INITIAL_RESPONSE_BY_CHALLENGE
+            offer, asks = OFFERS[version] | Offer.PLAIN, ServerFlag.INITIAL_RESPONSE_BY_CHALLENGE
             for name, password, logged_in in (
                 ("user", "pencil", True),
                 ("a=b,c", "pencil", True),
@@ -282,8 +291,8 @@ class Connections(Case):
                 ("nobody", "pencil", False),
             ):
                 for by in (Login(version, name, password), Plain(name, password)):
-                    for piece, signs in ((1, 0), (7, Offer.SIGNATURE_BY_CHALLENGE), (4096, 0)):
-                        side = ServerConnection(known, mechanisms=offer | signs)
+                    for piece, signs in ((1, 0), (7, ServerFlag.SIGNATURE_BY_CHALLENGE), (4096, 0)):
+                        side = ServerConnection(known, mechanisms=offer, flags=asks | signs)
                         by.begin(late=True)
                         served(side, by, piece)
                         progress = Progress.AUTHENTICATED if logged_in else Progress.FAILED
@@ -300,9 +309,9 @@ class Connections(Case):
 
     def test_a_saved_server_that_has_asked(self) -> None:
         known = of({"user": Record.make(SHA_256, "pencil", salt=SALT)})
-        offer = OFFERS[SHA_256] | Offer.PLAIN | Offer.INITIAL_RESPONSE_BY_CHALLENGE
+        offer, asks = OFFERS[SHA_256] | Offer.PLAIN, ServerFlag.INITIAL_RESPONSE_BY_CHALLENGE
         init, refused = frame_of(INIT, short(0xA3, b"PLAIN"), NULL, short(0xA1, b"host")), frame_of(OUTCOME, b"\x50\1")
-        saved = ServerConnection(known, mechanisms=offer)
+        saved = ServerConnection(known, mechanisms=offer, flags=asks)
         self.assertTrue(saved.receive(SASL_HEADER + init)[0].endswith(frame_of(CHALLENGE, short(0xA0, b""))))
         self.assertEqual((saved.progress, saved._struct.scram.state), (Progress.IN_PROGRESS, 5))
         self.refused(Status.SERVER_ILLEGAL_AUTHENTICATOR_STATE, saved.authenticated_user)
@@ -313,7 +322,7 @@ class Connections(Case):
             (frame_of(RESPONSE, short(0xA0, b"")), refused, Status.REFUSED_AUTH),
             (init, b"", Status.UNEXPECTED_FRAME),
         ):
-            side = ServerConnection(known, mechanisms=offer)
+            side = ServerConnection(known, mechanisms=offer, flags=asks)
             side._struct = type(saved._struct).from_buffer_copy(bytes(saved._struct))
             self.assertEqual(side.receive(frame), (sent, b""))
             if why is None:
@@ -331,17 +340,17 @@ class Connections(Case):
             (0, "ix", "IX", True),
             (0, "ix", "I\xadX", False),
             (0, "accents", "p\xe4ssw\xf6rd", False),
-            (Offer.PLAIN_PREPARED, "ix", "I\xadX", False),
-            (Offer.PLAIN_PREPARED, "accents", "p\xe4ssw\xf6rd", True),
-            (Offer.PLAIN_SASLPREP, "ix", "IX", True),
-            (Offer.PLAIN_SASLPREP, "ix", "I\xadX", True),
-            (Offer.PLAIN_SASLPREP, "ix", "\u2168", True),
-            (Offer.PLAIN_SASLPREP, "accents", "pa\u0308sswo\u0308rd", True),
-            (Offer.PLAIN_SASLPREP, "nobody", "\u2168", False),
-            (Offer.PLAIN_SASLPREP, "ix", "\xad", False),
-            (Offer.PLAIN_SASLPREP, "ix", "\u06271", False),
+            (ServerFlag.PLAIN_PREPARED, "ix", "I\xadX", False),
+            (ServerFlag.PLAIN_PREPARED, "accents", "p\xe4ssw\xf6rd", True),
+            (ServerFlag.PLAIN_SASLPREP, "ix", "IX", True),
+            (ServerFlag.PLAIN_SASLPREP, "ix", "I\xadX", True),
+            (ServerFlag.PLAIN_SASLPREP, "ix", "\u2168", True),
+            (ServerFlag.PLAIN_SASLPREP, "accents", "pa\u0308sswo\u0308rd", True),
+            (ServerFlag.PLAIN_SASLPREP, "nobody", "\u2168", False),
+            (ServerFlag.PLAIN_SASLPREP, "ix", "\xad", False),
+            (ServerFlag.PLAIN_SASLPREP, "ix", "\u06271", False),
         ):
-            side, by = ServerConnection(of(known), mechanisms=Offer.PLAIN | form), Plain(name, password)
+            side, by = ServerConnection(of(known), mechanisms=Offer.PLAIN, flags=form), Plain(name, password)
             by.begin()
             served(side, by, 4096)
             progress = Progress.AUTHENTICATED if logged_in else Progress.FAILED

@@ -250,7 +250,8 @@ class MockRecords(unittest.TestCase):
 
         def seen(config: Any, *more: Any) -> int:
             records = [config.records[at] for at in range(config.records_count)]
-            found.append((config.iterations, [(one.version, one.salt_len, one.iterations) for one in records]))
+            if config.looked_up:
+                found.append((config.iterations, [(one.version, one.salt_len, one.iterations) for one in records]))
             return int(receive(config, *more))
 
         side = ServerConnection(self.store.records, mechanisms=mechanisms | Offer.PLAIN, **options)
@@ -364,7 +365,7 @@ class Rejections(unittest.TestCase):
             (Login(SHA_1, "all", "pencil"), {}, Rejection.MECHANISM_NOT_OFFERED),
             (
                 Other("SCRAM-SHA-256", b"n,,n=all,r=nonce,i=4096"),
-                {"mechanisms": Offer.REJECT_MISPLACED},
+                {},
                 Rejection.SERVER_MISPLACED_ATTRIBUTE,
             ),
             (Other("SCRAM-SHA-256", b"all"), {}, Rejection.SERVER_CANNOT_PARSE_GS2_HEADER),

@@ -48,7 +48,7 @@ from peers import OUTCOME, SASL_HEADER, frame_of, mechanisms_frame
 SALT = b"a salt of bytes!"
 #: The class of each status that a caller sees, by ranges of their numbers.
 EXPECTED: dict[type[Refused], list[int]] = {
-    Refused: [2, 33, 34, 44],
+    Refused: [2, 16, 33, 34, 44],
     OutOfMemory: [1],
     InvalidArgument: [3, 4, *range(7, 11), 12, 85, 93],
     TooLong: [5],

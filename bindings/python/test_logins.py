@@ -44,6 +44,7 @@ from fe2o3_sasl import (
     Server,
     ServerConnection,
     ServerError,
+    ServerFlag,
     Status,
     server_error,
     server_error_message,
@@ -300,10 +301,14 @@ class Unbound(Case):
             known = {"user": Record.make(version, "pencil", salt=SALT)}
             for header in (b"y,,", b"n,,"):
                 scram = OFFERS[version]
-                for mechanisms in (scram, scram | Offer.ACCEPT_CBIND_FLAG_Y, scram | Offer.PLAIN | 64):
+                for mechanisms, flags in (
+                    (scram, 0),
+                    (scram, ServerFlag.ACCEPT_CBIND_FLAG_Y),
+                    (scram | Offer.PLAIN, 64),
+                ):
                     by = Login(version, "user", "pencil", header)
-                    taken = header == b"n,," or mechanisms != scram
-                    connection = ServerConnection(of(known), mechanisms=mechanisms)
+                    taken = header == b"n,," or flags != 0
+                    connection = ServerConnection(of(known), mechanisms=mechanisms, flags=flags)
                     by.begin()
                     served(connection, by, 7)
                     self.assertEqual(connection.progress == Progress.AUTHENTICATED, taken)
@@ -319,17 +324,17 @@ class Strict(Case):
             channel = Channel(ChannelKind.TLS_EXPORTER, bytes(32))
             for option, channels, extension, progress in (
                 (0, None, b"i=4096", Progress.IN_PROGRESS),
-                (Offer.STRICT, None, b"i=4096", Progress.FAILED),
-                (Offer.STRICT, None, b"x=1", Progress.IN_PROGRESS),
-                (Offer.REJECT_MISPLACED, None, b"i=4096", Progress.FAILED),
-                (Offer.REJECT_MISPLACED, None, b"x=1", Progress.IN_PROGRESS),
+                (ServerFlag.STRICT, None, b"i=4096", Progress.FAILED),
+                (ServerFlag.STRICT, None, b"x=1", Progress.IN_PROGRESS),
+                (ServerFlag.REJECT_MISPLACED, None, b"i=4096", Progress.FAILED),
+                (ServerFlag.REJECT_MISPLACED, None, b"x=1", Progress.IN_PROGRESS),
                 # A server with channels tests the extensions of SCRAM without -PLUS too.
                 (0, [channel], b"i=4096", Progress.FAILED),
                 (0, [channel], b"x=1", Progress.IN_PROGRESS),
             ):
                 message = b"n,,n=user,r=nonce," + extension
                 init = frame_of(INIT, short(0xA3, mechanism.encode()), short(0xA0, message))
-                connection = ServerConnection(known, mechanisms=OFFERS[version] | option, channels=channels)
+                connection = ServerConnection(known, mechanisms=OFFERS[version], flags=option, channels=channels)
                 connection.receive(SASL_HEADER + init)
                 self.assertEqual(connection.progress, progress, (extension, option))
                 if progress == Progress.FAILED:

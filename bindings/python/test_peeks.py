@@ -17,6 +17,7 @@ from fe2o3_sasl import (
     Progress,
     Record,
     ServerConnection,
+    ServerFlag,
     Status,
 )
 from peers import (
@@ -104,9 +105,9 @@ class Peeks(Case):
 
     def test_the_nonce_of_an_asked_initial_response(self) -> None:
         known, challenges = of({"user": Record.make(SHA_256, "pencil", salt=SALT, iterations=1)}), set()
-        offer = Offer.SCRAM_SHA_256 | Offer.INITIAL_RESPONSE_BY_CHALLENGE
+        asks = ServerFlag.INITIAL_RESPONSE_BY_CHALLENGE
         for _ in range(2):
-            side = ServerConnection(known, mechanisms=offer)
+            side = ServerConnection(known, mechanisms=Offer.SCRAM_SHA_256, flags=asks)
             init, first = frame_of(INIT, short(0xA3, b"SCRAM-SHA-256"), NULL), b"n,,n=user,r=nonce"
             side.receive(SASL_HEADER + init)
             challenge, _ = side.receive(frame_of(RESPONSE, short(0xA0, first)))
@@ -184,9 +185,9 @@ class Peeks(Case):
             side = ServerConnection(known, mechanisms=Offer.SCRAM_SHA_256 | Offer.PLAIN)
             side.receive(SASL_HEADER + init)
             self.assertEqual(side.last_attempt(), wanted)
-        offer = Offer.SCRAM_SHA_256 | Offer.PLAIN | Offer.INITIAL_RESPONSE_BY_CHALLENGE
+        offer, asks = Offer.SCRAM_SHA_256 | Offer.PLAIN, ServerFlag.INITIAL_RESPONSE_BY_CHALLENGE
         for name, response, claimed in (("SCRAM-SHA-256", first, "us,er"), ("PLAIN", plain, "user")):
-            side = ServerConnection(known, mechanisms=offer)
+            side = ServerConnection(known, mechanisms=offer, flags=asks)
             side.receive(SASL_HEADER + frame_of(INIT, short(0xA3, name.encode()), NULL, short(0xA1, b"host")))
             self.assertEqual(side.last_attempt(), (name, None, "host"))
             side.receive(frame_of(RESPONSE, short(0xA0, response)))

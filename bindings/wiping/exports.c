@@ -487,18 +487,6 @@ uint32_t fe2o3_sasl_client_receive(const struct fe2o3_sasl_login *login, struct 
     return answer;
 }
 
-uint32_t proved_fe2o3_sasl_server_claimed_user(const struct fe2o3_sasl_server *server, const uint8_t *bytes,
-    size_t bytes_len, uint8_t *out, size_t out_size, size_t *out_len);
-uint32_t fe2o3_sasl_server_claimed_user(const struct fe2o3_sasl_server *server, const uint8_t *bytes, size_t bytes_len,
-    uint8_t *out, size_t out_size, size_t *out_len)
-{
-    uint32_t answer;
-    BELOW_PAD(answer = proved_fe2o3_sasl_server_claimed_user(server, BYTES(bytes, bytes_len), bytes_len,
-        BYTES(out, out_size), out_size, out_len));
-    clear_stack(depth_sasl_server_claimed_user);
-    return answer;
-}
-
 uint32_t proved_fe2o3_sasl_server_receive(const struct fe2o3_sasl_server_config *config,
     struct fe2o3_sasl_server *server, const uint8_t *bytes, size_t bytes_len, const uint8_t nonce[32], size_t *taken,
     uint8_t *out, size_t out_size, size_t *out_len);

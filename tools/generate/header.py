@@ -65,7 +65,7 @@ SECTIONS = [  # in the order of use: a title, the structs, and the functions aft
     (
         "The server's side of a connection, over bytes",
         "SaslServerConfig SaslServer",
-        "sasl_server_claimed_user sasl_server_receive",
+        "sasl_server_receive",
     ),
     (
         "Both sides of a connection, before a call, and at the end of the stream",
@@ -605,10 +605,17 @@ def python_numbers(reader):
         python_class(
             "IntFlag",
             "Offer",
-            "What a server offers. PLAIN sends the password in clear, so offer it over TLS"
-            " only. ACCEPT_CBIND_FLAG_Y\n    is no mechanism: SCRAM also accepts the GS2 header `y,,`, like `Server.first`"
-            " with `accept_cbind_flag_y`.\n    PLAIN_PREPARED and PLAIN_SASLPREP, of which one is allowed, say which"
-            " passwords PLAIN tests: the password as received,\n    or as the server prepares it by SASLprep."
+            "What a server offers. PLAIN sends the password in clear, so offer it over TLS only.",
+            [(one.name.replace("OFFER_", ""), one.number) for one in enums["offer"].values],
+        )
+    )
+    out.append(
+        python_class(
+            "IntFlag",
+            "ServerFlag",
+            "What else a server does. ACCEPT_CBIND_FLAG_Y: SCRAM also accepts the GS2 header `y,,`, like"
+            " `Server.first`\n    with `accept_cbind_flag_y`. PLAIN_PREPARED and PLAIN_SASLPREP, of which one is allowed,"
+            " say which passwords PLAIN tests:\n    the password as received, or as the server prepares it by SASLprep."
             " Without them it rejects non-ASCII passwords.\n    SIGNATURE_BY_CHALLENGE: SCRAM sends the server's"
             " signature in a challenge, and the outcome follows the client's empty\n    response."
             " INITIAL_RESPONSE_BY_CHALLENGE: SCRAM and PLAIN answer an init without an initial response by"
@@ -616,7 +623,7 @@ def python_numbers(reader):
             " reads messages by\n    the grammar of RFC 5802, section 7, like a `Server` with `strict`."
             " REJECT_MISPLACED: SCRAM rejects what is no\n    extension in the place of one, and nothing more,"
             " like a `Server` with `reject_misplaced`. A server with channels\n    does so in any case.",
-            [(one.name.replace("OFFER_", ""), one.number) for one in enums["offer"].values],
+            [(one.name, one.number) for one in enums["server_flag"].values],
         )
     )
     out.append(

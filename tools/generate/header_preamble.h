@@ -25,8 +25,9 @@
  *
  * What the calls promise:
  *
- * - A call that fails changes nothing, with two exceptions: with FE2O3_ROOM_TOO_SMALL `out_len` says how many bytes
- *   suffice, and `fe2o3_scram_lines_find` and `fe2o3_scram_lines_all_have` write `line`.
+ * - A call that fails changes nothing, with three exceptions: with FE2O3_ROOM_TOO_SMALL `out_len` says how many bytes
+ *   suffice, with FE2O3_NEEDS_RECORDS a user name is written to `out`, and its length to `out_len`, and
+ *   `fe2o3_scram_lines_find` and `fe2o3_scram_lines_all_have` write `line`.
  * - A call that succeeds writes its text to the beginning of `out`, and the text's length to `out_len`. The rest of `out`
  *   stays as it was. There is no zero at the end of the text.
  * - Each call returns, never aborts, and keeps no pointer. It allocates by malloc and frees all of it. If an allocation
@@ -85,8 +86,8 @@ enum fe2o3_secret {
     FE2O3_BY_PASSWORD = 0,
     /* The keys. */
     FE2O3_BY_KEYS = 1,
-    /* The keys if they are of the server's salt and iteration count, otherwise the password. The login has to have both:
-     * without keys the calls return FE2O3_NO_KEYS. */
+    /* The keys if they are of the server's salt and iteration count, otherwise the password. A struct of zeros has no keys
+     * yet: then the password. */
     FE2O3_BY_PASSWORD_AND_KEYS = 2
 };
 
@@ -157,24 +158,28 @@ enum fe2o3_offer {
     /* ANONYMOUS. */
     FE2O3_OFFER_ANONYMOUS = 16,
     /* EXTERNAL, if `external_authcid` is not empty. */
-    FE2O3_OFFER_EXTERNAL = 32,
-    /* No mechanism: SCRAM also accepts the GS2 header `y,,`: see the field `accept_cbind_flag_y` of struct
+    FE2O3_OFFER_EXTERNAL = 32
+};
+
+/* What else a server does: a sum of these values. */
+enum fe2o3_server_flag {
+    /* SCRAM also accepts the GS2 header `y,,`: see the field `accept_cbind_flag_y` of struct
      * fe2o3_scram_rules. */
     FE2O3_ACCEPT_CBIND_FLAG_Y = 64,
-    /* No mechanism: PLAIN tests the password as received, also a non-ASCII one. Clients prepare their passwords. */
+    /* PLAIN tests the password as received, also a non-ASCII one. Clients prepare their passwords. */
     FE2O3_PLAIN_PREPARED = 128,
-    /* No mechanism: PLAIN tests the text that SASLprep prepares the password to. Not with FE2O3_PLAIN_PREPARED. */
+    /* PLAIN tests the text that SASLprep prepares the password to. Not with FE2O3_PLAIN_PREPARED. */
     FE2O3_PLAIN_SASLPREP = 256,
-    /* No mechanism: SCRAM and PLAIN answer an init without an initial response by an empty challenge. The client's
+    /* SCRAM and PLAIN answer an init without an initial response by an empty challenge. The client's
      * response is then the initial response (RFC 4422, section 5). Without this value such an init fails. */
     FE2O3_INITIAL_RESPONSE_BY_CHALLENGE = 512,
-    /* No mechanism: SCRAM sends the server's signature in a challenge, and the outcome OK follows the client's empty
+    /* SCRAM sends the server's signature in a challenge, and the outcome OK follows the client's empty
      * response (RFC 4422, section 5). For clients that do not read the data of an outcome. */
     FE2O3_SIGNATURE_BY_CHALLENGE = 1024,
-    /* No mechanism: SCRAM is strict. It reads messages by the grammar of RFC 5802, section 7: see the field `strict` of
+    /* SCRAM is strict. It reads messages by the grammar of RFC 5802, section 7: see the field `strict` of
      * struct fe2o3_scram_rules. */
     FE2O3_STRICT = 2048,
-    /* No mechanism: SCRAM rejects what is no extension in the place of one, and nothing more: see the field
+    /* SCRAM rejects what is no extension in the place of one, and nothing more: see the field
      * `reject_misplaced` of struct fe2o3_scram_rules. A server with `channels` does so in any case. */
     FE2O3_REJECT_MISPLACED = 4096
 };

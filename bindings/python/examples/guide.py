@@ -57,7 +57,7 @@ class Users:
         return [Record.parse(text) for (text,) in rows]
 
 
-OFFER = Offer.SCRAM_SHA_512 | Offer.SCRAM_SHA_256 | Offer.REJECT_MISPLACED
+OFFER = Offer.SCRAM_SHA_512 | Offer.SCRAM_SHA_256
 
 
 def new_server(users: Users, secret: bytes, is_tls: bool) -> ServerConnection:

@@ -18,7 +18,7 @@ def log_in(sock: socket.socket) -> bytes:
 
 def serve(sock: socket.socket, store: RecordStore, secret: bytes, tls: bool) -> "tuple[bytes, str | None]":
     """Serves one login of a store's users. Returns AMQP's bytes and the user. `secret`: 32 random bytes, kept with them."""
-    mechanisms = store.hashes() | Offer.REJECT_MISPLACED | (Offer.PLAIN if tls else 0)
+    mechanisms = store.hashes() | (Offer.PLAIN if tls else 0)
     side = ServerConnection(store.records, mechanisms=mechanisms, mock=store.mock_settings(secret))
     return finish(side, sock), side.authenticated_user()
 

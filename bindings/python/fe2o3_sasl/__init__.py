@@ -167,6 +167,7 @@ from ._numbers import (
     SHA_1,
     SHA_256,
     SHA_512,
+    ServerFlag,
     Status,
 )
 from ._records import MockSettings, Record
@@ -215,6 +216,7 @@ __all__ = [
     "Server",
     "ServerConnection",
     "ServerError",
+    "ServerFlag",
     "ServerNotAuthenticated",
     "StaleKeys",
     "Status",

@@ -144,6 +144,7 @@ class InvalidState(Refused, RuntimeError):
 _STATUSES: dict[type[Refused], tuple[Status, ...]] = {
     Refused: (
         Status.ROOM_TOO_SMALL,
+        Status.NEEDS_RECORDS,
         Status.CLIENT_HMAC_ERROR_INVALID_LENGTH,
         Status.CLIENT_XOR_LENGTH_MISMATCH,
         Status.SERVER_HMAC_ERROR_INVALID_LENGTH,

@@ -363,17 +363,6 @@ _EXPORTS: dict[str, tuple[Any, list[Any]]] = {
             ctypes.POINTER(ctypes.c_size_t),
         ],
     ),
-    "fe2o3_sasl_server_claimed_user": (
-        ctypes.c_uint32,
-        [
-            ctypes.POINTER(_SaslServerStruct),
-            ctypes.c_char_p,
-            ctypes.c_size_t,
-            ctypes.c_void_p,
-            ctypes.c_size_t,
-            ctypes.POINTER(ctypes.c_size_t),
-        ],
-    ),
     "fe2o3_sasl_server_receive": (
         ctypes.c_uint32,
         [

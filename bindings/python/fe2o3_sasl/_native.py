@@ -81,9 +81,9 @@ def _done(status: int) -> None:
         raise _refusal(status)
 
 
-def _written(room: int, call: Callable[..., int]) -> bytes:
-    """Returns the text that a call writes. `call` receives a buffer, its size, and where the text's length goes. If the
-    buffer is too small, the call is repeated with one that suffices."""
+def _answered(room: int, call: Callable[..., int]) -> tuple[int, bytes]:
+    """Returns the status of a call, and the text that it writes. `call` receives a buffer, its size, and where the text's
+    length goes. If the buffer is too small, the call is repeated with one that suffices."""
     length = ctypes.c_size_t(room)
     for _ in range(2):
         given = length.value
@@ -91,9 +91,15 @@ def _written(room: int, call: Callable[..., int]) -> bytes:
         status = call(out, given, ctypes.byref(length))
         if status != Status.ROOM_TOO_SMALL:
             break
-    _done(status)
     text = ctypes.string_at(out, min(length.value, len(out)))
     _wipe(out)  # (the message of PLAIN has the password)
+    return status, text
+
+
+def _written(room: int, call: Callable[..., int]) -> bytes:
+    """Returns the text that a call writes, like `_answered`, if it succeeds."""
+    status, text = _answered(room, call)
+    _done(status)
     return text
 
 

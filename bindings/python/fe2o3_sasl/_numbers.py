@@ -34,6 +34,7 @@ class Status(enum.IntEnum):
     ENDED = 13
     INVALID_SNAPSHOT = 14
     NAMES_NO_USER = 15
+    NEEDS_RECORDS = 16
     CLIENT_UTF8_ERROR = 20
     CLIENT_INSUFFICIENT_PARTS = 21
     CLIENT_EXTENSION_NOT_SUPPORTED = 22
@@ -109,16 +110,7 @@ class Progress(enum.IntEnum):
 
 
 class Offer(enum.IntFlag):
-    """What a server offers. PLAIN sends the password in clear, so offer it over TLS only. ACCEPT_CBIND_FLAG_Y
-    is no mechanism: SCRAM also accepts the GS2 header `y,,`, like `Server.first` with `accept_cbind_flag_y`.
-    PLAIN_PREPARED and PLAIN_SASLPREP, of which one is allowed, say which passwords PLAIN tests: the password as received,
-    or as the server prepares it by SASLprep. Without them it rejects non-ASCII passwords.
-    SIGNATURE_BY_CHALLENGE: SCRAM sends the server's signature in a challenge, and the outcome follows the client's empty
-    response. INITIAL_RESPONSE_BY_CHALLENGE: SCRAM and PLAIN answer an init without an initial response by an
-    empty challenge, and the client's response is then the initial response. STRICT: SCRAM reads messages by
-    the grammar of RFC 5802, section 7, like a `Server` with `strict`. REJECT_MISPLACED: SCRAM rejects what is no
-    extension in the place of one, and nothing more, like a `Server` with `reject_misplaced`. A server with channels
-    does so in any case."""
+    """What a server offers. PLAIN sends the password in clear, so offer it over TLS only."""
 
     SCRAM_SHA_512 = 1
     SCRAM_SHA_256 = 2
@@ -126,6 +118,19 @@ class Offer(enum.IntFlag):
     PLAIN = 8
     ANONYMOUS = 16
     EXTERNAL = 32
+
+
+class ServerFlag(enum.IntFlag):
+    """What else a server does. ACCEPT_CBIND_FLAG_Y: SCRAM also accepts the GS2 header `y,,`, like `Server.first`
+    with `accept_cbind_flag_y`. PLAIN_PREPARED and PLAIN_SASLPREP, of which one is allowed, say which passwords PLAIN tests:
+    the password as received, or as the server prepares it by SASLprep. Without them it rejects non-ASCII passwords.
+    SIGNATURE_BY_CHALLENGE: SCRAM sends the server's signature in a challenge, and the outcome follows the client's empty
+    response. INITIAL_RESPONSE_BY_CHALLENGE: SCRAM and PLAIN answer an init without an initial response by an
+    empty challenge, and the client's response is then the initial response. STRICT: SCRAM reads messages by
+    the grammar of RFC 5802, section 7, like a `Server` with `strict`. REJECT_MISPLACED: SCRAM rejects what is no
+    extension in the place of one, and nothing more, like a `Server` with `reject_misplaced`. A server with channels
+    does so in any case."""
+
     ACCEPT_CBIND_FLAG_Y = 64
     PLAIN_PREPARED = 128
     PLAIN_SASLPREP = 256

@@ -9,9 +9,24 @@ from typing import Any, Callable, Iterable, Iterator, NamedTuple, Optional
 
 from ._channels import Channel
 from ._errors import Refused
-from ._frames import view_frame
-from ._native import Bytes, Text, _bytes, _callable, _count, _library, _name, _number, _refusal, _text, _wipe, _written
-from ._numbers import DEFAULT_ITERATIONS, Offer, Progress, Rejection, Status, _ServerState
+from ._frames import Frame, view_frame
+from ._native import (
+    Bytes,
+    Text,
+    _answered,
+    _bytes,
+    _callable,
+    _count,
+    _done,
+    _library,
+    _name,
+    _number,
+    _refusal,
+    _text,
+    _wipe,
+    _written,
+)
+from ._numbers import DEFAULT_ITERATIONS, Offer, Progress, Rejection, ServerFlag, Status, _ServerState
 from ._objects import _Guard
 from ._progress import _Connection
 from ._records import MockSettings, Record, _Mock
@@ -33,24 +48,34 @@ class LoginAttempt(NamedTuple):
     hostname: Optional[str]
 
 
-#: The kind of an init.
-_INIT = 0x41
+#: The kinds of an init and of a response.
+_INIT, _RESPONSE = 0x41, 0x43
+#: The states of a server whose challenge is open.
+_CHALLENGE_IS_OPEN = {
+    _ServerState.CHALLENGE_OPEN,
+    _ServerState.CHALLENGE_OPEN_CBIND_FLAG_Y,
+    _ServerState.CHALLENGE_OPEN_TLS_UNIQUE,
+    _ServerState.CHALLENGE_OPEN_TLS_SERVER_END_POINT,
+    _ServerState.CHALLENGE_OPEN_TLS_EXPORTER,
+}
 #: The reasons by their numbers.
 _REJECTIONS = {int(one): one for one in Rejection}
-
-
-#: The mechanisms that a server can offer.
-_MECHANISMS = (
-    Offer.SCRAM_SHA_512 | Offer.SCRAM_SHA_256 | Offer.SCRAM_SHA_1 | Offer.PLAIN | Offer.ANONYMOUS | Offer.EXTERNAL
-)
 
 
 def _offered(mechanisms: int) -> int:
     """Returns what a server offers, a sum of `Offer` with one mechanism or more."""
     number = _number(mechanisms)
-    both_forms = Offer.PLAIN_PREPARED | Offer.PLAIN_SASLPREP
-    if not number & _MECHANISMS or number & ~sum(Offer) or number & both_forms == both_forms:
+    if not number or number & ~sum(Offer):
         raise _refusal(Status.NO_SUCH_MECHANISM)
+    return number
+
+
+def _flags(flags: int) -> int:
+    """Returns what else a server does, a sum of `ServerFlag` with at most one form of PLAIN's passwords."""
+    number = _number(flags)
+    both_forms = ServerFlag.PLAIN_PREPARED | ServerFlag.PLAIN_SASLPREP
+    if number & ~sum(ServerFlag) or number & both_forms == both_forms:
+        raise _refusal(Status.NO_SUCH_CHOICE)
     return number
 
 
@@ -62,6 +87,7 @@ class ServerConnection(_Connection):
         "_attempt",
         "_channels",
         "_external_authcid",
+        "_flags",
         "_identities_of",
         "_iterations",
         "_mechanisms",
@@ -76,6 +102,7 @@ class ServerConnection(_Connection):
         records_of: Callable[[str], Iterable[Record]],
         *,
         mechanisms: int = Offer.SCRAM_SHA_512 | Offer.SCRAM_SHA_256,
+        flags: int = ServerFlag.REJECT_MISPLACED,
         mock: Optional[MockSettings] = None,
         iterations: Optional[int] = None,
         external_authcid: Optional[Text] = None,
@@ -91,6 +118,8 @@ class ServerConnection(_Connection):
         SCRAM with a hash uses the first record of that hash, and PLAIN the first record. A user cannot log in by a hash for
         which it has no record, and many clients select the strongest. So offer only hashes for which every user has one
         (`RecordStore.hashes`).
+
+        `flags` is a sum of `ServerFlag`, by default REJECT_MISPLACED: then both sides agree on all of a login.
 
         With `mock` the answers do not show which names exist: a name gets a mock record for each offered hash for which
         `records_of` returns none, also the name of a known user. `mock` is a secret of 32 or more random bytes, one for
@@ -108,8 +137,8 @@ class ServerConnection(_Connection):
 
         With `channels` SCRAM is also offered with `-PLUS`: pass the channel of the connection once for each kind that the
         server accepts (`Channel`; RFC 5802, section 6). A client that supports no channel binding still logs in without
-        `-PLUS`. `Offer.ACCEPT_CBIND_FLAG_Y` then has no effect, and SCRAM tests extensions also without `-PLUS`
-        (`Offer.REJECT_MISPLACED`).
+        `-PLUS`. `ServerFlag.ACCEPT_CBIND_FLAG_Y` then has no effect, and SCRAM tests extensions also without `-PLUS`
+        (`ServerFlag.REJECT_MISPLACED`).
 
         With `identities_of` a client of SCRAM or PLAIN may name an identity to act for (RFC 4422, section 2). It returns the
         identities that a user may act for besides itself, perhaps none. A user without the right is rejected like one
@@ -121,7 +150,7 @@ class ServerConnection(_Connection):
         if mock is not None and iterations is not None:
             raise ValueError("the iteration count is that of the mock records")
         self._identities_of = identities_of
-        self._records_of, self._mechanisms = records_of, _offered(mechanisms)
+        self._records_of, self._mechanisms, self._flags = records_of, _offered(mechanisms), _flags(flags)
         self._iterations = _count(DEFAULT_ITERATIONS if iterations is None else iterations)
         self._struct = _SaslServerStruct()
         self._external_authcid = _name("" if external_authcid is None else external_authcid)
@@ -166,7 +195,9 @@ class ServerConnection(_Connection):
             self._alive()  # (`records_of` can wipe this side)
             yield _SaslServerConfigStruct(
                 mechanisms=self._mechanisms,
+                flags=self._flags,
                 iterations=self._iterations if self._mock is None else self._mock.iterations,
+                looked_up=name is not None,
                 username=known,
                 username_len=len(known),
                 records=records,
@@ -191,30 +222,45 @@ class ServerConnection(_Connection):
         return b"".join(answers), rest
 
     def _step(self, data: bytes) -> tuple[bytes, int]:
-        name = self._named(data)
-        nonce, taken, body = secrets.token_bytes(32), ctypes.c_size_t(), self._peeked(data)
+        frame, name = self._viewed(data), None
+        if frame is not None and frame.kind == _RESPONSE:
+            name = self._challenged()
+        status, answer, taken = self._received(data, name)
+        if status == Status.NEEDS_RECORDS:
+            name = answer.decode("utf-8")
+            status, answer, taken = self._received(data, name)
+        _done(status)
+        if frame is not None:
+            self._claims(frame, name)
+        return answer, taken
+
+    def _received(self, data: bytes, name: Optional[str]) -> tuple[int, bytes, int]:
+        """Calls the library once, with the records of the user, if its name is known. Returns the status, what was
+        written, and how many bytes were taken."""
+        nonce, taken = secrets.token_bytes(32), ctypes.c_size_t()
         with self._config(name) as config:
-            answer = _written(
+            status, out = _answered(
                 520,
                 lambda *room: _library.fe2o3_sasl_server_receive(
                     config, self._struct, data, len(data), nonce, ctypes.byref(taken), *room
                 ),
             )
-        if body:
-            self._claims(body, name)
-        return answer, taken.value
+        return status, out, taken.value
 
-    def _named(self, data: bytes) -> Optional[str]:
-        """Returns the user that the next frame claims, if received bytes complete one that does."""
+    def _viewed(self, data: bytes) -> Optional[Frame]:
+        """Returns the frame that received bytes complete, if they complete one that can be parsed."""
+        body = self._peeked(data)
         try:
-            name = _written(
-                512, lambda *room: _library.fe2o3_sasl_server_claimed_user(self._struct, data, len(data), *room)
-            )
-        except Refused as why:
-            if why.status == Status.NAMES_NO_USER:
-                return None
-            raise
-        return name.decode("utf-8")
+            return view_frame(body) if body else None
+        except Refused:
+            return None
+
+    def _challenged(self) -> Optional[str]:
+        """Returns the user of the open challenge, whom a response claims."""
+        scram = self._struct.scram
+        if scram.state not in _CHALLENGE_IS_OPEN:
+            return None
+        return bytes(scram.user[: scram.user_len]).decode("utf-8")
 
     def last_attempt(self) -> Optional[LoginAttempt]:
         """Returns what the last init claims, also after a rejection, for a log. None before the first init. Nobody is
@@ -236,12 +282,8 @@ class ServerConnection(_Connection):
             # (a later library can have more reasons)
             return _REJECTIONS.get(number, Rejection.OTHER) if number else None
 
-    def _claims(self, body: bytes, name: Optional[str]) -> None:
+    def _claims(self, frame: Frame, name: Optional[str]) -> None:
         """Stores what a frame claims: an init, or a response that is the initial response. The name is the user."""
-        try:
-            frame = view_frame(body)
-        except Refused:
-            return
         if frame.kind == _INIT:
             self._attempt = LoginAttempt(frame.mechanism, name, frame.hostname)
         elif self._attempt is not None and name is not None:

@@ -139,7 +139,9 @@ class _SaslClientStruct(ctypes.Structure):
 class _SaslServerConfigStruct(ctypes.Structure):
     _fields_ = [
         ("mechanisms", ctypes.c_uint32),
+        ("flags", ctypes.c_uint32),
         ("iterations", ctypes.c_uint32),
+        ("looked_up", ctypes.c_uint32),
         ("username", ctypes.c_char_p),
         ("username_len", ctypes.c_size_t),
         ("records", ctypes.POINTER(_ScramRecordStruct)),

@@ -1,6 +1,6 @@
 //! What clients claim, for the log of a server.
 
-use crate::frames::{view_frame, Frame};
+use crate::frames::Frame;
 
 /// What the last init of a client claims, also after a rejection. Nobody is authenticated by it.
 #[derive(Clone, Debug, PartialEq, Eq)]
@@ -16,9 +16,9 @@ pub struct LoginAttempt {
 }
 
 /// Stores what a frame claims: an init, or a response that is the initial response. The name is that of the user.
-pub(crate) fn claim(attempt: &mut Option<LoginAttempt>, body: &[u8], name: Option<&str>) {
-    match view_frame(body) {
-        Ok(Frame::Init { mechanism, hostname, .. }) => {
+pub(crate) fn claim(attempt: &mut Option<LoginAttempt>, frame: Frame, name: Option<&str>) {
+    match frame {
+        Frame::Init { mechanism, hostname, .. } => {
             *attempt = Some(LoginAttempt { mechanism, claimed_user: name.map(str::to_owned), hostname });
         }
         _ => {

@@ -1,6 +1,6 @@
 //! The server's side of an exchange.
 
-use crate::calls::filled;
+use crate::calls::{filled, head};
 use crate::channels::{bound, NO_CHANNELS};
 use crate::{
     generate_nonce, sys, Channel, ScramRecord, ScramVersion, ServerScramErrorKind, StoreError, UserRecords,
@@ -336,6 +336,12 @@ pub(crate) fn authenticated_user(state: &sys::ScramServer) -> Option<String> {
         unsafe { sys::fe2o3_scram_server_authenticated_user(state, out.as_mut_ptr(), out.len(), len) }
     });
     String::from_utf8(name.ok()?).ok()
+}
+
+/// Returns the user of the challenge that is open in a server's struct.
+pub(crate) fn challenged_user(state: &sys::ScramServer) -> Option<String> {
+    let is_open = CHALLENGE_IS_OPEN.contains(&state.state);
+    is_open.then(|| String::from_utf8_lossy(head(&state.user, state.user_len as usize)).into_owned())
 }
 
 /// Returns the identity that the authenticated user of a server's struct acts for.

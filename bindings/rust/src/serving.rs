@@ -1,13 +1,13 @@
 //! The server's side of a connection.
 
 use crate::attempts::claim;
-use crate::calls::{filled, head};
+use crate::calls::{done, head};
 use crate::channels::{bound, NO_CHANNELS};
 use crate::connection::{progress_of, Progress, Received, FRESH};
 use crate::frames::view_frame;
 use crate::peeks::{end_of_input, foreign_header, peek_body, wants_nonce};
 use crate::records::ScramRecord;
-use crate::server::{acts_for, authenticated_user, joined, MockSettings, NO_CHALLENGE};
+use crate::server::{acts_for, authenticated_user, challenged_user, joined, MockSettings, NO_CHALLENGE};
 use crate::users::{NotFound, StoreError, UserRecords};
 use crate::{
     generate_nonce, sys, Channel, ConnectionError, Frame, LoginAttempt, Rejection, ScramVersion,
@@ -54,8 +54,8 @@ pub enum PlainPasswords {
 }
 
 /// A server of SCRAM, PLAIN, ANONYMOUS and EXTERNAL over the records of users. Without options it offers SCRAM-SHA-512
-/// and SCRAM-SHA-256, and a name without a record is rejected at once, which shows that there is none. A server for the
-/// users in a file is at [`RecordStore`](crate::RecordStore).
+/// and SCRAM-SHA-256, rejects what is no extension, and a name without a record is rejected at once, which shows that there
+/// is none. A server for the users in a file is at [`RecordStore`](crate::RecordStore).
 ///
 /// ```
 /// use fe2o3_sasl_proved::*;
@@ -79,6 +79,7 @@ pub struct PasswordServer<R: UserRecords + Clone> {
     records: R,
     mock: Option<MockSettings>,
     mechanisms: u32,
+    flags: u32,
     external_authcid: String,
     channels: sys::ServerChannels,
     accept_authzid: u32,
@@ -116,6 +117,7 @@ impl<R: UserRecords + Clone> PasswordServer<R> {
             records,
             mock: None,
             mechanisms,
+            flags: sys::REJECT_MISPLACED,
             external_authcid: String::new(),
             channels: NO_CHANNELS,
             accept_authzid: 0,
@@ -125,6 +127,12 @@ impl<R: UserRecords + Clone> PasswordServer<R> {
     /// Adds this value of enum fe2o3_offer to the offer, or removes it.
     fn with(mut self, offer: u32, is_offered: bool) -> Self {
         self.mechanisms = if is_offered { self.mechanisms | offer } else { self.mechanisms & !offer };
+        self
+    }
+
+    /// Sets this value of enum fe2o3_server_flag, or clears it.
+    fn flag(mut self, flag: u32, is_set: bool) -> Self {
+        self.flags = if is_set { self.flags | flag } else { self.flags & !flag };
         self
     }
 
@@ -159,11 +167,11 @@ impl<R: UserRecords + Clone> PasswordServer<R> {
 
     /// Sets which password PLAIN tests for the received one. The default is [`PlainPasswords::Typed`].
     pub fn plain_passwords(self, passwords: PlainPasswords) -> Self {
-        let server = self.with(sys::PLAIN_PREPARED | sys::PLAIN_SASLPREP, false);
+        let server = self.flag(sys::PLAIN_PREPARED | sys::PLAIN_SASLPREP, false);
         match passwords {
             PlainPasswords::Typed => server,
-            PlainPasswords::Prepared => server.with(sys::PLAIN_PREPARED, true),
-            PlainPasswords::Saslprep => server.with(sys::PLAIN_SASLPREP, true),
+            PlainPasswords::Prepared => server.flag(sys::PLAIN_PREPARED, true),
+            PlainPasswords::Saslprep => server.flag(sys::PLAIN_SASLPREP, true),
         }
     }
 
@@ -189,7 +197,7 @@ impl<R: UserRecords + Clone> PasswordServer<R> {
     /// Makes SCRAM also accept the GS2 header `y,,`: the client supports channel binding, and was offered no mechanism
     /// with `-PLUS` (RFC 5802, section 6). It has no effect beside [`PasswordServer::channels`].
     pub fn accept_cbind_flag_y(self) -> Self {
-        self.with(sys::ACCEPT_CBIND_FLAG_Y, true)
+        self.flag(sys::ACCEPT_CBIND_FLAG_Y, true)
     }
 
     /// With `accept`, makes SCRAM and PLAIN accept a client that names an identity to act for: see
@@ -203,26 +211,26 @@ impl<R: UserRecords + Clone> PasswordServer<R> {
     /// [`ScramAuthenticator::strict`](crate::ScramAuthenticator::strict). libpq sends an empty user name, which is rejected
     /// then.
     pub fn strict(self, is_strict: bool) -> Self {
-        self.with(sys::STRICT, is_strict)
+        self.flag(sys::STRICT, is_strict)
     }
 
-    /// With `reject`, makes SCRAM reject what is no extension in the place of one: see
+    /// With `reject`, which is the default, makes SCRAM reject what is no extension in the place of one: see
     /// [`ScramAuthenticator::reject_misplaced`](crate::ScramAuthenticator::reject_misplaced). It has no effect beside
     /// [`PasswordServer::channels`]: such a server does so in any case.
     pub fn reject_misplaced(self, reject: bool) -> Self {
-        self.with(sys::REJECT_MISPLACED, reject)
+        self.flag(sys::REJECT_MISPLACED, reject)
     }
 
     /// With `by_challenge`, makes SCRAM send the server's signature in a challenge: the outcome follows the client's empty
     /// response (RFC 4422, section 5). Only for clients that do not read the data of an outcome.
     pub fn signature_by_challenge(self, by_challenge: bool) -> Self {
-        self.with(sys::SIGNATURE_BY_CHALLENGE, by_challenge)
+        self.flag(sys::SIGNATURE_BY_CHALLENGE, by_challenge)
     }
 
     /// With `by_challenge`, makes SCRAM and PLAIN answer an init without an initial response by an empty challenge. The
     /// client's response is then the initial response (RFC 4422, section 5). Otherwise such an init is rejected.
     pub fn initial_response_by_challenge(self, by_challenge: bool) -> Self {
-        self.with(sys::INITIAL_RESPONSE_BY_CHALLENGE, by_challenge)
+        self.flag(sys::INITIAL_RESPONSE_BY_CHALLENGE, by_challenge)
     }
 
     /// Returns the records of the claimed user, and after them a mock record for each other offered hash.
@@ -250,7 +258,7 @@ impl<R: UserRecords + Clone> PasswordServer<R> {
         }
     }
 
-    /// Returns the configuration with the records of a user, and the identities that the user may act for.
+    /// Returns the configuration with the records of a user who was looked up, and the identities that the user may act for.
     pub(crate) fn lend<'a>(
         &'a self,
         name: Option<&'a str>,
@@ -260,7 +268,9 @@ impl<R: UserRecords + Clone> PasswordServer<R> {
         let username = name.unwrap_or_default();
         let config = sys::SaslServerConfig {
             mechanisms: self.mechanisms,
+            flags: self.flags,
             iterations: self.mock.as_ref().map_or(DEFAULT_SCRAM_ITERATIONS, |mock| mock.iterations),
+            looked_up: name.is_some().into(),
             username: username.as_ptr(),
             username_len: username.len(),
             records: records.as_ptr(),
@@ -276,13 +286,13 @@ impl<R: UserRecords + Clone> PasswordServer<R> {
     }
 }
 
-/// Returns the name that a call writes into a buffer of this size, if there is one.
-fn named(room: usize, call: impl FnMut(&mut [u8], &mut usize) -> u32) -> Result<Option<String>, ConnectionError> {
-    match filled(room, call) {
-        Ok(name) => Ok(String::from_utf8(name).ok()),
-        Err(sys::NAMES_NO_USER) => Ok(None),
-        Err(why) => Err(ConnectionError::of(why)),
-    }
+/// What a call of the library does.
+enum Step {
+    /// Takes that many bytes, and returns these to send.
+    Answered(usize, Vec<u8>),
+
+    /// Takes nothing, because it needs the records of this user, whom the bytes claim.
+    NeedsRecords(String),
 }
 
 /// The server's side of one AMQP 1.0 connection, without I/O: bytes in, bytes out.
@@ -338,20 +348,40 @@ impl<R: UserRecords + Clone> ServerNegotiation<R> {
         let mut received = Received { taken: 0, sent: Vec::new() };
         while received.taken < bytes.len() && self.progress() == Progress::InProgress {
             let rest = &bytes[received.taken..];
-            let name = self.named(rest)?;
             let body = peek_body(&self.state.connection, rest)?;
-            let (taken, sent) = match self.config.records(name.as_deref()) {
-                Ok(found) => self.step(rest, name.as_deref(), &found)?,
-                Err(NotFound::Store(why)) => self.reject_for_now(rest, why),
-                Err(NotFound::Library(why)) => return Err(why),
+            let frame = body.and_then(|body| view_frame(&body).ok());
+            // (the response to a challenge claims the user of the challenge)
+            let mut name = match frame {
+                Some(Frame::Response(_)) => challenged_user(&self.state.scram),
+                _ => None,
             };
-            if let Some(body) = body {
-                claim(&mut self.attempt, &body, name.as_deref());
+            let (taken, sent) = self.look_up_and_step(rest, &mut name)?;
+            if let Some(frame) = frame {
+                claim(&mut self.attempt, frame, name.as_deref());
             }
             received.taken += taken;
             received.sent.extend(sent);
         }
         Ok(received)
+    }
+
+    /// Calls the library with the records of the user, or, if it then asks for those of a user, once more.
+    fn look_up_and_step(
+        &mut self,
+        bytes: &[u8],
+        name: &mut Option<String>,
+    ) -> Result<(usize, Vec<u8>), ConnectionError> {
+        loop {
+            let found = match self.config.records(name.as_deref()) {
+                Ok(found) => found,
+                Err(NotFound::Store(why)) => return Ok(self.reject_for_now(bytes, why)),
+                Err(NotFound::Library(why)) => return Err(why),
+            };
+            match self.step(bytes, name.as_deref(), &found)? {
+                Step::Answered(taken, sent) => return Ok((taken, sent)),
+                Step::NeedsRecords(user) => *name = Some(user),
+            }
+        }
     }
 
     /// Ends the login by the outcome sys-temp. Returns how many bytes the frame took that names the user.
@@ -367,57 +397,35 @@ impl<R: UserRecords + Clone> ServerNegotiation<R> {
         (taken, TRY_AGAIN_LATER.to_vec())
     }
 
-    /// Returns the user that the next frame claims, if these bytes complete one that does.
-    fn named(&self, bytes: &[u8]) -> Result<Option<String>, ConnectionError> {
-        named(self.state.connection.held.len(), |out, len| {
-            // SAFETY: the state and the bytes are borrowed and live through the call; the room and its length are
-            // borrowed for writing, and so overlap nothing.
-            unsafe {
-                sys::fe2o3_sasl_server_claimed_user(
-                    &self.state,
-                    bytes.as_ptr(),
-                    bytes.len(),
-                    out.as_mut_ptr(),
-                    out.len(),
-                    len,
-                )
-            }
-        })
-    }
-
-    /// Calls the library once, with the records of the claimed user.
-    fn step(
-        &mut self,
-        bytes: &[u8],
-        name: Option<&str>,
-        found: &FoundRecords,
-    ) -> Result<(usize, Vec<u8>), ConnectionError> {
+    /// Calls the library once, with the records of the claimed user, if it was looked up.
+    fn step(&mut self, bytes: &[u8], name: Option<&str>, found: &FoundRecords) -> Result<Step, ConnectionError> {
         let nonce = generate_nonce();
         let of_mock = found.mock_rejection(self.state.scram.version);
         let lent = self.config.lend(name, &found.all, &found.identities);
-        let state = &mut self.state;
-        let mut taken = 0;
-        let sent = filled(SENT_MOST, |out, len| {
-            // SAFETY: the configuration's pointers point to what `lent` borrows, and the bytes are a slice that lives
-            // through the call; the state, the room, its length and the count are borrowed for writing, and so
-            // overlap nothing.
-            unsafe {
-                sys::fe2o3_sasl_server_receive(
-                    &lent.config,
-                    state,
-                    bytes.as_ptr(),
-                    bytes.len(),
-                    &nonce,
-                    &mut taken,
-                    out.as_mut_ptr(),
-                    out.len(),
-                    len,
-                )
-            }
-        })
-        .map_err(ConnectionError::of)?;
+        let (mut out, mut len, mut taken) = (vec![0; SENT_MOST], 0, 0);
+        // SAFETY: the configuration's pointers point to what `lent` borrows, and the bytes are a slice that lives
+        // through the call; the state, the room, its length and the count are borrowed for writing, and so
+        // overlap nothing.
+        let status = unsafe {
+            sys::fe2o3_sasl_server_receive(
+                &lent.config,
+                &mut self.state,
+                bytes.as_ptr(),
+                bytes.len(),
+                &nonce,
+                &mut taken,
+                out.as_mut_ptr(),
+                out.len(),
+                &mut len,
+            )
+        };
+        out.truncate(len);
+        if status == sys::NEEDS_RECORDS {
+            return Ok(Step::NeedsRecords(String::from_utf8_lossy(&out).into_owned()));
+        }
+        done(status).map_err(ConnectionError::of)?;
         self.rejection = Rejection::of(self.state.scram.rejection, of_mock);
-        Ok((taken, sent))
+        Ok(Step::Answered(taken, out))
     }
 
     /// Returns how far the login is.

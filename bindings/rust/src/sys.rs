@@ -46,9 +46,12 @@ pub const ENDED: u32 = 13;
 /// The struct of the connection has a value that no call writes.
 pub const INVALID_SNAPSHOT: u32 = 14;
 
-/// The bytes do not complete a frame that claims a user name, the message of PLAIN claims none, or the user name for a
-/// message of PLAIN is empty.
+/// The message of PLAIN claims no user name, or the user name for a message of PLAIN is empty.
 pub const NAMES_NO_USER: u32 = 15;
+
+/// The server needs the records of the user whose name is in `out`. Nothing has changed: look the user up, and repeat
+/// the call with the same bytes.
+pub const NEEDS_RECORDS: u32 = 16;
 
 /// The message is not UTF-8.
 pub const CLIENT_UTF8_ERROR: u32 = 20;
@@ -295,8 +298,8 @@ pub const BY_PASSWORD: u32 = 0;
 /// `secret`: The keys.
 pub const BY_KEYS: u32 = 1;
 
-/// `secret`: The keys if they are of the server's salt and iteration count, otherwise the password. The login has to
-/// have both: without keys the calls return NO_KEYS.
+/// `secret`: The keys if they are of the server's salt and iteration count, otherwise the password. A struct of zeros
+/// has no keys yet: then the password.
 pub const BY_PASSWORD_AND_KEYS: u32 = 2;
 
 /// `password_form`: The password as the user typed it, which has to be printable ASCII.
@@ -363,29 +366,29 @@ pub const OFFER_ANONYMOUS: u32 = 16;
 /// `offer`: EXTERNAL, if `external_authcid` is not empty.
 pub const OFFER_EXTERNAL: u32 = 32;
 
-/// `offer`: No mechanism: SCRAM also accepts the GS2 header `y,,`: see the field `accept_cbind_flag_y` of struct
+/// `server_flag`: SCRAM also accepts the GS2 header `y,,`: see the field `accept_cbind_flag_y` of struct
 /// fe2o3_scram_rules.
 pub const ACCEPT_CBIND_FLAG_Y: u32 = 64;
 
-/// `offer`: No mechanism: PLAIN tests the password as received, also a non-ASCII one. Clients prepare their passwords.
+/// `server_flag`: PLAIN tests the password as received, also a non-ASCII one. Clients prepare their passwords.
 pub const PLAIN_PREPARED: u32 = 128;
 
-/// `offer`: No mechanism: PLAIN tests the text that SASLprep prepares the password to. Not with PLAIN_PREPARED.
+/// `server_flag`: PLAIN tests the text that SASLprep prepares the password to. Not with PLAIN_PREPARED.
 pub const PLAIN_SASLPREP: u32 = 256;
 
-/// `offer`: No mechanism: SCRAM and PLAIN answer an init without an initial response by an empty challenge. The
-/// client's response is then the initial response (RFC 4422, section 5). Without this value such an init fails.
+/// `server_flag`: SCRAM and PLAIN answer an init without an initial response by an empty challenge. The client's
+/// response is then the initial response (RFC 4422, section 5). Without this value such an init fails.
 pub const INITIAL_RESPONSE_BY_CHALLENGE: u32 = 512;
 
-/// `offer`: No mechanism: SCRAM sends the server's signature in a challenge, and the outcome OK follows the client's
-/// empty response (RFC 4422, section 5). For clients that do not read the data of an outcome.
+/// `server_flag`: SCRAM sends the server's signature in a challenge, and the outcome OK follows the client's empty
+/// response (RFC 4422, section 5). For clients that do not read the data of an outcome.
 pub const SIGNATURE_BY_CHALLENGE: u32 = 1024;
 
-/// `offer`: No mechanism: SCRAM is strict. It reads messages by the grammar of RFC 5802, section 7: see the field
-/// `strict` of struct fe2o3_scram_rules.
+/// `server_flag`: SCRAM is strict. It reads messages by the grammar of RFC 5802, section 7: see the field `strict` of
+/// struct fe2o3_scram_rules.
 pub const STRICT: u32 = 2048;
 
-/// `offer`: No mechanism: SCRAM rejects what is no extension in the place of one, and nothing more: see the field
+/// `server_flag`: SCRAM rejects what is no extension in the place of one, and nothing more: see the field
 /// `reject_misplaced` of struct fe2o3_scram_rules. A server with `channels` does so in any case.
 pub const REJECT_MISPLACED: u32 = 4096;
 
@@ -855,15 +858,22 @@ pub struct SaslClient {
 #[derive(Clone, Copy)]
 pub struct SaslServerConfig {
     /// The offered mechanisms: a sum of values of the `offer` constants. PLAIN sends the password in clear, so offer it
-    /// over TLS only. It rejects every password that is not printable ASCII, unless the sum has PLAIN_PREPARED or
-    /// PLAIN_SASLPREP. By the latter it also rejects a password that SASLprep rejects or prepares to the empty text.
-    /// With SIGNATURE_BY_CHALLENGE SCRAM's outcome OK follows the client's empty response to a challenge. With
-    /// INITIAL_RESPONSE_BY_CHALLENGE an init for SCRAM or PLAIN without an initial response is answered by an empty
-    /// challenge, and the response is the initial response. With STRICT SCRAM is strict, as by the field `strict` of
-    /// struct fe2o3_scram_rules, and with REJECT_MISPLACED as by its field `reject_misplaced`.
+    /// over TLS only.
     pub mechanisms: u32,
+    /// What else the server does: a sum of values of the `server_flag` constants. PLAIN rejects every password that is
+    /// not printable ASCII, unless the sum has PLAIN_PREPARED or PLAIN_SASLPREP. By the latter it also rejects a
+    /// password that SASLprep rejects or prepares to the empty text. With SIGNATURE_BY_CHALLENGE SCRAM's outcome OK
+    /// follows the client's empty response to a challenge. With INITIAL_RESPONSE_BY_CHALLENGE an init for SCRAM or
+    /// PLAIN without an initial response is answered by an empty challenge, and the response is the initial response.
+    /// With STRICT SCRAM is strict, as by the field `strict` of struct fe2o3_scram_rules, and with REJECT_MISPLACED as
+    /// by its field `reject_misplaced`.
+    pub flags: u32,
     /// The iteration count with which PLAIN hashes a password if no record can be read.
     pub iterations: u32,
+    /// Whether `username`, `records` and `identities` are what your store has of the user whom the bytes claim. 0 is
+    /// no, any other value yes. If it is 0 and the bytes claim a user, `fe2o3_sasl_server_receive` returns
+    /// NEEDS_RECORDS. If they claim none, these fields play no part.
+    pub looked_up: u32,
     /// The name of the user whose records these are, without escapes.
     pub username: *const u8,
     pub username_len: usize,
@@ -976,6 +986,9 @@ extern "C" {
     /// Prepare a non-ASCII password before you store or use it, and pass the result where a prepared password is
     /// expected. `unassigned` is UNASSIGNED_REFUSED for a text that is stored, and UNASSIGNED_ALLOWED for one that is
     /// only compared with stored texts (RFC 3454, section 7).
+    ///
+    /// The errors are, in this order: NO_SUCH_CHOICE for another `unassigned`; NOT_UTF8; PROHIBITED_CHARACTER;
+    /// MIXED_DIRECTIONS; UNASSIGNED_CODE_POINT; and ROOM_TOO_SMALL.
     pub fn fe2o3_saslprep(
         text: *const u8,
         text_len: usize,
@@ -989,6 +1002,9 @@ extern "C" {
     ///
     /// `salt` is random bytes, fresh for each record, at most 128: 16 suffice. For SCRAM-SHA-256 some clients of
     /// MongoDB require 28.
+    ///
+    /// The errors are, in this order: NO_SUCH_VERSION; NO_SUCH_CHOICE for another `form`; NOT_UTF8; TOO_LONG for a salt
+    /// of more than 128 bytes; NOT_PRINTABLE for a typed password that is not printable ASCII; and ZERO_ITERATIONS.
     pub fn fe2o3_scram_record_make(
         version: u32,
         form: u32,
@@ -1020,6 +1036,8 @@ extern "C" {
     ///
     /// `secret` is 32 random bytes, one value for all names, kept as long as the records. `salt_len`, at most 64, and
     /// `iterations` are those of the server's other records. An iteration count of 0 is not rejected here.
+    ///
+    /// The errors are, in this order: NO_SUCH_VERSION; NOT_UTF8 for the name; and TOO_LONG for a `salt_len` above 64.
     pub fn fe2o3_scram_record_mock(
         version: u32,
         secret: *const u8,
@@ -1031,9 +1049,15 @@ extern "C" {
         kept: *mut ScramRecord) -> u32;
 
     /// Parses the text of a record, as PostgreSQL writes it (RFC 5803, section 2).
+    ///
+    /// The errors are, in this order: NOT_UTF8; the fault of the text, such as RECORD_PARTS_MISMATCH; and TOO_LONG for
+    /// a salt of more than 128 bytes.
     pub fn fe2o3_scram_record_parse(text: *const u8, text_len: usize, kept: *mut ScramRecord) -> u32;
 
     /// Writes the text of a record, as PostgreSQL reads it (RFC 5803, section 2): at most 384 bytes.
+    ///
+    /// The errors are, in this order: NO_SUCH_VERSION, and TOO_LONG for a `salt_len` above 128, if the struct holds no
+    /// record; and ROOM_TOO_SMALL.
     pub fn fe2o3_scram_record_text(
         kept: *const ScramRecord,
         out: *mut u8,
@@ -1043,6 +1067,9 @@ extern "C" {
     /// Compares a password, for instance one received by PLAIN, with a record: OK if it is the record's, OTHER_PASSWORD
     /// if not. `form` is one of the `password_form` constants. The call hashes as often as the record's iteration count
     /// says, so pass only your own records.
+    ///
+    /// The errors are, in this order: NO_SUCH_VERSION, and TOO_LONG for a `salt_len` above 128, if the struct holds no
+    /// record; NO_SUCH_CHOICE for another `form`; NOT_UTF8; and OTHER_PASSWORD.
     pub fn fe2o3_scram_record_verify(
         kept: *const ScramRecord,
         form: u32,
@@ -1080,6 +1107,9 @@ extern "C" {
     ///
     /// If nothing is found, `line` is the number of the line that cannot be parsed, counted from 1, or 0 if every line
     /// can.
+    ///
+    /// The errors are, in this order: NO_SUCH_VERSION; NOT_UTF8 for the name or the text; the fault of the first line
+    /// that cannot be parsed; and NO_SUCH_USER, or TOO_LONG for a salt of more than 128 bytes.
     pub fn fe2o3_scram_lines_find(
         lines: *const u8,
         lines_len: usize,
@@ -1096,6 +1126,8 @@ extern "C" {
     ///
     /// If the text cannot be parsed, `line` is the number of the first line that cannot, counted from 1. It is 0 after
     /// the other errors, except OUT_OF_MEMORY, which leaves it unchanged.
+    ///
+    /// The errors are, in this order: NO_SUCH_VERSION; NOT_UTF8; and the fault of the first line that cannot be parsed.
     pub fn fe2o3_scram_lines_all_have(
         lines: *const u8,
         lines_len: usize,
@@ -1103,8 +1135,11 @@ extern "C" {
         line: *mut usize,
         all: *mut u32) -> u32;
 
-    /// Writes the line of a user and a record, with its line feed, as `fe2o3_scram_lines_find` reads it. Returns
-    /// NOT_WRITABLE if the name contains a line feed or the iteration count is 0.
+    /// Writes the line of a user and a record, with its line feed, as `fe2o3_scram_lines_find` reads it.
+    ///
+    /// The errors are, in this order: NOT_UTF8 for the name; NO_SUCH_VERSION, and TOO_LONG for a `salt_len` above 128,
+    /// if the struct holds no record; NOT_WRITABLE if the name contains a line feed or the iteration count is 0; and
+    /// ROOM_TOO_SMALL.
     pub fn fe2o3_scram_line(
         username: *const u8,
         username_len: usize,
@@ -1115,6 +1150,8 @@ extern "C" {
 
     /// Derives the keys of a password, for a server that uses this salt and iteration count. `form` is one of enum
     /// fe2o3_password_form.
+    ///
+    /// The errors are those of `fe2o3_scram_record_make`, in the same order.
     pub fn fe2o3_scram_keys_make(
         version: u32,
         form: u32,
@@ -1144,6 +1181,11 @@ extern "C" {
     /// Writes the client-first message. This starts a new exchange, whatever the state of the client is. `nonce` is 32
     /// fresh random bytes. With CHANNEL_BOUND name the mechanism with `-PLUS` to the server, such as SCRAM-SHA-256-PLUS
     /// (RFC 5802, section 6). The whole login is tested, also the secret, which this message does not use.
+    ///
+    /// The faults of a login are, in this order: NO_SUCH_VERSION; NOT_UTF8 for the user name; NOT_UTF8,
+    /// PROHIBITED_CHARACTER for a zero byte, and TOO_LONG for the identity; NO_SUCH_CHANNEL and CHANNEL_DATA_LENGTH;
+    /// NO_SUCH_SECRET; NO_SUCH_CHOICE and NOT_UTF8 for the password; NO_KEYS and OTHER_VERSION for the keys. After
+    /// these comes ROOM_TOO_SMALL.
     pub fn fe2o3_scram_client_first(
         login: *const Login,
         client: *mut ScramClient,
@@ -1184,6 +1226,9 @@ extern "C" {
     /// Writes the keys of a complete login, for the next login to the same server. As long as the server keeps its salt
     /// and iteration count, a login by keys needs no password and no PBKDF2. The keys are secret: they suffice to log
     /// in.
+    ///
+    /// The errors are, in this order: CLIENT_ILLEGAL_CLIENT_STATE unless a login is complete; and NO_KEYS if the struct
+    /// had no room for its salt.
     pub fn fe2o3_scram_client_get_keys(client: *const ScramClient, keys: *mut ScramKeys) -> u32;
 
     /// Writes the user name that a client-first message claims, without escapes. Nobody is authenticated yet: use it
@@ -1324,8 +1369,9 @@ extern "C" {
     /// message has the password in clear, so send it over TLS only. Prepare a non-ASCII password first
     /// (`fe2o3_saslprep`).
     ///
-    /// Returns NOT_UTF8 if a word is not UTF-8, NAMES_NO_USER if the user name is empty, EMPTY_PASSWORD if the password
-    /// is, PROHIBITED_CHARACTER if a word contains a zero byte, and TOO_LONG if the identity has more than 256 bytes.
+    /// Returns, in this order, NOT_UTF8 if a word is not UTF-8, NAMES_NO_USER if the user name is empty, EMPTY_PASSWORD
+    /// if the password is, PROHIBITED_CHARACTER if a word contains a zero byte, and TOO_LONG if the identity has more
+    /// than 256 bytes.
     pub fn fe2o3_plain_message(
         acts_for: *const u8,
         acts_for_len: usize,
@@ -1372,9 +1418,9 @@ extern "C" {
     /// `identities` are those that the user may act for besides itself (RFC 4422, section 2), with a zero byte after
     /// each but the last, which may have one too.
     ///
-    /// Returns NO_SUCH_CHOICE if `passwords` is none of the enum, NOT_UTF8 if the identities are not UTF-8, and
-    /// SERVER_AUTHENTICATION_FAILED for every message that does not log in: a wrong password, an unknown user, an
-    /// identity that the user may not act for, or no acceptable message.
+    /// Returns, in this order, NO_SUCH_CHOICE if `passwords` is none of the enum, NOT_UTF8 if the identities are not
+    /// UTF-8, and SERVER_AUTHENTICATION_FAILED for every message that does not log in: a wrong password, an unknown
+    /// user, an identity that the user may not act for, or no acceptable message.
     pub fn fe2o3_plain_verify(
         records: *const ScramRecord,
         records_count: usize,
@@ -1409,6 +1455,10 @@ extern "C" {
     /// OK does not mean that the login succeeds: look at `progress` and `why` of the connection. `taken` is how many
     /// bytes were used. While `progress` is IN_PROGRESS, pass the rest in the next call; after the login it belongs to
     /// AMQP.
+    ///
+    /// The errors are, in this order: ROOM_TOO_SMALL; ENDED; INVALID_SNAPSHOT for a struct that no call has written;
+    /// NOT_UTF8 for the hostname; the faults of the login, for SCRAM as in `fe2o3_scram_client_first`; and
+    /// INVALID_SNAPSHOT for a part of a frame that is not expected. Each leaves the struct unchanged.
     pub fn fe2o3_sasl_client_receive(
         login: *const SaslLogin,
         client: *mut SaslClient,
@@ -1420,28 +1470,34 @@ extern "C" {
         out_size: usize,
         out_len: *mut usize) -> u32;
 
-    /// Writes the user name that the next frame claims, if `bytes` complete it: that of an init for SCRAM or PLAIN, for
-    /// a response that of the open challenge of SCRAM, and for the response to an empty challenge that of the initial
-    /// response. Nobody is authenticated yet: use it only to look up the record for `fe2o3_sasl_server_receive`.
-    /// Returns NAMES_NO_USER if the frame is not complete or claims no name; then no record is needed.
-    pub fn fe2o3_sasl_server_claimed_user(
-        server: *const SaslServer,
-        bytes: *const u8,
-        bytes_len: usize,
-        out: *mut u8,
-        out_size: usize,
-        out_len: *mut usize) -> u32;
-
     /// Takes received bytes, to the end of the expected header or frame, and writes the bytes to send, at most 520.
     /// `out` needs 520 bytes, which is tested before anything is hashed. `nonce` is 32 fresh random bytes, or any bytes
     /// if `fe2o3_sasl_wants_nonce` returns 0.
     ///
-    /// Before the call, look up the record of the user that the bytes claim (`fe2o3_sasl_server_claimed_user`). OK does
-    /// not mean that the login succeeds: look at `progress` and `why` of the connection. `taken` is how many bytes were
-    /// used. While `progress` is IN_PROGRESS, pass the rest in the next call; after the login it belongs to AMQP.
+    /// Call it first with `looked_up` 0. If the bytes complete a frame that claims a user, it takes nothing, writes the
+    /// name to `out`, at most 512 bytes, and returns NEEDS_RECORDS. Nobody is authenticated yet: use the name only to
+    /// look the user up. Put what your store has of the user into `config`, set `looked_up`, and repeat the call with
+    /// the same bytes.
     ///
-    /// If a name or a message does not fit into the struct, the call returns TOO_LONG, and you have to close the
-    /// connection.
+    /// An init for SCRAM or PLAIN claims the user of its initial response, and so does the response to an empty
+    /// challenge. The response to a challenge of SCRAM claims the user of that challenge, `user` of the field `scram`
+    /// while its `state` says that a challenge is open. You can look that user up before, and set `looked_up` at once.
+    ///
+    /// OK does not mean that the login succeeds: look at `progress` and `why` of the connection. `taken` is how many
+    /// bytes were used. While `progress` is IN_PROGRESS, pass the rest in the next call; after the login it belongs to
+    /// AMQP.
+    ///
+    /// A call that returns an error changes neither `server` nor `taken`. The errors are, in this order:
+    ///
+    /// - ROOM_TOO_SMALL if `out` has fewer than 520 bytes,
+    /// - NEEDS_RECORDS,
+    /// - ENDED and INVALID_SNAPSHOT of the connection,
+    /// - NO_SUCH_MECHANISM if `mechanisms` is no sum of values of the `offer` constants,
+    /// - NOT_UTF8 for `username`, `external_authcid` and `identities`,
+    /// - CHANNEL_DATA_LENGTH if the server binds channels, and data have more than 64 bytes,
+    /// - NO_SUCH_MECHANISM if nothing would be offered,
+    /// - INVALID_SNAPSHOT if no connection of a server has this struct,
+    /// - TOO_LONG if a name or a message does not fit into the struct. Close the connection then.
     pub fn fe2o3_sasl_server_receive(
         config: *const SaslServerConfig,
         server: *mut SaslServer,
@@ -1466,6 +1522,9 @@ extern "C" {
     /// `expected` of the connection is the frame that has to come next. Parse the body with `fe2o3_sasl_view_frame`: a
     /// server reads in it the mechanism and the hostname of an init, and a client the additional data of an outcome.
     /// Pass a list of mechanisms to `fe2o3_sasl_offers`.
+    ///
+    /// The errors are, in this order: ENDED; INVALID_SNAPSHOT for a struct that no call has written; and
+    /// ROOM_TOO_SMALL.
     pub fn fe2o3_sasl_peek_frame(
         connection: *const Connection,
         bytes: *const u8,
@@ -1479,9 +1538,12 @@ extern "C" {
     pub fn fe2o3_sasl_end_of_input(connection: *mut Connection);
 
     /// Parses a frame body, without the four bytes of the frame's size. It allocates no memory.
+    ///
+    /// Returns MALFORMED_FRAME or NO_SASL_FRAME for a body that holds no frame.
     pub fn fe2o3_sasl_view_frame(body: *const u8, body_len: usize, view: *mut SaslFrameView) -> u32;
 
-    /// Tests whether a frame body is a list of mechanisms with `mechanism` in it. Returns NOT_IMPLEMENTED if the list
-    /// lacks it, and UNEXPECTED_FRAME for another frame.
+    /// Tests whether a frame body is a list of mechanisms with `mechanism` in it. The errors are, in this order:
+    /// NOT_UTF8 for `mechanism`; those of `fe2o3_sasl_view_frame`; UNEXPECTED_FRAME for another frame; and
+    /// NOT_IMPLEMENTED if the list lacks it.
     pub fn fe2o3_sasl_offers(body: *const u8, body_len: usize, mechanism: *const u8, mechanism_len: usize) -> u32;
 }

@@ -280,7 +280,7 @@ fn strict_servers() {
     {
         let init = frame(0x41, &[b"\xa3\x0dSCRAM-SHA-256", &binary(format!("n,,n=user,r=x,{extension}").as_bytes())]);
         for server in [
-            offering(ScramVersion::Sha256).strict(is_strict),
+            offering(ScramVersion::Sha256).reject_misplaced(false).strict(is_strict),
             offering(ScramVersion::Sha256).reject_misplaced(is_strict),
         ] {
             let mut side = ServerNegotiation::new(server);

@@ -180,7 +180,7 @@ fn reasons_of_rejections() {
 #[test]
 fn reasons_of_rejected_inits() {
     use Rejection::*;
-    let server = PasswordServer::new(parse(ADDED)).reject_misplaced(true).mock_unknown_users([3; 32], 16, 4096);
+    let server = PasswordServer::new(parse(ADDED)).mock_unknown_users([3; 32], 16, 4096);
     let misplaced = Scram(ServerScramErrorKind::MisplacedAttribute);
     for (name, message, wanted) in [
         ("SCRAM-SHA-256", "n,,n=user,r=nonce,i=4096", misplaced),

@@ -1,5 +1,5 @@
 -- No error has the number of FE2O3_OK, so that a call's number says whether it is one of a side: `returns_are_calls`.
-use Rattle.std.proofs.Common.{arith, sym, ◌∙◌, ◌≢◌}
+use Rattle.std.proofs.Common.{arith, sym, inl, inr, ◌∙◌, ◌≢◌}
 use Rattle.std.specs.Prelude.{Ok, Err}
 use Rattle.fe2o3_scram.specs.declared.credentials.record_text.RecordTextError.{RecordTextError}
 use Rattle.fe2o3_scram.specs.declared.credentials.record_text.RecordTextError.TheVariants as texts
@@ -11,6 +11,7 @@ use Rattle.sasl_c.specs.declared.status.Status.{Status}
 use Rattle.sasl_c.specs.declared.status.Status.TheVariants as statuses
 use Rattle.sasl_c.specs.declared.status.WriteError.TheVariants.{RoomTooSmall, Other}
 use Rattle.sasl_c.specs.ServerCalls.{ReturnsAreCalls}
+use Rattle.sasl_c.specs.ServerReceive.{ReceivesOrAsks}
 use Rattle.sasl_c.specs.Status.{client_number, record_text_number, server_number, status_number}
 
 text_not_zero : (why : RecordTextError) → record_text_number why ≢ 0
@@ -75,6 +76,7 @@ status_not_zero statuses.NoSuchMechanism same = absurd (omega (arith, same))
 status_not_zero statuses.Ended same = absurd (omega (arith, same))
 status_not_zero statuses.InvalidSnapshot same = absurd (omega (arith, same))
 status_not_zero statuses.NamesNoUser same = absurd (omega (arith, same))
+status_not_zero statuses.NeedsRecords same = absurd (omega (arith, same))
 status_not_zero statuses.LineFeedMissing same = absurd (omega (arith, same))
 status_not_zero statuses.SpaceMissing same = absurd (omega (arith, same))
 status_not_zero statuses.InvalidName same = absurd (omega (arith, same))
@@ -106,8 +108,12 @@ status_not_zero (statuses.Server why) same = server_not_zero why same
 status_not_zero (statuses.NoRecord why) same = text_not_zero why same
 
 pub returns_are_calls : ReturnsAreCalls
-returns_are_calls config bytes nonce before after taken_before taken room left number (Ok done, is, (fills, stays)) =
-    ((λ zero. (fills.0, fills.1, fills.3, fills.4)), λ not. absurd (not is))
+unfolding ReceivesOrAsks
+returns_are_calls config bytes nonce before after taken_before taken room left number
+    (Ok done, is, (inl fills, stays)) =
+    ((λ zero. ((fills.0, fills.1.1, fills.3, fills.4), fills.1.0)), λ not. absurd (not is))
+returns_are_calls config bytes nonce before after taken_before taken room left number
+    (Ok done, is, (inr asks, stays)) = absurd (let never = asks.2 in cc)
 returns_are_calls config bytes nonce before after taken_before taken room left number (Err RoomTooSmall, is, (fills, stays)) =
     ((λ zero. absurd (omega (arith, zero, is))), λ not. stays)
 returns_are_calls config bytes nonce before after taken_before taken room left number

@@ -17,7 +17,7 @@ use Rattle.sasl_c.specs.Acting.{rights_for}
 use Rattle.sasl_c.specs.Client.{is_set}
 use Rattle.sasl_c.specs.Records.{ShowsRecord, stored_of}
 use Rattle.sasl_c.specs.Rules.{channels_of}
-use Rattle.sasl_c.specs.SaslServer.{AreSettings, ShowRecords, one_where, passwords_number, settings_for, sum_of, version_of_first}
+use Rattle.sasl_c.specs.SaslServer.{AreSettings, ShowRecords, one_where, passwords_number, flags_sum, mechanisms_sum, settings_for, version_of_first}
 use Rattle.sasl_c.specs.ServerCalls.{OneConfiguration, SameUser}
 use Rattle.sasl_c.proofs.CallStageLemmas.{over}
 use Rattle.sasl_c.proofs.SaslServerLemmas.{one_number}
@@ -91,7 +91,7 @@ module _ (choice : Choice) where
   abbrev r1 : ℕ
   r1 = one_where choice.sha_256 1 + 2 * r2
 
-  in_bits : sum_of choice ≡ one_where choice.sha_512 1 + 2 * r1
+  in_bits : flags_sum choice + mechanisms_sum choice ≡ one_where choice.sha_512 1 + 2 * r1
   in_bits = omega (
     arith,
     times 2 choice.sha_256,
@@ -129,8 +129,14 @@ chosen_so : (choice : Choice) → choice ≡ chosen choice.sha_512 choice.sha_25
 unfolding chosen
 chosen_so choice = refl
 
-one_choice : (choice other : Choice) → sum_of choice ≡ sum_of other → choice ≡ other
-one_choice choice other same =
+one_choice : (choice other : Choice) → flags_sum choice ≡ flags_sum other → mechanisms_sum choice ≡ mechanisms_sum other
+    → choice ≡ other
+one_choice choice other flags mechanisms =
+    let same : flags_sum choice + mechanisms_sum choice ≡ flags_sum other + mechanisms_sum other = omega (
+      arith,
+      flags,
+      mechanisms,
+    ) in
     let s0 = lowest choice.sha_512 other.sha_512 (r1 choice) (r1 other) (sym (in_bits choice) ∙ (same ∙ in_bits other)) in
     let s1 = lowest choice.sha_256 other.sha_256 (r2 choice) (r2 other) s0.1 in
     let s2 = lowest choice.sha_1 other.sha_1 (r3 choice) (r3 other) s1.1 in
@@ -240,7 +246,8 @@ pub over_base : (base config : Config) (settings other : ServerSettings) → One
     × (rights ≡ rights_for config.username.now config.identities.now) × (plain ≡ version_of_first records)
     × (other ≡ over records rights None plain settings)
 over_base base config settings other one (choice, records, sum, shows, is) (choice', records', sum', shows', is') =
-    let same : choice' ≡ choice = one_choice choice' choice (sum' ∙ (one.mechanisms ∙ sym sum)) in
+    let same : choice' ≡ choice = one_choice choice' choice (sum'.1 ∙ (one.flags ∙ sym sum.1))
+    (sum'.0 ∙ (one.mechanisms ∙ sym sum.0)) in
     let rights = rights_for config.username.now config.identities.now in
     let plain = version_of_first records' in
     let made = meant_so config choice' records' ∙ by same (channels_of config.channels) (channels_of base.channels)
@@ -267,7 +274,8 @@ over_base base config settings other one (choice, records, sum, shows, is) (choi
 pub of_base : (base config : Config) (settings other : ServerSettings) → OneConfiguration base config
     → SameUser base config → AreSettings base settings → AreSettings config other → other ≡ settings
 of_base base config settings other one user (choice, records, sum, shows, is) (choice', records', sum', shows', is') =
-    let same : choice' ≡ choice = one_choice choice' choice (sum' ∙ (one.mechanisms ∙ sym sum)) in
+    let same : choice' ≡ choice = one_choice choice' choice (sum'.1 ∙ (one.flags ∙ sym sum.1))
+    (sum'.0 ∙ (one.mechanisms ∙ sym sum.0)) in
     let moved = subst (λ (k : List Kept). ShowRecords base.username.now k records') user.records
     (subst (λ (u : List ℕ). ShowRecords u config.records.now records') user.username shows') in
     let all : records' ≡ records = one_records base.username.now base.records.now records' records moved shows in

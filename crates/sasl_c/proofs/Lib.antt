@@ -21,6 +21,7 @@ pub mod ServerCallLemmas
 pub mod ReadingLemmas
 pub mod ReasonLemmas
 pub mod ServerUserLemmas
+pub mod ServerReceiveLemmas
 pub mod PeekLemmas
 pub mod LoginLemmas
 pub mod ChannelLemmas

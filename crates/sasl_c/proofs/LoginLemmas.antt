@@ -13,7 +13,7 @@ use Rattle.fe2o3_scram.specs.Texts.{Without}
 use Rattle.fe2o3_scram.proofs.lemmas.texts.CutLemmas.{cut_or, not_without}
 use Rattle.fe2o3_scram.specs.Readings.{IsFirst, NoneHolds}
 use Rattle.sasl_c.specs.declared.keys.ScramKeys.{ScramKeys as KeysStruct}
-use Rattle.sasl_c.specs.Client.{CanBeNamed, HasSecret, HoldsNone, IsNoLogin, IsNoSecret, header_tests, identity_tests, keys_tests, name_tests}
+use Rattle.sasl_c.specs.Client.{CanBeNamed, HasSecret, HoldsNone, IsNoLogin, IsNoSecret, header_tests, identity_tests, keys_tests, name_tests, secret_used}
 use Rattle.sasl_c.specs.Channels.{channel_tests}
 use Rattle.sasl_c.specs.Keys.{ShowsSomeKeys, shown_keys}
 use Rattle.sasl_c.specs.Passwords.{IsPassword, password_tests}
@@ -92,28 +92,28 @@ no_header login known status is utf8 first = inr ((λ wrong. wrong known is), in
 pub ruleset names = (has_names, no_header)
 
 -- why its secret is none
-pub no_password : (login : Login) (status : Status) → login.secret ≡ 0
+pub no_password : (login : Login) (status : Status) → secret_used login ≡ 0
     → IsFirst (password_tests login.form login.password.now) status → IsNoSecret login status
 unfolding IsNoSecret
 no_password login status is first = inl (is, first)
 
-pub no_keys : (login : Login) (status : Status) → login.secret ≡ 1 → IsFirst (keys_tests login) status
+pub no_keys : (login : Login) (status : Status) → secret_used login ≡ 1 → IsFirst (keys_tests login) status
     → IsNoSecret login status
 unfolding IsNoSecret
 no_keys login status is first = inr (inl (is, first))
 
-pub neither_password : (login : Login) (status : Status) → login.secret ≡ 2
+pub neither_password : (login : Login) (status : Status) → secret_used login ≡ 2
     → IsFirst (password_tests login.form login.password.now) status → IsNoSecret login status
 unfolding IsNoSecret
 neither_password login status is first = inr (inr (inl (is, inl first)))
 
-pub neither_keys : (login : Login) (status : Status) → login.secret ≡ 2
+pub neither_keys : (login : Login) (status : Status) → secret_used login ≡ 2
     → NoneHolds (password_tests login.form login.password.now) → IsFirst (keys_tests login) status
     → IsNoSecret login status
 unfolding IsNoSecret
 neither_keys login status is none first = inr (inr (inl (is, inr (none, first))))
 
-pub other_secret : (login : Login) → 2 < login.secret → IsNoSecret login statuses.NoSuchSecret
+pub other_secret : (login : Login) → 2 < secret_used login → IsNoSecret login statuses.NoSuchSecret
 unfolding IsNoSecret
 other_secret login wide = inr (inr (inr (wide, refl)))
 
@@ -158,7 +158,7 @@ no_first [] status none first = first
 no_first (test ∷ tests) status none (inl (holds, same)) = none.0 holds
 no_first (test ∷ tests) status none (inr (passed, first)) = no_first tests status none.1 first
 
-only_password : (login : Login) (status : Status) → login.secret ≡ 0
+only_password : (login : Login) (status : Status) → secret_used login ≡ 0
     → NoneHolds (password_tests login.form login.password.now) → ¬ IsNoSecret login status
 unfolding IsNoSecret
 only_password login status is none (inl (zero, first)) = no_first (password_tests login.form login.password.now) status none first
@@ -166,7 +166,7 @@ only_password login status is none (inr (inl (one, first))) = absurd (omega (ari
 only_password login status is none (inr (inr (inl (two, first)))) = absurd (omega (arith, is, two))
 only_password login status is none (inr (inr (inr (wide, same)))) = absurd (omega (arith, is, wide))
 
-only_keys : (login : Login) (status : Status) → login.secret ≡ 1 → NoneHolds (keys_tests login)
+only_keys : (login : Login) (status : Status) → secret_used login ≡ 1 → NoneHolds (keys_tests login)
     → ¬ IsNoSecret login status
 unfolding IsNoSecret
 only_keys login status is none (inl (zero, first)) = absurd (omega (arith, is, zero))
@@ -174,7 +174,7 @@ only_keys login status is none (inr (inl (one, first))) = no_first (keys_tests l
 only_keys login status is none (inr (inr (inl (two, first)))) = absurd (omega (arith, is, two))
 only_keys login status is none (inr (inr (inr (wide, same)))) = absurd (omega (arith, is, wide))
 
-only_both : (login : Login) (status : Status) → login.secret ≡ 2
+only_both : (login : Login) (status : Status) → secret_used login ≡ 2
     → NoneHolds (password_tests login.form login.password.now) → NoneHolds (keys_tests login) → ¬ IsNoSecret login status
 unfolding IsNoSecret
 only_both login status is passed none (inl (zero, first)) = absurd (omega (arith, is, zero))
@@ -184,18 +184,18 @@ only_both login status is passed none (inr (inr (inl (two, inl first)))) =
 only_both login status is passed none (inr (inr (inl (two, inr (other, first))))) = no_first (keys_tests login) status none first
 only_both login status is passed none (inr (inr (inr (wide, same)))) = absurd (omega (arith, is, wide))
 
-pub has_password : (login : Login) (password : PasswordText) → login.secret ≡ 0
+pub has_password : (login : Login) (password : PasswordText) → secret_used login ≡ 0
     → IsPassword login.form login.password.now password → NoneHolds (password_tests login.form login.password.now)
     → HasSecret login
 unfolding HasSecret
 has_password login password is given none = ((Password password, (is, given)), λ status. only_password login status is none)
 
-pub has_keys : (login : Login) → login.secret ≡ 1 → NoneHolds (keys_tests login) → ShowsSomeKeys login.keys.now
+pub has_keys : (login : Login) → secret_used login ≡ 1 → NoneHolds (keys_tests login) → ShowsSomeKeys login.keys.now
     → HasSecret login
 unfolding HasSecret
 has_keys login is none shows = ((Keys shows.0, (is, shows.1)), λ status. only_keys login status is none)
 
-pub has_both : (login : Login) (password : PasswordText) → login.secret ≡ 2
+pub has_both : (login : Login) (password : PasswordText) → secret_used login ≡ 2
     → IsPassword login.form login.password.now password → NoneHolds (password_tests login.form login.password.now)
     → NoneHolds (keys_tests login) → ShowsSomeKeys login.keys.now → HasSecret login
 unfolding HasSecret

@@ -1,7 +1,7 @@
 -- The profiles of one login and one struct are alike, and a login of the same values has the same profiles: `alike_of`,
 -- `of_base`.
 use Rattle.std.proofs.Common.{arith, refl, sym, ap, subst, inl, inr, ◌∙◌, ◌≡◌, ◌≢◌, ◌≤◌, ℕ, List}
-use Rattle.std.specs.Prelude.{Bool, true, false, ◌||◌, is_some, Option, Some, None, take}
+use Rattle.std.specs.Prelude.{Bool, true, false, ◌||◌, ◌==◌, ◌&&◌, if◌then◌else◌, is_some, Option, Some, None, take}
 use Rattle.fe2o3_scram.specs.ClientFirst.{client_first_bare}
 use Rattle.fe2o3_scram.specs.ClientKeys.{ClientKeys}
 use Rattle.fe2o3_scram.specs.ClientSecret.{Secret, Password, Keys, Both}
@@ -21,7 +21,7 @@ use Rattle.sasl_c.specs.declared.keys.ScramKeys.{ScramKeys as KeysStruct}
 use Rattle.sasl_c.specs.declared.login.Login.{Login as Words}
 use Rattle.sasl_c.specs.declared.sasl_client.SaslLogin.{SaslLogin as Login}
 use Rattle.sasl_c.specs.Channels.{IsChannel, kind_number}
-use Rattle.sasl_c.specs.Client.{CanBeNamed, Holds, HoldsNone, IsChannelOf, IsClientOf, IsSecretOf, IsState, is_set}
+use Rattle.sasl_c.specs.Client.{CanBeNamed, Holds, HoldsNone, IsChannelOf, IsClientOf, IsSecretOf, IsState, is_set, secret_used}
 use Rattle.sasl_c.specs.ClientCalls.{SameLogin, SameWords}
 use Rattle.sasl_c.specs.Keys.{KeysHaveRoom, ShowsKeys, WritesKeys, no_keys_struct, shown_keys}
 use Rattle.sasl_c.specs.Passwords.{IsPassword}
@@ -318,11 +318,15 @@ module _ (base words : Words) (one : SameWords base words) where
   keys_of_base : (keys : ClientKeys) → ShowsKeys words.keys.now keys → ShowsKeys base.keys.now keys
   keys_of_base keys is = subst (λ (k : KeysStruct). ShowsKeys k keys) one.keys is
 
+  used_of_base : secret_used base ≡ secret_used words
+  used_of_base = ap (λ (n : ℕ). if n == 2 && base.keys.now.version == 0 then 0 else n) (sym one.secret)
+      ∙ ap (λ (k : KeysStruct). if words.secret == 2 && k.version == 0 then 0 else words.secret) (sym one.keys)
+
   secret_of_base : (secret : Secret) → IsSecretOf words secret → IsSecretOf base secret
-  secret_of_base (Password password) is = (sym one.secret ∙ is.0, password_of_base password is.1)
-  secret_of_base (Keys keys) is = (sym one.secret ∙ is.0, keys_of_base keys is.1)
+  secret_of_base (Password password) is = (used_of_base ∙ is.0, password_of_base password is.1)
+  secret_of_base (Keys keys) is = (used_of_base ∙ is.0, keys_of_base keys is.1)
   secret_of_base (Both password keys) is =
-      (sym one.secret ∙ is.0, password_of_base password is.1, keys_of_base keys is.2)
+      (used_of_base ∙ is.0, password_of_base password is.1, keys_of_base keys is.2)
 
   channel_of_base : (channel : ClientChannel) → IsChannelOf words channel → IsChannelOf base channel
   channel_of_base Absent is = sym one.channel ∙ is

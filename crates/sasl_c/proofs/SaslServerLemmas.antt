@@ -7,7 +7,7 @@ use Rattle.fe2o3_scram.specs.declared.hmac.ScramVersion.{ScramVersion}
 use Rattle.fe2o3_scram.specs.declared.hmac.ScramVersion.TheVariants as versions
 use Rattle.fe2o3_scram.specs.Credentials.{VersionedRecord}
 use Rattle.fe2o3_scram.specs.Mixed.{MultiRecords}
-use Rattle.fe2o3_scram.specs.Readings.{NoneHolds}
+use Rattle.fe2o3_scram.specs.Readings.{IsFirst, NoneHolds}
 use Rattle.fe2o3_sasl_core.specs.SavedServers.{KeptStage, kept_stage}
 use Rattle.fe2o3_sasl_core.specs.Servers.{NotStarted, ServerAt, offers_any, settings_with}
 use Rattle.fe2o3_sasl_core.specs.declared.plain_server.passwords.PlainPasswords.{PlainPasswords}
@@ -27,7 +27,7 @@ use Rattle.sasl_c.specs.declared.status.Status.TheVariants as statuses
 use Rattle.sasl_c.specs.Records.{ShowsRecord, SpellsStruct}
 use Rattle.sasl_c.specs.Rejections.{Logged, state_of}
 use Rattle.sasl_c.specs.Rules.{HasLongData}
-use Rattle.sasl_c.specs.SaslServer.{AddsRecord, AreSettings, HasNoServerWords, HasNone, IsNoConfig, IsPrepared, IsServer, RestoresStage, ServerIsReached, ShowRecords, ShowsBy, ShowsNext, ShowsProgress, ShowsSide, ShowsState, config_tests, mechanisms_sum, version_of_first, one_where, passwords_number, side_in, side_struct, state_struct, struct_by, sum_of}
+use Rattle.sasl_c.specs.SaslServer.{AddsRecord, AreSettings, HasNoServerWords, HasNone, IsChoice, IsNoConfig, IsPrepared, IsServer, RestoresStage, ServerIsReached, ShowRecords, ShowsBy, ShowsNext, ShowsProgress, ShowsSide, ShowsState, choice_tests, config_tests, flags_sum, mechanisms_sum, version_of_first, one_where, passwords_number, side_in, side_struct, state_struct, struct_by}
 use Rattle.sasl_c.specs.Server.{ShowsStage, fresh_server_struct}
 use Rattle.sasl_c.specs.Status.{version_number}
 use Rattle.sasl_c.proofs.ExchangeLemmas.{keeps_nothing}
@@ -45,54 +45,97 @@ form_within forms.Typed = omega (arith)
 form_within forms.Prepared = omega (arith)
 form_within forms.Saslprep = omega (arith)
 
--- the sum of the mechanisms is at most 383
-sum_small : (choice : Choice) → mechanisms_sum choice ≤ 383
-sum_small choice = omega (
+-- no choice has mechanisms of a sum above 63
+pub too_many : (sum : ℕ) → 63 < sum → (choice : Choice) → mechanisms_sum choice ≢ sum
+too_many sum large choice same = absurd (omega (
   arith,
+  large,
+  same,
   within choice.sha_512 1,
   within choice.sha_256 2,
   within choice.sha_1 4,
   within choice.plain 8,
   within choice.anonymous 16,
   within choice.external 32,
-  within choice.cbind_flag_y 64,
-  form_within choice.passwords,
+))
+
+-- a choice of mechanisms, without flags
+abbrev mechanisms_only : Bool → Bool → Bool → Bool → Bool → Bool → Choice
+mechanisms_only sha_512 sha_256 sha_1 plain anonymous external = record {
+  sha_512 = sha_512;
+  sha_256 = sha_256;
+  sha_1 = sha_1;
+  plain = plain;
+  anonymous = anonymous;
+  external = external;
+  cbind_flag_y = false;
+  strict = false;
+  reject_misplaced = false;
+  initial_response_by_challenge = false;
+  signature_by_challenge = false;
+  passwords = forms.Typed;
+}
+
+-- each smaller sum is that of a choice of mechanisms, so a wrong sum of flags is the first fault
+pub no_flags : (sum flags r5 r4 r3 r2 r1 r0 : ℕ) (external anonymous plain sha_1 sha_256 sha_512 : Bool)
+    → sum ≡ one_where external 32 + r5 → r5 ≡ one_where anonymous 16 + r4 → r4 ≡ one_where plain 8 + r3
+    → r3 ≡ one_where sha_1 4 + r2 → r2 ≡ one_where sha_256 2 + r1 → r1 ≡ one_where sha_512 1 + r0 → r0 < 1
+    → ((choice : Choice) → flags_sum choice ≢ flags) → IsFirst (choice_tests sum flags) statuses.NoSuchChoice
+no_flags sum flags r5 r4 r3 r2 r1 r0 external anonymous plain sha_1 sha_256 sha_512 e5 e4 e3 e2 e1 e0 small none = inr (
+  (λ wrong. wrong (mechanisms_only sha_512 sha_256 sha_1 plain anonymous external)
+      (omega (arith, e5, e4, e3, e2, e1, e0, small))),
+  inl (none, refl),
 )
 
--- so no choice has a sum above 8191, or one whose rest below 512 is above 383
-pub too_large : (sum : ℕ) → 8191 < sum → (choice : Choice) → sum_of choice ≢ sum
+-- no choice has flags of a sum above 8191, or of one whose rest below 512 is above 383
+pub too_large : (sum : ℕ) → 8191 < sum → (choice : Choice) → flags_sum choice ≢ sum
 too_large sum large choice same = absurd (omega (
   arith,
   large,
   same,
-  sum_small choice,
+  form_within choice.passwords,
+  within choice.cbind_flag_y 64,
   within choice.reject_misplaced 4096,
   within choice.strict 2048,
   within choice.signature_by_challenge 1024,
   within choice.initial_response_by_challenge 512,
 ))
 
--- the numbers of the two options on the grammar and of the two challenges are multiples of 512
-multiple_8 : (is : Bool) → one_where is 4096 ≡ 512 * one_where is 8
-multiple_8 true = refl
-multiple_8 false = refl
+-- every flag is a multiple of 64, and the greatest four are multiples of 512
+times_64 : (is : Bool) → one_where is 4096 ≡ 64 * one_where is 64
+times_64 true = refl
+times_64 false = refl
 
-multiple_4 : (is : Bool) → one_where is 2048 ≡ 512 * one_where is 4
-multiple_4 true = refl
-multiple_4 false = refl
+times_32 : (is : Bool) → one_where is 2048 ≡ 64 * one_where is 32
+times_32 true = refl
+times_32 false = refl
 
-multiple_2 : (is : Bool) → one_where is 1024 ≡ 512 * one_where is 2
-multiple_2 true = refl
-multiple_2 false = refl
+times_16 : (is : Bool) → one_where is 1024 ≡ 64 * one_where is 16
+times_16 true = refl
+times_16 false = refl
 
-multiple_1 : (is : Bool) → one_where is 512 ≡ 512 * one_where is 1
-multiple_1 true = refl
-multiple_1 false = refl
+times_8 : (is : Bool) → one_where is 512 ≡ 64 * one_where is 8
+times_8 true = refl
+times_8 false = refl
+
+times_1 : (is : Bool) → one_where is 64 ≡ 64 * one_where is 1
+times_1 true = refl
+times_1 false = refl
+
+eight : (is : Bool) → (one_where is 64 ≡ 8 * one_where is 8) × (one_where is 32 ≡ 8 * one_where is 4)
+    × (one_where is 16 ≡ 8 * one_where is 2) × (one_where is 8 ≡ 8 * one_where is 1)
+eight true = (refl, refl, refl, refl)
+eight false = (refl, refl, refl, refl)
+
+form_times : (passwords : PlainPasswords) → (n : ℕ) × (passwords_number passwords ≡ 64 * n)
+form_times forms.Typed = (0, refl)
+form_times forms.Prepared = (2, refl)
+form_times forms.Saslprep = (4, refl)
 
 pub between : (sum stricts signs asks rest : ℕ) (rejects strict signed asked : Bool)
     → sum ≡ one_where rejects 4096 + stricts → stricts ≡ one_where strict 2048 + signs
     → signs ≡ one_where signed 1024 + asks → asks ≡ one_where asked 512 + rest → 383 < rest → rest < 512
-    → (choice : Choice) → sum_of choice ≢ sum
+    → (choice : Choice) → flags_sum choice ≢ sum
 between sum stricts signs asks rest rejects strict signed asked first split then last large small choice same = absurd (omega (
   arith,
   first,
@@ -102,16 +145,59 @@ between sum stricts signs asks rest rejects strict signed asked first split then
   large,
   small,
   same,
-  sum_small choice,
-  multiple_8 rejects,
-  multiple_4 strict,
-  multiple_2 signed,
-  multiple_1 asked,
-  multiple_8 choice.reject_misplaced,
-  multiple_4 choice.strict,
-  multiple_2 choice.signature_by_challenge,
-  multiple_1 choice.initial_response_by_challenge,
+  form_within choice.passwords,
+  within choice.cbind_flag_y 64,
+  times_64 rejects,
+  times_32 strict,
+  times_16 signed,
+  times_8 asked,
+  (eight rejects).0,
+  (eight strict).1,
+  (eight signed).2,
+  (eight asked).3,
+  times_64 choice.reject_misplaced,
+  times_32 choice.strict,
+  times_16 choice.signature_by_challenge,
+  times_8 choice.initial_response_by_challenge,
+  (eight choice.reject_misplaced).0,
+  (eight choice.strict).1,
+  (eight choice.signature_by_challenge).2,
+  (eight choice.initial_response_by_challenge).3,
 ))
+
+-- or whose rest below 64 is not 0
+pub unknown_flag : (sum stricts signs asks rest low unknown : ℕ) (rejects strict signed asked takes : Bool)
+    (form : PlainPasswords) → sum ≡ one_where rejects 4096 + stricts → stricts ≡ one_where strict 2048 + signs
+    → signs ≡ one_where signed 1024 + asks → asks ≡ one_where asked 512 + rest → rest ≡ passwords_number form + low
+    → low ≡ one_where takes 64 + unknown → 0 < unknown → unknown < 64 → (choice : Choice) → flags_sum choice ≢ sum
+unknown_flag sum stricts signs asks rest low unknown rejects strict signed asked takes form e5 e4 e3 e2 e1 e0 some small
+    choice same =
+    let of_form = form_times form in
+    let of_choice = form_times choice.passwords in
+    absurd (omega (
+      arith,
+      e5,
+      e4,
+      e3,
+      e2,
+      e1,
+      e0,
+      some,
+      small,
+      same,
+      of_form.1,
+      of_choice.1,
+      times_64 rejects,
+      times_32 strict,
+      times_16 signed,
+      times_8 asked,
+      times_1 takes,
+      times_64 choice.reject_misplaced,
+      times_32 choice.strict,
+      times_16 choice.signature_by_challenge,
+      times_8 choice.initial_response_by_challenge,
+      times_1 choice.cbind_flag_y,
+    ))
 
 -- ---- the record of a configuration's user
 
@@ -132,6 +218,7 @@ shows_none kept statuses.NoSuchMechanism shown wrong is = absurd wrong
 shows_none kept statuses.Ended shown wrong is = absurd wrong
 shows_none kept statuses.InvalidSnapshot shown wrong is = absurd wrong
 shows_none kept statuses.NamesNoUser shown wrong is = absurd wrong
+shows_none kept statuses.NeedsRecords shown wrong is = absurd wrong
 shows_none kept (statuses.Client why) shown wrong is = absurd wrong
 shows_none kept (statuses.Server why) shown wrong is = absurd wrong
 shows_none kept (statuses.NoRecord why) shown wrong is = absurd wrong
@@ -221,32 +308,42 @@ pub ruleset store = (so_far_none, so_far_more, so_far_all)
 
 -- ---- the server of a configuration
 
--- why there is none
-pub no_choice : (config : Config) → ((choice : Choice) → sum_of choice ≢ config.mechanisms)
-    → IsNoConfig config statuses.NoSuchMechanism
-unfolding IsNoConfig
-no_choice config none = inl (inl (none, refl))
+-- the tests of a configuration after those of its choice
+abbrev word_tests_of : Config → List (Status × Type 0)
+word_tests_of config = (statuses.NotUtf8, ¬ IsUtf8 config.username.now)
+    ∷ (statuses.NotUtf8, ¬ IsUtf8 config.external_authcid.now) ∷ (statuses.NotUtf8, ¬ IsUtf8 config.identities.now)
+    ∷ (statuses.ChannelDataLength, HasLongData config.channels) ∷ []
 
-pub no_words : (config : Config) (choice : Choice) (status : Status) → sum_of choice ≡ config.mechanisms
+-- why there is none
+pub no_choice : (config : Config) (status : Status) → IsFirst (choice_tests config.mechanisms config.flags) status
+    → IsNoConfig config status
+unfolding IsNoConfig
+no_choice config status (inl wrong) = inl (inl wrong)
+no_choice config status (inr (some, inl wrong)) = inl (inr (some, inl wrong))
+no_choice config status (inr (some, inr (others, none))) = absurd none
+
+-- a configuration with a choice, whose first fault is a later one
+later : (config : Config) (choice : Choice) (status : Status) → IsChoice config.mechanisms config.flags choice
+    → IsFirst (word_tests_of config) status → IsFirst (config_tests config) status
+later config choice status is first = inr ((λ none. none choice is.0), inr ((λ none. none choice is.1), first))
+
+pub no_words : (config : Config) (choice : Choice) (status : Status) → IsChoice config.mechanisms config.flags choice
     → HasNoServerWords config status → IsNoConfig config status
 unfolding IsNoConfig
-no_words config choice status sum (is, inl wrong) = inl (inr ((λ none. none choice sum), inl (wrong, is)))
+no_words config choice status sum (is, inl wrong) = inl (later config choice status sum (inl (wrong, is)))
 no_words config choice status sum (is, inr (inl (name, wrong))) =
-    inl (inr ((λ none. none choice sum), inr ((λ other. other name), inl (wrong, is))))
+    inl (later config choice status sum (inr ((λ other. other name), inl (wrong, is))))
 no_words config choice status sum (is, inr (inr (name, peer, wrong))) =
-    inl (inr ((λ none. none choice sum), inr ((λ other. other name), inr ((λ other. other peer), inl (wrong, is)))))
+    inl (later config choice status sum (inr ((λ other. other name), inr ((λ other. other peer), inl (wrong, is)))))
 
-pub no_channels : (config : Config) (choice : Choice) → sum_of choice ≡ config.mechanisms → IsUtf8 config.username.now
-    → IsUtf8 config.external_authcid.now → IsUtf8 config.identities.now → HasLongData config.channels
-    → IsNoConfig config statuses.ChannelDataLength
+pub no_channels : (config : Config) (choice : Choice) → IsChoice config.mechanisms config.flags choice
+    → IsUtf8 config.username.now → IsUtf8 config.external_authcid.now → IsUtf8 config.identities.now
+    → HasLongData config.channels → IsNoConfig config statuses.ChannelDataLength
 unfolding IsNoConfig
-no_channels config choice sum name peer words long = inl (inr (
-  (λ none. none choice sum),
-  inr (
-    (λ wrong. wrong name),
-    inr ((λ wrong. wrong peer), inr ((λ wrong. wrong words), inl (long, refl))),
-  ),
-))
+no_channels config choice sum name peer words long = inl (later config choice statuses.ChannelDataLength sum (inr (
+  (λ wrong. wrong name),
+  inr ((λ wrong. wrong peer), inr ((λ wrong. wrong words), inl (long, refl))),
+)))
 
 pub no_offer : (config : Config) (prepared : Prepared) → IsPrepared config prepared → NoneHolds (config_tests config)
     → offers_any (settings_with prepared.records prepared.options prepared.transport) ≡ false
@@ -258,11 +355,13 @@ no_offer config prepared (are, unmocked) none nothing = inr (
   (settings_with prepared.records prepared.options prepared.transport, are, nothing),
 )
 
-pub no_test : (config : Config) (choice : Choice) → sum_of choice ≡ config.mechanisms → IsUtf8 config.username.now
-    → IsUtf8 config.external_authcid.now → IsUtf8 config.identities.now → ¬ HasLongData config.channels
-    → NoneHolds (config_tests config)
-no_test config choice sum name peer words short =
-    ((λ none. none choice sum), ((λ wrong. wrong name), ((λ wrong. wrong peer), ((λ wrong. wrong words), (short, tt)))))
+pub no_test : (config : Config) (choice : Choice) → IsChoice config.mechanisms config.flags choice
+    → IsUtf8 config.username.now → IsUtf8 config.external_authcid.now → IsUtf8 config.identities.now
+    → ¬ HasLongData config.channels → NoneHolds (config_tests config)
+no_test config choice sum name peer words short = (
+  (λ none. none choice sum.0),
+  ((λ none. none choice sum.1), ((λ wrong. wrong name), ((λ wrong. wrong peer), ((λ wrong. wrong words), (short, tt))))),
+)
 
 pub ruleset prepared = (no_choice, no_words, no_channels, no_test)
 

@@ -1,5 +1,5 @@
 -- A SCRAM client that is kept in structs of C between its calls (RFC 5802, sections 3 and 5).
-use Rattle.std.specs.Prelude.{◌≡◌, ◌≢◌, ◌<◌, ◌≤◌, ◌⊎◌, ◌+◌, ℕ, Bool, true, false, nat_eq, if◌then◌else◌, List, [], ◌∷◌, ◌++◌, length, replicate, take, Option, Some, None, Result, Ok, Err}
+use Rattle.std.specs.Prelude.{◌≡◌, ◌≢◌, ◌<◌, ◌≤◌, ◌⊎◌, ◌+◌, ◌==◌, ◌&&◌, ℕ, Bool, true, false, nat_eq, if◌then◌else◌, List, [], ◌∷◌, ◌++◌, length, replicate, take, Option, Some, None, Result, Ok, Err}
 use Rattle.std.specs.Str.{IsUtf8}
 use Rattle.fe2o3_scram.specs.declared.scram_messages.client_channel.ClientChannel.{ClientChannel}
 use Rattle.fe2o3_scram.specs.ChannelBinding.{ClientHeader, header_of}
@@ -29,11 +29,15 @@ use Rattle.sasl_c.specs.Passwords.{IsPassword, password_tests}
 use Rattle.sasl_c.specs.Records.{IsVersion}
 use Rattle.sasl_c.specs.Status.{client_status}
 
+-- the number of the secret that a login uses: instead of both the password, where there are no keys yet
+abbrev pub secret_used : Login → ℕ
+secret_used login = if login.secret == 2 && login.keys.now.version == 0 then 0 else login.secret
+
 -- the secret of a login: its password, its keys, or both
 abbrev pub IsSecretOf : Login → Secret → Type 0
-IsSecretOf login (Password password) = (login.secret ≡ 0) × IsPassword login.form login.password.now password
-IsSecretOf login (Keys keys) = (login.secret ≡ 1) × ShowsKeys login.keys.now keys
-IsSecretOf login (Both password keys) = (login.secret ≡ 2) × IsPassword login.form login.password.now password
+IsSecretOf login (Password password) = (secret_used login ≡ 0) × IsPassword login.form login.password.now password
+IsSecretOf login (Keys keys) = (secret_used login ≡ 1) × ShowsKeys login.keys.now keys
+IsSecretOf login (Both password keys) = (secret_used login ≡ 2) × IsPassword login.form login.password.now password
     × ShowsKeys login.keys.now keys
 
 -- whether a flag is set: every number but zero sets it
@@ -77,11 +81,11 @@ keys_tests login = (statuses.NoKeys, (keys : ClientKeys) → ¬ ShowsKeys login.
 
 -- why a login has no secret: the first test that holds of its password, of its keys, or of both in this order
 unfoldable pub IsNoSecret : Login → Status → Type 0
-IsNoSecret login status = ((login.secret ≡ 0) × IsFirst (password_tests login.form login.password.now) status)
-    ⊎ ((login.secret ≡ 1) × IsFirst (keys_tests login) status)
-    ⊎ ((login.secret ≡ 2) × (IsFirst (password_tests login.form login.password.now) status
+IsNoSecret login status = ((secret_used login ≡ 0) × IsFirst (password_tests login.form login.password.now) status)
+    ⊎ ((secret_used login ≡ 1) × IsFirst (keys_tests login) status)
+    ⊎ ((secret_used login ≡ 2) × (IsFirst (password_tests login.form login.password.now) status
     ⊎ (NoneHolds (password_tests login.form login.password.now) × IsFirst (keys_tests login) status)))
-    ⊎ ((2 < login.secret) × (status ≡ statuses.NoSuchSecret))
+    ⊎ ((2 < secret_used login) × (status ≡ statuses.NoSuchSecret))
 
 -- the tests of an identity, in their order
 abbrev pub identity_tests : List ℕ → List (Status × Type 0)

@@ -18,6 +18,7 @@ pub mod SaslClient
 pub mod Frames
 pub mod Lines
 pub mod SaslServer
+pub mod ServerReceive
 pub mod ServerCalls
 pub mod ClientCalls
 pub mod ClientMessages

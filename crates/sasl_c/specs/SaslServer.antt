@@ -62,19 +62,28 @@ passwords_number forms.Prepared = 128
 passwords_number forms.Saslprep = 256
 
 -- the sum of the mechanisms' numbers: 1 SCRAM-SHA-512, 2 SCRAM-SHA-256, 4 SCRAM-SHA-1, 8 PLAIN, 16 ANONYMOUS, 32
--- EXTERNAL; 64 if SCRAM accepts the GS2 flag `y` (RFC 5802, section 6); and the number of the form of PLAIN's passwords
+-- EXTERNAL, and nothing more
 abbrev pub mechanisms_sum : Choice → ℕ
 mechanisms_sum choice = one_where choice.sha_512 1 + one_where choice.sha_256 2 + one_where choice.sha_1 4
     + one_where choice.plain 8 + one_where choice.anonymous 16 + one_where choice.external 32
-    + one_where choice.cbind_flag_y 64 + passwords_number choice.passwords
 
--- and 512 if an init without an initial response is answered by a challenge, 1024 if the signature is sent in one (RFC
+-- the sum of the flags' numbers: 64 if SCRAM accepts the GS2 flag `y` (RFC 5802, section 6), the number of the form of PLAIN's
+-- passwords, 512 if an init without an initial response is answered by a challenge, 1024 if the signature is sent in one (RFC
 -- 4422, section 5), 2048 if SCRAM is strict: it reads messages by the grammar of RFC 5802, section 7, and 4096 if it rejects
 -- what is no extension in the place of one, and nothing more
-abbrev pub sum_of : Choice → ℕ
-sum_of choice = one_where choice.reject_misplaced 4096 + one_where choice.strict 2048
+abbrev pub flags_sum : Choice → ℕ
+flags_sum choice = one_where choice.reject_misplaced 4096 + one_where choice.strict 2048
     + one_where choice.signature_by_challenge 1024 + one_where choice.initial_response_by_challenge 512
-    + mechanisms_sum choice
+    + passwords_number choice.passwords + one_where choice.cbind_flag_y 64
+
+-- the choice is that of these two numbers
+abbrev pub IsChoice : ℕ → ℕ → Choice → Type 0
+IsChoice mechanisms flags choice = (mechanisms_sum choice ≡ mechanisms) × (flags_sum choice ≡ flags)
+
+-- the tests of the two numbers, in their order
+abbrev pub choice_tests : ℕ → ℕ → List (Status × Type 0)
+choice_tests mechanisms flags = (statuses.NoSuchMechanism, (choice : Choice) → mechanisms_sum choice ≢ mechanisms)
+    ∷ (statuses.NoSuchChoice, (choice : Choice) → flags_sum choice ≢ flags) ∷ []
 
 -- the mechanisms that may be offered
 abbrev pub mechanisms_for : Choice → Mechanisms
@@ -141,7 +150,7 @@ settings_for config choice records = record {
 
 -- these are the settings of a configuration
 abbrev pub AreSettings : Config → ServerSettings → Type 0
-AreSettings config settings = (choice : Choice) × (records : MultiRecords) × (sum_of choice ≡ config.mechanisms)
+AreSettings config settings = (choice : Choice) × (records : MultiRecords) × IsChoice config.mechanisms config.flags choice
     × HasRecords config records × (settings ≡ settings_for config choice records)
 
 -- the servers that a configuration can reach while more bytes are expected: those with its settings
@@ -221,7 +230,8 @@ HasNoServerWords config status = (status ≡ statuses.NotUtf8)
 
 -- the tests of a configuration, in their order
 abbrev pub config_tests : Config → List (Status × Type 0)
-config_tests config = (statuses.NoSuchMechanism, (choice : Choice) → sum_of choice ≢ config.mechanisms)
+config_tests config = (statuses.NoSuchMechanism, (choice : Choice) → mechanisms_sum choice ≢ config.mechanisms)
+    ∷ (statuses.NoSuchChoice, (choice : Choice) → flags_sum choice ≢ config.flags)
     ∷ (statuses.NotUtf8, ¬ IsUtf8 config.username.now) ∷ (statuses.NotUtf8, ¬ IsUtf8 config.external_authcid.now)
     ∷ (statuses.NotUtf8, ¬ IsUtf8 config.identities.now)
     ∷ (statuses.ChannelDataLength, HasLongData config.channels) ∷ []
@@ -328,11 +338,6 @@ NotNamed server bytes status = IsFirst (side_tests server.connection) status
     × (side.progress ≡ InProgress) × (((turn : FrameKind) (body : List ℕ) → ¬ Completes side bytes turn body)
     ⊎ ((turn : FrameKind) × (body : List ℕ) × Completes side bytes turn body
     × BodyNamesNoUser server.scram turn (read_by server body)))))))
-
--- what a call returns
-abbrev pub Names : Struct → List ℕ → Result (List ℕ) Status → Type 0
-Names server bytes (Ok name) = Named server bytes name
-Names server bytes (Err status) = NotNamed server bytes status
 
 -- ---- the code's values
 

@@ -23,9 +23,10 @@ use Rattle.sasl_c.specs.Acting.{rights_for}
 use Rattle.sasl_c.specs.Connection.{IsSideOf, Keeps, accepts_extended}
 use Rattle.sasl_c.specs.Peeks.{AnySide}
 use Rattle.sasl_c.specs.Rules.{channels_of}
-use Rattle.sasl_c.specs.SaslServer.{AreSettings, HasRecords, IsServer, Named, Received, ReceivesAsServer, ServerTakes, ShowsProgress, read_by, version_of_first}
+use Rattle.sasl_c.specs.SaslServer.{AreSettings, HasRecords, IsServer, Named, Received, ServerTakes, ShowsProgress, read_by, version_of_first}
 use Rattle.sasl_c.specs.Server.{fresh_server_struct}
-use Rattle.sasl_c.specs.Status.{AnswersText, FillsWithin, Room, with_written}
+use Rattle.sasl_c.specs.ServerReceive.{NeedsNoRecords, ReceivesOrAsks}
+use Rattle.sasl_c.specs.Status.{AnswersText, Room, with_written}
 
 -- ---- the calls
 
@@ -79,13 +80,14 @@ WritesSent config bytes nonce before after taken room left = (sent : List ℕ) �
 abbrev pub StaysAsBefore : Struct → Struct → ℕ → ℕ → Type 0
 StaysAsBefore before after taken_before taken = (after ≡ before) × (taken ≡ taken_before)
 
--- the contract of `fe2o3_sasl_server_receive` says so by the number that it returns: 0, FE2O3_OK, or another
+-- the contract of `fe2o3_sasl_server_receive` says so by the number that it returns: 0, FE2O3_OK, or another. A call that
+-- returned FE2O3_OK needed no records that it was not passed
 abbrev pub ReturnsAreCalls : Type 0
 ReturnsAreCalls = (config : Config) (bytes nonce : List ℕ) (before after : Struct) (taken_before taken : ℕ)
     (room left : Room) (number : ℕ) → AnswersText number (λ answer.
-    FillsWithin 520 (ReceivesAsServer config bytes nonce before after taken) room left answer
+    ReceivesOrAsks config bytes nonce before after taken room left answer
     × OnErr answer ((after ≡ before) × (taken ≡ taken_before)))
-    → (number ≡ 0 → WritesSent config bytes nonce before after taken room left)
+    → (number ≡ 0 → WritesSent config bytes nonce before after taken room left × NeedsNoRecords config before bytes)
     × (number ≢ 0 → StaysAsBefore before after taken_before taken)
 
 -- ---- one connection
@@ -119,6 +121,7 @@ AreOneConnection settings before calls stream sent last rest = let accepts = acc
 -- two configurations have the same values, but maybe for those of a user: its name, records and identities
 pub record OneConfiguration (base config : Config) : Type 0 where
   pub mechanisms : config.mechanisms ≡ base.mechanisms
+  pub flags : config.flags ≡ base.flags
   pub iterations : config.iterations ≡ base.iterations
   pub external : config.external_authcid.now ≡ base.external_authcid.now
   pub channels : channels_of config.channels ≡ channels_of base.channels
@@ -171,9 +174,9 @@ pub record HasStoredUser (settings : ServerSettings) (server : Struct) (bytes : 
   pub rights : (acts_for : Option (List ℕ)) → may_act (rights_for user config.identities.now) user acts_for
       ≡ may_act settings.rights user acts_for
 
--- whenever these bytes complete a frame that names a user, as `fe2o3_sasl_server_claimed_user` reports, by the claim of an init
--- or by the challenge that the struct keeps, the configuration has what the store has of this user. Otherwise it may have any
--- user, or none
+-- whenever these bytes complete a frame that names a user, by the claim of an init or by the challenge that the struct keeps,
+-- the configuration has what the store has of this user. Otherwise it may have any user, or none. A call that is not passed
+-- them asks for them (`AsksForRecords`)
 abbrev pub RecordsOfOneStore : ServerSettings → Struct → List ℕ → Config → Type 0
 RecordsOfOneStore settings server bytes config =
     (user : List ℕ) → Named server bytes user → HasStoredUser settings server bytes config user

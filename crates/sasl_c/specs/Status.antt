@@ -88,6 +88,7 @@ status_number statuses.NoSuchMechanism = 12
 status_number statuses.Ended = 13
 status_number statuses.InvalidSnapshot = 14
 status_number statuses.NamesNoUser = 15
+status_number statuses.NeedsRecords = 16
 status_number (statuses.Client why) = client_number why
 status_number (statuses.Server why) = server_number why
 status_number (statuses.NoRecord why) = record_text_number why

@@ -19,6 +19,7 @@ status_texts = (0, codes "Done")
     ∷ (13, codes "The connection has ended")
     ∷ (14, codes "The struct of the connection is invalid")
     ∷ (15, codes "No user name is claimed")
+    ∷ (16, codes "The records of the user are needed")
     ∷ (20, codes "Client: Invalid UTF-8")
     ∷ (21, codes "Client: InsufficientParts")
     ∷ (22, codes "Client: Extensions are not supported")
@@ -130,7 +131,7 @@ abbrev pub channels_size : ℕ
 channels_size = 4 * word + 3 * 64
 
 abbrev pub config_size : ℕ
-config_size = 2 * word + slice + slice + slice + channels_size + (word + 4) + slice
+config_size = (3 * word + 4) + slice + slice + slice + channels_size + (word + 4) + slice
 
 abbrev pub rules_size : ℕ
 rules_size = 2 * word + channels_size + 2 * word + slice

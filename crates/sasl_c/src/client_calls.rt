@@ -83,6 +83,11 @@ fn first(
 /// Writes the client-first message. This starts a new exchange, whatever the state of the client is. `nonce` is 32
 /// fresh random bytes. With FE2O3_CHANNEL_BOUND name the mechanism with `-PLUS` to the server, such as
 /// SCRAM-SHA-256-PLUS (RFC 5802, section 6). The whole login is tested, also the secret, which this message does not use.
+///
+/// The faults of a login are, in this order: FE2O3_NO_SUCH_VERSION; FE2O3_NOT_UTF8 for the user name; FE2O3_NOT_UTF8,
+/// FE2O3_PROHIBITED_CHARACTER for a zero byte, and FE2O3_TOO_LONG for the identity; FE2O3_NO_SUCH_CHANNEL and
+/// FE2O3_CHANNEL_DATA_LENGTH; FE2O3_NO_SUCH_SECRET; FE2O3_NO_SUCH_CHOICE and FE2O3_NOT_UTF8 for the password;
+/// FE2O3_NO_KEYS and FE2O3_OTHER_VERSION for the keys. After these comes FE2O3_ROOM_TOO_SMALL.
 #[unsafe(no_mangle)]
 pub extern "C" fn fe2o3_scram_client_first(
     alloc: Global,
@@ -184,6 +189,9 @@ fn compute_keys_of(client: &ScramClient) -> Result<ScramKeys, Status>
 
 /// Writes the keys of a complete login, for the next login to the same server. As long as the server keeps its salt
 /// and iteration count, a login by keys needs no password and no PBKDF2. The keys are secret: they suffice to log in.
+///
+/// The errors are, in this order: FE2O3_CLIENT_ILLEGAL_CLIENT_STATE unless a login is complete; and FE2O3_NO_KEYS if
+/// the struct had no room for its salt.
 #[unsafe(no_mangle)]
 pub extern "C" fn fe2o3_scram_client_get_keys(client: &ScramClient, keys: &mut ScramKeys) -> u32
     ensures { Answers result (Makes ⊥ (HandsOut client.now) keys.old keys.new) }

@@ -122,7 +122,7 @@ fn answer_of_login(
         → IsVersion login.now.version version → IsHeaderOf login.now header.now → client.now.state ≡ 1
         → NotAnswered login.now client.now server_first.now status) }
 {
-    match login.secret {
+    match login.secret_used() {
         0 => {
             let password = match password_in(login.form, login.password) {
                 Ok(password) => password,

@@ -131,6 +131,8 @@ fn view_body<'a>(body: &'a [u8], view: &mut SaslFrameView<'a>) -> Result<(), Sta
 }
 
 /// Parses a frame body, without the four bytes of the frame's size. It allocates no memory.
+///
+/// Returns FE2O3_MALFORMED_FRAME or FE2O3_NO_SASL_FRAME for a body that holds no frame.
 #[unsafe(no_mangle)]
 pub extern "C" fn fe2o3_sasl_view_frame<'a>(body: &'a [u8], view: &mut SaslFrameView<'a>) -> u32
     ensures { Answers result (Views body.now view.old view.new) }
@@ -156,8 +158,9 @@ fn offers(body: &[u8], mechanism: &[u8]) -> Result<(), Status>
     }
 }
 
-/// Tests whether a frame body is a list of mechanisms with `mechanism` in it. Returns FE2O3_NOT_IMPLEMENTED if the
-/// list lacks it, and FE2O3_UNEXPECTED_FRAME for another frame.
+/// Tests whether a frame body is a list of mechanisms with `mechanism` in it. The errors are, in this order:
+/// FE2O3_NOT_UTF8 for `mechanism`; those of `fe2o3_sasl_view_frame`; FE2O3_UNEXPECTED_FRAME for another frame; and
+/// FE2O3_NOT_IMPLEMENTED if the list lacks it.
 #[unsafe(no_mangle)]
 pub extern "C" fn fe2o3_sasl_offers(body: &[u8], mechanism: &[u8]) -> u32
     ensures { Answers result (OffersName body.now mechanism.now) }

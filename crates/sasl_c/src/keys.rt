@@ -159,6 +159,8 @@ fn compute_keys(
 
 /// Derives the keys of a password, for a server that uses this salt and iteration count. `form` is one of enum
 /// fe2o3_password_form.
+///
+/// The errors are those of `fe2o3_scram_record_make`, in the same order.
 #[unsafe(no_mangle)]
 pub extern "C" fn fe2o3_scram_keys_make(
     alloc: Global,

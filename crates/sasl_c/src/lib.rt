@@ -46,6 +46,7 @@ mod server_calls;
 mod server_errors;
 mod server_identity;
 mod server_laws;
+mod server_receive;
 mod server_user;
 mod shows;
 mod status;

@@ -140,6 +140,9 @@ fn find(
 ///
 /// If nothing is found, `line` is the number of the line that cannot be parsed, counted from 1, or 0 if every line
 /// can.
+///
+/// The errors are, in this order: FE2O3_NO_SUCH_VERSION; FE2O3_NOT_UTF8 for the name or the text; the fault of the
+/// first line that cannot be parsed; and FE2O3_NO_SUCH_USER, or FE2O3_TOO_LONG for a salt of more than 128 bytes.
 #[unsafe(no_mangle)]
 pub extern "C" fn fe2o3_scram_lines_find(
     alloc: Global,
@@ -209,6 +212,9 @@ fn tell_all(
 ///
 /// If the text cannot be parsed, `line` is the number of the first line that cannot, counted from 1. It is 0 after the other
 /// errors, except FE2O3_OUT_OF_MEMORY, which leaves it unchanged.
+///
+/// The errors are, in this order: FE2O3_NO_SUCH_VERSION; FE2O3_NOT_UTF8; and the fault of the first line that cannot
+/// be parsed.
 #[unsafe(no_mangle)]
 pub extern "C" fn fe2o3_scram_lines_all_have(
     alloc: Global,
@@ -249,8 +255,11 @@ fn compute_line(alloc: Global, username: &[u8], kept: &ScramRecord) -> Result<Ve
     }
 }
 
-/// Writes the line of a user and a record, with its line feed, as `fe2o3_scram_lines_find` reads it. Returns
-/// FE2O3_NOT_WRITABLE if the name contains a line feed or the iteration count is 0.
+/// Writes the line of a user and a record, with its line feed, as `fe2o3_scram_lines_find` reads it.
+///
+/// The errors are, in this order: FE2O3_NOT_UTF8 for the name; FE2O3_NO_SUCH_VERSION, and FE2O3_TOO_LONG for a `salt_len`
+/// above 128, if the struct holds no record; FE2O3_NOT_WRITABLE if the name contains a line feed or the iteration count
+/// is 0; and FE2O3_ROOM_TOO_SMALL.
 #[unsafe(no_mangle)]
 #[tactic(auto, using(crate::proofs::StatusLemmas::written))]
 pub extern "C" fn fe2o3_scram_line(

@@ -6,7 +6,7 @@ ghost use Rattle.fe2o3_scram.specs.ClientSecret.{IsOfVersion, secret_of};
 ghost use Rattle.fe2o3_scram.specs.ScramClient.{ClientInitial};
 ghost use Rattle.fe2o3_scram.specs.Readings.{IsFirst, NoneHolds, Reads};
 ghost use Rattle.sasl_c.specs.Records.{IsVersion};
-ghost use Rattle.sasl_c.specs.Client.{HasSecret, HoldsNone, IsChannelOf, IsClientOf, IsHeaderOf, IsTestedLogin, IsNoLogin, IsNoSecret, IsSecretOf, header_tests, keys_tests, name_tests};
+ghost use Rattle.sasl_c.specs.Client.{HasSecret, HoldsNone, IsChannelOf, IsClientOf, IsHeaderOf, IsTestedLogin, IsNoLogin, IsNoSecret, IsSecretOf, header_tests, keys_tests, name_tests, secret_used};
 ghost use Rattle.sasl_c.specs.Channels.{channel_tests};
 ghost use Rattle.sasl_c.specs.Keys.{ShowsKeys, ShowsSomeKeys};
 ghost use Rattle.sasl_c.specs.Status.{AsksWhere};
@@ -139,6 +139,17 @@ impl Login<'_> {
         }
     }
 
+    /// Returns the number of the secret that the login uses: instead of both the password, where there are no keys yet.
+    pub fn secret_used(&self) -> u32
+        ensures { result ≡ secret_used self.now }
+    {
+        if self.secret == 2 && self.keys.version == 0 {
+            0
+        } else {
+            self.secret
+        }
+    }
+
     /// Returns what the client says of its channel. `NoSuchChannel` and `ChannelDataLength`.
     pub fn channel(&self) -> Result<ClientChannel, Status>
         ensures tested { MatchResult result (λ channel. IsChannelOf self.now channel
@@ -209,7 +220,7 @@ impl Login<'_> {
         ensures tested { MatchResult result (λ _. HasSecret self.now) (λ status. IsNoSecret self.now status) }
         ensures status { IfErr result (λ status. status ≢ StatusOutOfMemory) }
     {
-        match self.secret {
+        match self.secret_used() {
             0 => match password_in(self.form, self.password) {
                 Ok(_) => Ok(()),
                 Err(status) => Err(status),
@@ -278,7 +289,7 @@ impl Login<'_> {
         ensures version { IfOk result (λ side. IsVersion self.now.version side.version) }
         ensures err { IfErr result (λ status. status ≢ StatusOutOfMemory → IsNoSecret self.now status) }
     {
-        match self.secret {
+        match self.secret_used() {
             0 => {
                 let secret = ClientSecret::Password(password_in(self.form, self.password)?);
                 client_by(alloc, username, secret, version)

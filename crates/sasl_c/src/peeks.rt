@@ -53,6 +53,9 @@ fn compute_peeked(alloc: Global, connection: &Connection, bytes: &[u8]) -> Resul
 /// `expected` of the connection is the frame that has to come next. Parse the body with `fe2o3_sasl_view_frame`: a server
 /// reads in it the mechanism and the hostname of an init, and a client the additional data of an outcome. Pass a list of
 /// mechanisms to `fe2o3_sasl_offers`.
+///
+/// The errors are, in this order: FE2O3_ENDED; FE2O3_INVALID_SNAPSHOT for a struct that no call has written; and
+/// FE2O3_ROOM_TOO_SMALL.
 #[unsafe(no_mangle)]
 #[tactic(auto, using(crate::proofs::StatusLemmas::written))]
 pub extern "C" fn fe2o3_sasl_peek_frame(

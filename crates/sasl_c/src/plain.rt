@@ -107,9 +107,9 @@ fn compute_message(
 /// which is empty if it acts for itself, the user name and the password, with a zero byte between them. The message has
 /// the password in clear, so send it over TLS only. Prepare a non-ASCII password first (`fe2o3_saslprep`).
 ///
-/// Returns FE2O3_NOT_UTF8 if a word is not UTF-8, FE2O3_NAMES_NO_USER if the user name is empty, FE2O3_EMPTY_PASSWORD if
-/// the password is, FE2O3_PROHIBITED_CHARACTER if a word contains a zero byte, and FE2O3_TOO_LONG if the identity has more
-/// than 256 bytes.
+/// Returns, in this order, FE2O3_NOT_UTF8 if a word is not UTF-8, FE2O3_NAMES_NO_USER if the user name is empty,
+/// FE2O3_EMPTY_PASSWORD if the password is, FE2O3_PROHIBITED_CHARACTER if a word contains a zero byte, and
+/// FE2O3_TOO_LONG if the identity has more than 256 bytes.
 #[unsafe(no_mangle)]
 #[tactic(auto, using(crate::proofs::StatusLemmas::written))]
 pub extern "C" fn fe2o3_plain_message(

@@ -205,9 +205,9 @@ fn verify(
 /// `identities` are those that the user may act for besides itself (RFC 4422, section 2), with a zero byte after each but
 /// the last, which may have one too.
 ///
-/// Returns FE2O3_NO_SUCH_CHOICE if `passwords` is none of the enum, FE2O3_NOT_UTF8 if the identities are not UTF-8, and
-/// FE2O3_SERVER_AUTHENTICATION_FAILED for every message that does not log in: a wrong password, an unknown user, an
-/// identity that the user may not act for, or no acceptable message.
+/// Returns, in this order, FE2O3_NO_SUCH_CHOICE if `passwords` is none of the enum, FE2O3_NOT_UTF8 if the identities
+/// are not UTF-8, and FE2O3_SERVER_AUTHENTICATION_FAILED for every message that does not log in: a wrong password, an
+/// unknown user, an identity that the user may not act for, or no acceptable message.
 #[unsafe(no_mangle)]
 pub extern "C" fn fe2o3_plain_verify(
     alloc: Global,

@@ -63,6 +63,9 @@ fn prepared(alloc: Global, bytes: &[u8], unassigned: u32) -> Result<CowStr<'_>, 
 /// Prepare a non-ASCII password before you store or use it, and pass the result where a prepared password is expected.
 /// `unassigned` is FE2O3_UNASSIGNED_REFUSED for a text that is stored, and FE2O3_UNASSIGNED_ALLOWED for one that is
 /// only compared with stored texts (RFC 3454, section 7).
+///
+/// The errors are, in this order: FE2O3_NO_SUCH_CHOICE for another `unassigned`; FE2O3_NOT_UTF8;
+/// FE2O3_PROHIBITED_CHARACTER; FE2O3_MIXED_DIRECTIONS; FE2O3_UNASSIGNED_CODE_POINT; and FE2O3_ROOM_TOO_SMALL.
 #[unsafe(no_mangle)]
 pub extern "C" fn fe2o3_saslprep(
     alloc: Global,

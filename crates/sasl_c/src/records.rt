@@ -135,6 +135,10 @@ fn compute_record(
 ///
 /// `salt` is random bytes, fresh for each record, at most 128: 16 suffice. For SCRAM-SHA-256 some clients of MongoDB
 /// require 28.
+///
+/// The errors are, in this order: FE2O3_NO_SUCH_VERSION; FE2O3_NO_SUCH_CHOICE for another `form`; FE2O3_NOT_UTF8;
+/// FE2O3_TOO_LONG for a salt of more than 128 bytes; FE2O3_NOT_PRINTABLE for a typed password that is not printable
+/// ASCII; and FE2O3_ZERO_ITERATIONS.
 #[unsafe(no_mangle)]
 pub extern "C" fn fe2o3_scram_record_make(
     alloc: Global,
@@ -171,6 +175,9 @@ fn compute_parsed(alloc: Global, bytes: &[u8]) -> Result<ScramRecord, Status>
 }
 
 /// Parses the text of a record, as PostgreSQL writes it (RFC 5803, section 2).
+///
+/// The errors are, in this order: FE2O3_NOT_UTF8; the fault of the text, such as FE2O3_RECORD_PARTS_MISMATCH; and
+/// FE2O3_TOO_LONG for a salt of more than 128 bytes.
 #[unsafe(no_mangle)]
 pub extern "C" fn fe2o3_scram_record_parse(
     alloc: Global,
@@ -193,6 +200,9 @@ fn compute_text(alloc: Global, kept: &ScramRecord) -> Result<String, Status>
 }
 
 /// Writes the text of a record, as PostgreSQL reads it (RFC 5803, section 2): at most 384 bytes.
+///
+/// The errors are, in this order: FE2O3_NO_SUCH_VERSION, and FE2O3_TOO_LONG for a `salt_len` above 128, if the struct
+/// holds no record; and FE2O3_ROOM_TOO_SMALL.
 #[unsafe(no_mangle)]
 #[tactic(auto, using(crate::proofs::StatusLemmas::written))]
 pub extern "C" fn fe2o3_scram_record_text(
@@ -248,6 +258,9 @@ fn compute_mock(
 ///
 /// `secret` is 32 random bytes, one value for all names, kept as long as the records. `salt_len`, at most 64, and
 /// `iterations` are those of the server's other records. An iteration count of 0 is not rejected here.
+///
+/// The errors are, in this order: FE2O3_NO_SUCH_VERSION; FE2O3_NOT_UTF8 for the name; and FE2O3_TOO_LONG for a
+/// `salt_len` above 64.
 #[unsafe(no_mangle)]
 pub extern "C" fn fe2o3_scram_record_mock(
     alloc: Global,
@@ -286,6 +299,9 @@ fn verify(kept: &ScramRecord, form: u32, password: &[u8]) -> Result<(), Status>
 /// Compares a password, for instance one received by PLAIN, with a record: FE2O3_OK if it is the record's,
 /// FE2O3_OTHER_PASSWORD if not. `form` is one of enum fe2o3_password_form. The call hashes as often as the record's
 /// iteration count says, so pass only your own records.
+///
+/// The errors are, in this order: FE2O3_NO_SUCH_VERSION, and FE2O3_TOO_LONG for a `salt_len` above 128, if the struct
+/// holds no record; FE2O3_NO_SUCH_CHOICE for another `form`; FE2O3_NOT_UTF8; and FE2O3_OTHER_PASSWORD.
 #[unsafe(no_mangle)]
 pub extern "C" fn fe2o3_scram_record_verify(kept: &ScramRecord, form: u32, password: &[u8]) -> u32
     ensures { Answers result (VerifiesPassword kept.now form password.now) }

@@ -420,6 +420,10 @@ fn receive(
 /// FE2O3_OK does not mean that the login succeeds: look at `progress` and `why` of the connection. `taken` is how many
 /// bytes were used. While `progress` is FE2O3_IN_PROGRESS, pass the rest in the next call; after the login it belongs
 /// to AMQP.
+///
+/// The errors are, in this order: FE2O3_ROOM_TOO_SMALL; FE2O3_ENDED; FE2O3_INVALID_SNAPSHOT for a struct that no call
+/// has written; FE2O3_NOT_UTF8 for the hostname; the faults of the login, for SCRAM as in `fe2o3_scram_client_first`;
+/// and FE2O3_INVALID_SNAPSHOT for a part of a frame that is not expected. Each leaves the struct unchanged.
 #[unsafe(no_mangle)]
 pub extern "C" fn fe2o3_sasl_client_receive(
     alloc: Global,

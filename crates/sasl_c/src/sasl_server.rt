@@ -3,22 +3,19 @@
 ghost use Rattle.std.specs.Prelude.{◌≡◌, ◌≢◌, ◌<◌, ◌≤◌, ◌⊎◌, ◌+◌, ◌^◌, ℕ, List, IfOk, IfErr, IfSome, OnErr, OnOk, MatchOption, MatchResult, length};
 ghost use Rattle.std.specs.Str.{IsUtf8};
 ghost use Rattle.fe2o3_scram.specs.Mixed.{MultiRecords};
-ghost use Rattle.fe2o3_scram.specs.Readings.{NoneHolds};
+ghost use Rattle.fe2o3_scram.specs.Readings.{IsFirst, NoneHolds};
 ghost use Rattle.fe2o3_sasl_core.specs.Servers.{offers_any, sasl_server, settings_with};
 ghost use Rattle.fe2o3_sasl_negotiation.specs.declared.progress.Progress.TheVariants.{InProgress};
 ghost use Rattle.fe2o3_sasl_negotiation.specs.Snapshot.{IsServerKept, side_of};
 ghost use Rattle.fe2o3_sasl_negotiation.specs.Sides.{ServerConnectionSide, extended_in, server_side};
 ghost use Rattle.sasl_c.specs.Rejections.{state_of};
 ghost use Rattle.sasl_c.specs.Rules.{channels_of};
-ghost use Rattle.sasl_c.specs.SaslServer.{AddsRecord, AreSettings, HasNoServerWords, HasNone, IsNoConfig, IsPrepared, NotReceived, Received, ReceivesAsServer, RestoresStage, HasOptions, ServerTakes, ShowRecords, ShowsBy, config_tests, extra_for, mechanisms_for, settings_for, struct_by, sum_of, version_of_first};
-ghost use Rattle.sasl_c.specs.declared.sasl_server.Choice.{Choice as Choices};
+ghost use Rattle.sasl_c.specs.SaslServer.{AddsRecord, AreSettings, HasNoServerWords, HasNone, IsChoice, IsNoConfig, IsPrepared, NotReceived, Received, RestoresStage, HasOptions, ServerTakes, ShowRecords, ShowsBy, choice_tests, config_tests, extra_for, mechanisms_for, settings_for, struct_by, version_of_first};
 ghost use Rattle.sasl_c.specs.Connection.{side_tests};
-ghost use Rattle.sasl_c.specs.Status.{AnswersText, AsksText, AsksWhere, FillsWithin};
+ghost use Rattle.sasl_c.specs.Status.{AsksWhere};
 ghost use Rattle.sasl_c.specs.declared.status.Status.TheVariants.{OutOfMemory as StatusOutOfMemory, InvalidSnapshot as StatusInvalidSnapshot, TooLong as StatusTooLong};
-ghost use Rattle.sasl_c.specs.declared.status.WriteError.TheVariants.{RoomTooSmall};
 
 use crate::acting::acting_rights;
-use crate::arrays::put;
 use crate::connection::Connection;
 use crate::flags::{is_set, split, split_passwords};
 use crate::records::ScramRecord;
@@ -26,7 +23,7 @@ use crate::rejections::LoggedServer;
 use crate::rules::ServerChannels;
 use crate::server::ScramServer;
 use crate::shows::Shows;
-use crate::status::{Status, WriteError, text, text_number};
+use crate::status::{Status, text};
 use bytes::BytesMut;
 use fe2o3_sasl_core::{
     AuthenticatedUser, ExtraChallenges, Mechanisms, PlainPasswords, Server, ServerOptions,
@@ -41,16 +38,25 @@ use std::alloc::Global;
 #[derive(Drop)]
 pub struct SaslServerConfig<'a> {
     /// The offered mechanisms: a sum of values of enum fe2o3_offer. PLAIN sends the password in clear, so offer it
-    /// over TLS only. It rejects every password that is not printable ASCII, unless the sum has FE2O3_PLAIN_PREPARED
-    /// or FE2O3_PLAIN_SASLPREP. By the latter it also rejects a password that SASLprep rejects or prepares to the empty
-    /// text. With FE2O3_SIGNATURE_BY_CHALLENGE SCRAM's outcome OK follows the client's empty response to a challenge.
-    /// With FE2O3_INITIAL_RESPONSE_BY_CHALLENGE an init for SCRAM or PLAIN without an initial response is answered by
-    /// an empty challenge, and the response is the initial response. With FE2O3_STRICT SCRAM is strict, as by the
-    /// field `strict` of struct fe2o3_scram_rules, and with FE2O3_REJECT_MISPLACED as by its field `reject_misplaced`.
+    /// over TLS only.
     pub mechanisms: u32,
+
+    /// What else the server does: a sum of values of enum fe2o3_server_flag. PLAIN rejects every password that is not
+    /// printable ASCII, unless the sum has FE2O3_PLAIN_PREPARED or FE2O3_PLAIN_SASLPREP. By the latter it also rejects a
+    /// password that SASLprep rejects or prepares to the empty text. With FE2O3_SIGNATURE_BY_CHALLENGE SCRAM's outcome
+    /// OK follows the client's empty response to a challenge. With FE2O3_INITIAL_RESPONSE_BY_CHALLENGE an init for SCRAM
+    /// or PLAIN without an initial response is answered by an empty challenge, and the response is the initial response.
+    /// With FE2O3_STRICT SCRAM is strict, as by the field `strict` of struct fe2o3_scram_rules, and with
+    /// FE2O3_REJECT_MISPLACED as by its field `reject_misplaced`.
+    pub flags: u32,
 
     /// The iteration count with which PLAIN hashes a password if no record can be read.
     pub iterations: u32,
+
+    /// Whether `username`, `records` and `identities` are what your store has of the user whom the bytes claim. 0 is no,
+    /// any other value yes. If it is 0 and the bytes claim a user, `fe2o3_sasl_server_receive` returns
+    /// FE2O3_NEEDS_RECORDS. If they claim none, these fields play no part.
+    pub looked_up: u32,
 
     /// The name of the user whose records these are, without escapes.
     pub username: &'a [u8],
@@ -129,29 +135,36 @@ struct Choice {
 }
 
 impl Choice {
-    /// The choice of a sum.
-    fn of(sum: u32) -> Option<Choice>
-        ensures { MatchOption result ((choice : Choices) → sum_of choice ≢ sum) (λ choice. sum_of choice ≡ sum) }
+    /// The choice of a sum of mechanisms and a sum of flags.
+    fn of(mechanisms: u32, flags: u32) -> Result<Choice, Status>
+        ensures { MatchResult result (λ choice. IsChoice mechanisms flags choice)
+            (λ status. IsFirst (choice_tests mechanisms flags) status) }
     {
-        if sum > 8191 {
-            return None;
+        if mechanisms > 63 {
+            return Err(Status::NoSuchMechanism);
         }
-        let (reject_misplaced, rest) = split(sum, 4096);
-        let (strict, rest) = split(rest, 2048);
-        let (signature_by_challenge, rest) = split(rest, 1024);
-        let (initial_response_by_challenge, rest) = split(rest, 512);
-        if rest > 383 {
-            return None;
-        }
-        let (passwords, rest) = split_passwords(rest);
-        let (cbind_flag_y, rest) = split(rest, 64);
-        let (external, rest) = split(rest, 32);
+        let (external, rest) = split(mechanisms, 32);
         let (anonymous, rest) = split(rest, 16);
         let (plain, rest) = split(rest, 8);
         let (sha_1, rest) = split(rest, 4);
         let (sha_256, rest) = split(rest, 2);
         let (sha_512, _) = split(rest, 1);
-        Some(Choice {
+        if flags > 8191 {
+            return Err(Status::NoSuchChoice);
+        }
+        let (reject_misplaced, others) = split(flags, 4096);
+        let (strict, others) = split(others, 2048);
+        let (signature_by_challenge, others) = split(others, 1024);
+        let (initial_response_by_challenge, others) = split(others, 512);
+        if others > 383 {
+            return Err(Status::NoSuchChoice);
+        }
+        let (passwords, others) = split_passwords(others);
+        let (cbind_flag_y, unknown) = split(others, 64);
+        if unknown > 0 {
+            return Err(Status::NoSuchChoice);
+        }
+        Ok(Choice {
             sha_512,
             sha_256,
             sha_1,
@@ -342,8 +355,9 @@ impl SaslServerConfig<'_> {
         ensures err { IfErr result (λ status. status ≢ StatusOutOfMemory → IsNoConfig self.now status) }
         ensures memory { AsksWhere (NoneHolds (config_tests self.now)) result }
     {
-        let Some(choice) = Choice::of(self.mechanisms) else {
-            return Err(Status::NoSuchMechanism);
+        let choice = match Choice::of(self.mechanisms, self.flags) {
+            Ok(choice) => choice,
+            Err(status) => return Err(status),
         };
         let (username, external, identities) = match self.words() {
             Ok(words) => words,
@@ -437,15 +451,15 @@ impl SaslServer {
 
 /// What a call makes of bytes.
 #[derive(Drop)]
-struct ReceiveResult {
+pub struct ReceiveResult {
     /// How many it takes.
-    taken: usize,
+    pub taken: usize,
 
     /// What is to be sent.
-    sent: BytesMut,
+    pub sent: BytesMut,
 
     /// The structs then.
-    next: SaslServer,
+    pub next: SaslServer,
 }
 
 /// Restores a side that waits, which takes bytes, and saves it.
@@ -483,9 +497,9 @@ fn taken<A: Shows + Drop>(
     })
 }
 
-/// What a server makes of bytes.
+/// Returns what a server makes of bytes.
 #[tactic(auto, using(crate::proofs::ServerCallLemmas::without_memory))]
-fn received(
+pub fn received(
     alloc: Global,
     config: &SaslServerConfig<'_>,
     server: &SaslServer,
@@ -517,74 +531,4 @@ fn received(
         Ok(made) => Ok(made),
         Err(status) => Err(status),
     }
-}
-
-/// The maximum number of bytes that a server sends at once: its header, and after it a frame.
-const SENT_MOST: usize = 520;
-
-/// Takes bytes, and writes what is to be sent.
-fn receive(
-    alloc: Global,
-    config: &SaslServerConfig<'_>,
-    server: &mut SaslServer,
-    bytes: &[u8],
-    nonce: &[u8; 32],
-    meter: &mut Meter,
-    taken: &mut usize,
-    out: &mut [u8],
-    out_len: &mut usize,
-) -> Result<(), WriteError>
-    requires { meter.old ≤ 2 ^ 63 }
-    ensures text { FillsWithin 520 (ReceivesAsServer config.now bytes.now nonce.now server.old server.new taken.new)
-        (record { bytes = out.old; len = out_len.old }) (record { bytes = out.new; len = out_len.new }) result }
-    ensures stays { OnErr result ((server.new ≡ server.old) × (taken.new ≡ taken.old)) }
-    ensures first { IfErr result (λ status. status ≡ RoomTooSmall → meter.new ≡ meter.old) }
-    ensures memory { AsksText (NoneHolds (side_tests server.old.connection) × NoneHolds (config_tests config.now)) result }
-{
-    if out.len() < SENT_MOST {
-        *out_len = SENT_MOST;
-        return Err(WriteError::RoomTooSmall);
-    }
-    let made = match received(alloc, config, server, bytes, nonce, meter) {
-        Ok(made) => made,
-        Err(status) => return Err(WriteError::Other(status)),
-    };
-    put(&made.sent, out, out_len)?;
-    *taken = made.taken;
-    *server = made.next;
-    Ok(())
-}
-
-/// Takes received bytes, to the end of the expected header or frame, and writes the bytes to send, at most 520. `out`
-/// needs 520 bytes, which is tested before anything is hashed. `nonce` is 32 fresh random bytes, or any bytes if
-/// `fe2o3_sasl_wants_nonce` returns 0.
-///
-/// Before the call, look up the record of the user that the bytes claim (`fe2o3_sasl_server_claimed_user`). FE2O3_OK
-/// does not mean that the login succeeds: look at `progress` and `why` of the connection. `taken` is how many bytes
-/// were used. While `progress` is FE2O3_IN_PROGRESS, pass the rest in the next call; after the login it belongs to
-/// AMQP.
-///
-/// If a name or a message does not fit into the struct, the call returns FE2O3_TOO_LONG, and you have to close the
-/// connection.
-#[unsafe(no_mangle)]
-pub extern "C" fn fe2o3_sasl_server_receive(
-    alloc: Global,
-    config: &SaslServerConfig<'_>,
-    server: &mut SaslServer,
-    bytes: &[u8],
-    nonce: &[u8; 32],
-    taken: &mut usize,
-    out: &mut [u8],
-    out_len: &mut usize,
-) -> u32
-    ensures { AnswersText result (λ answer. FillsWithin 520
-        (ReceivesAsServer config.now bytes.now nonce.now server.old server.new taken.new)
-        (record { bytes = out.old; len = out_len.old }) (record { bytes = out.new; len = out_len.new }) answer
-        × OnErr answer ((server.new ≡ server.old) × (taken.new ≡ taken.old))
-        × AsksText (NoneHolds (side_tests server.old.connection) × NoneHolds (config_tests config.now)) answer) }
-{
-    let mut meter = Meter::new();
-    text_number(receive(
-        alloc, config, server, bytes, nonce, &mut meter, taken, out, out_len,
-    ))
 }

@@ -1,19 +1,18 @@
 //! The user name that the bytes of a connection claim before a server takes them.
 
 ghost use Rattle.std.specs.Prelude.{◌≡◌, ◌≢◌, ℕ, List, Some, string_bytes, IfOk, IfErr, OnErr, MatchOption};
-ghost use Rattle.sasl_c.specs.SaslServer.{AnswerNeedsMemory, AnswerNames, BodyAsks, BodyNames, BodyNamesNoUser, FrameAsks, FrameNames, Named, Names, NotNamed, ResponseAsks};
+ghost use Rattle.sasl_c.specs.SaslServer.{AnswerNeedsMemory, AnswerNames, BodyAsks, BodyNames, BodyNamesNoUser, FrameAsks, FrameNames, Named, NotNamed, ResponseAsks};
 ghost use Rattle.fe2o3_sasl_wire.specs.FrameView.{shown, viewed_frame};
 ghost use Rattle.fe2o3_sasl_core.specs.LoginAttempts.{ClaimIn};
 ghost use Rattle.fe2o3_scram.specs.ServerFirst.{ServerChallenge};
 ghost use Rattle.sasl_c.specs.Peeks.{AwaitsFrame};
 ghost use Rattle.sasl_c.specs.Server.{IsOpen};
-ghost use Rattle.sasl_c.specs.Status.{AnswersText, AsksText, AsksWhere, Fills};
+ghost use Rattle.sasl_c.specs.Status.{AsksWhere};
 ghost use Rattle.sasl_c.specs.declared.status.Status.TheVariants.{OutOfMemory as StatusOutOfMemory};
 
-use crate::arrays::write;
 use crate::sasl_server::SaslServer;
 use crate::server::ScramServer;
-use crate::status::{Status, WriteError, text_number};
+use crate::status::Status;
 use fe2o3_sasl_core::claimed_user;
 use fe2o3_sasl_negotiation::{Expected, FrameKind, RestoreError};
 use fe2o3_sasl_wire::{FrameView, view_frame};
@@ -126,9 +125,15 @@ fn body_user(
     }
 }
 
-/// Returns the user name that the frame claims which these bytes complete.
+/// Returns the user name that the frame claims which these bytes complete: that of an init for SCRAM or PLAIN, for a response
+/// that of the open challenge of SCRAM, and for the response to an empty challenge that of the initial response. Nobody is
+/// authenticated yet. `NamesNoUser` is the error if the bytes complete no frame, or one that claims no user.
 #[tactic(auto, using(crate::proofs::ServerUserLemmas::named))]
-fn compute_claimed_user(alloc: Global, server: &SaslServer, bytes: &[u8]) -> Result<String, Status>
+pub fn compute_claimed_user(
+    alloc: Global,
+    server: &SaslServer,
+    bytes: &[u8],
+) -> Result<String, Status>
     ensures ok { IfOk result (λ name. Named server.now bytes.now (string_bytes name)) }
     ensures err { IfErr result (λ status. status ≢ StatusOutOfMemory → NotNamed server.now bytes.now status) }
     ensures memory { AsksWhere (AwaitsFrame server.now.connection) result }
@@ -149,24 +154,4 @@ fn compute_claimed_user(alloc: Global, server: &SaslServer, bytes: &[u8]) -> Res
         Ok(None) => Err(Status::NamesNoUser),
         Err(status) => Err(status),
     }
-}
-
-/// Writes the user name that the next frame claims, if `bytes` complete it: that of an init for SCRAM or PLAIN, for a
-/// response that of the open challenge of SCRAM, and for the response to an empty challenge that of the initial
-/// response. Nobody is authenticated yet: use it only to look up the record
-/// for `fe2o3_sasl_server_receive`. Returns FE2O3_NAMES_NO_USER if the frame is not complete or claims no name; then no
-/// record is needed.
-#[unsafe(no_mangle)]
-#[tactic(auto, using(crate::proofs::StatusLemmas::written))]
-pub extern "C" fn fe2o3_sasl_server_claimed_user(
-    alloc: Global,
-    server: &SaslServer,
-    bytes: &[u8],
-    out: &mut [u8],
-    out_len: &mut usize,
-) -> u32
-    ensures { AnswersText result (λ answer. Fills (Names server.now bytes.now) (record { bytes = out.old; len = out_len.old })
-        (record { bytes = out.new; len = out_len.new }) answer × AsksText (AwaitsFrame server.now.connection) answer) }
-{
-    text_number(write(compute_claimed_user(alloc, server, bytes), out, out_len))
 }

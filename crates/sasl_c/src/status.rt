@@ -54,9 +54,12 @@ pub enum Status {
     /// The struct of the connection has a value that no call writes.
     InvalidSnapshot,
 
-    /// The bytes do not complete a frame that claims a user name, the message of PLAIN claims none, or the user name for
-    /// a message of PLAIN is empty.
+    /// The message of PLAIN claims no user name, or the user name for a message of PLAIN is empty.
     NamesNoUser,
+
+    /// The server needs the records of the user whose name is in `out`. Nothing has changed: look the user up, and repeat
+    /// the call with the same bytes.
+    NeedsRecords,
 
     /// A client rejects a message of the server.
     Client(ScramErrorKind),
@@ -219,6 +222,7 @@ impl Status {
             Status::Ended => 13,
             Status::InvalidSnapshot => 14,
             Status::NamesNoUser => 15,
+            Status::NeedsRecords => 16,
             Status::Client(why) => client_number(why),
             Status::Server(why) => server_number(why),
             Status::NoRecord(why) => record_text_number(why),

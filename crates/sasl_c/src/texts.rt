@@ -44,6 +44,7 @@ fn text_of(status: u32) -> &'static [u8]
         13 => b"The connection has ended\0",
         14 => b"The struct of the connection is invalid\0",
         15 => b"No user name is claimed\0",
+        16 => b"The records of the user are needed\0",
         20 => b"Client: Invalid UTF-8\0",
         21 => b"Client: InsufficientParts\0",
         22 => b"Client: Extensions are not supported\0",

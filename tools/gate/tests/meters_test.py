@@ -12,7 +12,7 @@ import meters
 TEXTS = meters.texts_of(meters.TOP)
 LISTED = (meters.TOP / meters.LIST).read_text(encoding="utf-8")
 SCRAM, RUNS, SASL = "crates/fe2o3_scram/src/", "crates/fe2o3_sasl_core/src/", "crates/fe2o3_sasl/src/"
-C_FINAL, C_CONNECTION = "crates/sasl_c/src/client_final.rt", "crates/sasl_c/src/sasl_server.rt"
+C_FINAL, C_CONNECTION = "crates/sasl_c/src/client_final.rt", "crates/sasl_c/src/server_receive.rt"
 C_KEYS, C_RECORDS = "crates/sasl_c/src/keys.rt", "crates/sasl_c/src/records.rt"
 CLIENT, FINAL = SCRAM + "scram_client.rt", SCRAM + "scram_messages/client_final.rt"
 PLAIN_OF_CLIENT = "self.compute_client_final_message_metered(alloc, server_first, &mut Meter::new())"
@@ -297,7 +297,7 @@ class Meters(unittest.TestCase):
             first("let mut meter = Meter::new();", step),
         )
         self.refused(
-            ["receive: Meter::new", "receive: received x2"], C_CONNECTION, first("if out.len() < SENT_MOST {", step)
+            ["receive: Meter::new", "receive: received"], C_CONNECTION, first("if out.len() < SENT_MOST {", step)
         )
 
     def test_keys_and_passwords_for_c_that_are_stretched_twice(self):

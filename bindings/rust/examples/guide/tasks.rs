@@ -53,7 +53,7 @@ impl UserRecords for Users {
 
 /// What all connections share. It offers SCRAM with SHA-512 and SHA-256.
 pub fn new_server<R: UserRecords + Clone>(users: R, secret: [u8; 32]) -> PasswordServer<R> {
-    let server = PasswordServer::new(users).reject_misplaced(true);
+    let server = PasswordServer::new(users);
     server.mock_unknown_users(secret, DEFAULT_SALT_LEN, DEFAULT_SCRAM_ITERATIONS)
 }
 
