@@ -217,7 +217,8 @@ class Channels(Case):
                 near: Any = ClientConnection(client) if client_tests else Login(version, "user", "pencil", b"y,,")
                 if not client_tests:
                     near.begin()
-                far = ServerConnection(known, mechanisms=OFFERS[version], channels=[other] if server_tests else None)
+                channels = [other] if server_tests else None
+                far = ServerConnection(known, mechanisms=OFFERS[version], flags=0, channels=channels)
 
                 def passed(data: bytes) -> bytes:
                     answer = near.receive(data)

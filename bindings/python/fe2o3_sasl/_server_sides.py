@@ -222,22 +222,23 @@ class ServerConnection(_Connection):
         return b"".join(answers), rest
 
     def _step(self, data: bytes) -> tuple[bytes, int]:
-        frame, name = self._viewed(data), None
+        frame, name, nonce = self._viewed(data), None, secrets.token_bytes(32)
         if frame is not None and frame.kind == _RESPONSE:
             name = self._challenged()
-        status, answer, taken = self._received(data, name)
+        status, answer, taken = self._received(data, name, nonce)
         if status == Status.NEEDS_RECORDS:
+            # (that call has not used the nonce)
             name = answer.decode("utf-8")
-            status, answer, taken = self._received(data, name)
+            status, answer, taken = self._received(data, name, nonce)
         _done(status)
         if frame is not None:
             self._claims(frame, name)
         return answer, taken
 
-    def _received(self, data: bytes, name: Optional[str]) -> tuple[int, bytes, int]:
+    def _received(self, data: bytes, name: Optional[str], nonce: bytes) -> tuple[int, bytes, int]:
         """Calls the library once, with the records of the user, if its name is known. Returns the status, what was
         written, and how many bytes were taken."""
-        nonce, taken = secrets.token_bytes(32), ctypes.c_size_t()
+        taken = ctypes.c_size_t()
         with self._config(name) as config:
             status, out = _answered(
                 520,
