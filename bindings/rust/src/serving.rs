@@ -371,13 +371,15 @@ impl<R: UserRecords + Clone> ServerNegotiation<R> {
         bytes: &[u8],
         name: &mut Option<String>,
     ) -> Result<(usize, Vec<u8>), ConnectionError> {
+        // (a call that asks for records does not use the nonce)
+        let nonce = generate_nonce();
         loop {
             let found = match self.config.records(name.as_deref()) {
                 Ok(found) => found,
                 Err(NotFound::Store(why)) => return Ok(self.reject_for_now(bytes, why)),
                 Err(NotFound::Library(why)) => return Err(why),
             };
-            match self.step(bytes, name.as_deref(), &found)? {
+            match self.step(bytes, &nonce, name.as_deref(), &found)? {
                 Step::Answered(taken, sent) => return Ok((taken, sent)),
                 Step::NeedsRecords(user) => *name = Some(user),
             }
@@ -398,8 +400,13 @@ impl<R: UserRecords + Clone> ServerNegotiation<R> {
     }
 
     /// Calls the library once, with the records of the claimed user, if it was looked up.
-    fn step(&mut self, bytes: &[u8], name: Option<&str>, found: &FoundRecords) -> Result<Step, ConnectionError> {
-        let nonce = generate_nonce();
+    fn step(
+        &mut self,
+        bytes: &[u8],
+        nonce: &[u8; 32],
+        name: Option<&str>,
+        found: &FoundRecords,
+    ) -> Result<Step, ConnectionError> {
         let of_mock = found.mock_rejection(self.state.scram.version);
         let lent = self.config.lend(name, &found.all, &found.identities);
         let (mut out, mut len, mut taken) = (vec![0; SENT_MOST], 0, 0);
@@ -412,7 +419,7 @@ impl<R: UserRecords + Clone> ServerNegotiation<R> {
                 &mut self.state,
                 bytes.as_ptr(),
                 bytes.len(),
-                &nonce,
+                nonce,
                 &mut taken,
                 out.as_mut_ptr(),
                 out.len(),
