@@ -40,7 +40,7 @@ returns-in-Ok-clause-ok c = mapped_ok _ _ c.answer_with_secret.result c.answer_w
 pub returns-in-Ok-clause-err : goal.returns-in-Ok-clause-err
 returns-in-Ok-clause-err c = mapped_err _ _ c.answer_with_secret.result c.answer_with_secret.ensures.err
     (λ status held other none is binds sent.
-        held other is (sym c.secret_used.ensures ∙ c.in-0.is, c.in-Ok.ensures.tested.0) binds sent)
+    held other is (sym c.secret_used.ensures ∙ c.in-0.is, c.in-Ok.ensures.tested.0) binds sent)
 
 pub returns-in-Ok-keys-clause-ok : goal.returns-in-Ok-keys-clause-ok
 returns-in-Ok-keys-clause-ok c = mapped_ok _ _ c.answer_with_secret-in-1.result c.answer_with_secret-in-1.ensures.ok
