@@ -542,7 +542,7 @@ def changed_by_scram(folder):
 
     def change():
         while not ended.is_set():
-            words = ("users", "passwd", "--db", path, "user0000007", "--iterations", "1")
+            words = ("users", "passwd", "--db", path, "user0000007")
             changes.append(scram(*words, password=("pencil", "other")[len(changes) % 2])[0])
 
     thread = threading.Thread(target=change)
