@@ -522,8 +522,8 @@ enum fe2o3_status {
     FE2O3_REFUSED_SYS_PERM = 83,
     /* The server rejected the login because of a temporary system error. */
     FE2O3_REFUSED_SYS_TEMP = 84,
-    /* The argument `unassigned` is none of enum fe2o3_unassigned, a form none of enum fe2o3_password_form, or
-     * `passwords` none of enum fe2o3_plain_passwords. */
+    /* The argument `unassigned` is none of enum fe2o3_unassigned, a form none of enum fe2o3_password_form, `passwords`
+     * none of enum fe2o3_plain_passwords, or the flags of a server no sum of values of enum fe2o3_server_flag. */
     FE2O3_NO_SUCH_CHOICE = 85,
     /* The prepared text contains a character that RFC 4013, section 2.3, prohibits, or a word for a message of PLAIN
      * (RFC 4616, section 2) or an identity to act for (RFC 4422, section 3.4.1) contains a zero byte. */
@@ -1446,6 +1446,7 @@ struct fe2o3_sasl_server {
  * - FE2O3_NEEDS_RECORDS,
  * - FE2O3_ENDED and FE2O3_INVALID_SNAPSHOT of the connection,
  * - FE2O3_NO_SUCH_MECHANISM if `mechanisms` is no sum of values of enum fe2o3_offer,
+ * - FE2O3_NO_SUCH_CHOICE if `flags` is no sum of values of enum fe2o3_server_flag,
  * - FE2O3_NOT_UTF8 for `username`, `external_authcid` and `identities`,
  * - FE2O3_CHANNEL_DATA_LENGTH if the server binds channels, and data have more than 64 bytes,
  * - FE2O3_NO_SUCH_MECHANISM if nothing would be offered,

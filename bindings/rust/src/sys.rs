@@ -226,8 +226,9 @@ pub const REFUSED_SYS_PERM: u32 = 83;
 /// The server rejected the login because of a temporary system error.
 pub const REFUSED_SYS_TEMP: u32 = 84;
 
-/// The argument `unassigned` is none of the `unassigned` constants, a form none of the `password_form` constants, or
-/// `passwords` none of the `plain_passwords` constants.
+/// The argument `unassigned` is none of the `unassigned` constants, a form none of the `password_form` constants,
+/// `passwords` none of the `plain_passwords` constants, or the flags of a server no sum of values of the `server_flag`
+/// constants.
 pub const NO_SUCH_CHOICE: u32 = 85;
 
 /// The prepared text contains a character that RFC 4013, section 2.3, prohibits, or a word for a message of PLAIN (RFC
@@ -1493,6 +1494,7 @@ extern "C" {
     /// - NEEDS_RECORDS,
     /// - ENDED and INVALID_SNAPSHOT of the connection,
     /// - NO_SUCH_MECHANISM if `mechanisms` is no sum of values of the `offer` constants,
+    /// - NO_SUCH_CHOICE if `flags` is no sum of values of the `server_flag` constants,
     /// - NOT_UTF8 for `username`, `external_authcid` and `identities`,
     /// - CHANNEL_DATA_LENGTH if the server binds channels, and data have more than 64 bytes,
     /// - NO_SUCH_MECHANISM if nothing would be offered,

@@ -145,6 +145,7 @@ fn receive(
 /// - FE2O3_NEEDS_RECORDS,
 /// - FE2O3_ENDED and FE2O3_INVALID_SNAPSHOT of the connection,
 /// - FE2O3_NO_SUCH_MECHANISM if `mechanisms` is no sum of values of enum fe2o3_offer,
+/// - FE2O3_NO_SUCH_CHOICE if `flags` is no sum of values of enum fe2o3_server_flag,
 /// - FE2O3_NOT_UTF8 for `username`, `external_authcid` and `identities`,
 /// - FE2O3_CHANNEL_DATA_LENGTH if the server binds channels, and data have more than 64 bytes,
 /// - FE2O3_NO_SUCH_MECHANISM if nothing would be offered,

@@ -122,8 +122,8 @@ pub enum Status {
     /// The server rejected the login because of a temporary system error.
     RefusedSysTemp,
 
-    /// The argument `unassigned` is none of enum fe2o3_unassigned, a form none of enum fe2o3_password_form, or
-    /// `passwords` none of enum fe2o3_plain_passwords.
+    /// The argument `unassigned` is none of enum fe2o3_unassigned, a form none of enum fe2o3_password_form, `passwords`
+    /// none of enum fe2o3_plain_passwords, or the flags of a server no sum of values of enum fe2o3_server_flag.
     NoSuchChoice,
 
     /// The prepared text contains a character that RFC 4013, section 2.3, prohibits, or a word for a message of PLAIN
