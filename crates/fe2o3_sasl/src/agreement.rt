@@ -7,7 +7,7 @@ use fe2o3_sasl_core::{ClientOptions, ServerOptions};
 
 /// Returns whether both sides of a SCRAM login agree on all of it, whatever an attacker alters: hash, channel, identity, user
 /// name, both nonces, salt and iteration count. They do if one side rejects an attribute of RFC 5802 in the place of an
-/// extension (`connection_laws::server_pairs::options`).
+/// extension (`connection_laws::server_pairs::options`), unless two AuthMessages have one HMAC.
 ///
 /// - A server rejects it by `strict`, `reject_misplaced`, which is the default, or `accept_authzid`. Where a connection has a
 ///   channel it rejects it in any case.

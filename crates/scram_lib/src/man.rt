@@ -16,7 +16,7 @@ IFS= read \-rsp "Again: " q; echo
 [ "$p" = "$q" ] && printf \(aq%s\en\(aq "$p" | scram users add users.txt alice; unset p q
 .EE
 .SH FORMAT
-A file of records has a line for each record (RFC 5803). In a name =2C stands for a comma and =3D for an equals sign. Salt
+A file of records has a line for each record (RFC 5803). In a name a comma is =2C, and an equals sign =3D. Salt
 and keys are in base64. There are no comments and no empty lines.
 .PP
 .EX
@@ -56,7 +56,7 @@ scram: alice logged in, acts for bob
 scram: login rejected: user alice, SCRAM\-SHA\-256, channel none: Wrong password
 .EE
 .PP
-No user stands for a message that names none. The program does not know the address of the client: let the script that
+A line has no user if the message names none. The program does not know the address of the client: let the script that
 runs it add that, for instance for \fBsocat TCP\-LISTEN:5000,reuseaddr,fork EXEC:./serve\fP:
 .PP
 .EX
