@@ -15,6 +15,7 @@ pub use Rattle.fe2o3_sasl_core.specs.ExternalServer
 pub use Rattle.fe2o3_sasl_core.specs.PlainServer
 pub use Rattle.fe2o3_sasl_core.specs.ProfileFaults
 pub use Rattle.fe2o3_sasl_core.specs.Profiles
+pub use Rattle.fe2o3_sasl_core.specs.ProfileMachine
 pub use Rattle.fe2o3_sasl_core.specs.SaslProfile
 pub use Rattle.fe2o3_sasl_core.specs.ScramRejections
 pub use Rattle.fe2o3_sasl_core.specs.ClientPolicy

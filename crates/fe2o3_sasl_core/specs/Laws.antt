@@ -19,7 +19,8 @@ use Rattle.fe2o3_scram.specs.Credentials.{Provider, Record}
 use Rattle.fe2o3_sasl_core.specs.Events.{Given, AreGiven, Login, is_strict_login, IsLogin, IsRecord, IsSecret, ServerSays, Concluded, Failed, ClientSays, Refused, login_header}
 use Rattle.fe2o3_sasl_core.specs.Runs.{Runs, AcceptorSteps, ProfileReplies, ProfileSteps}
 use Rattle.fe2o3_sasl_core.specs.SaslAcceptor.{acceptor_machine, acceptor_user, Acceptor, ScramAcceptor}
-use Rattle.fe2o3_sasl_core.specs.Profiles.{scram_profile, Profile, StepAllocates}
+use Rattle.fe2o3_sasl_core.specs.Profiles.{scram_profile, Profile}
+use Rattle.fe2o3_sasl_core.specs.ProfileMachine.{StepAllocates}
 use Rattle.fe2o3_sasl_core.specs.Positions.{test_at, IsLastOpen}
 use Rattle.fe2o3_sasl_core.specs.Bodies.{SpellsBody, says_frame}
 use Rattle.fe2o3_sasl_core.specs.ServerHistory.{Challenging, Accepted, AcceptsAt, LoggedIn, Open, ServerHistory, is_challenge, is_ok, full_nonce}

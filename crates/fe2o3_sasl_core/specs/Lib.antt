@@ -14,6 +14,7 @@ pub mod PlainWords
 pub mod ActingProfiles
 pub mod ProfileFaults
 pub mod Profiles
+pub mod ProfileMachine
 pub mod SaslProfile
 pub mod ScramRejections
 pub mod ClientPolicy

@@ -11,7 +11,8 @@ use Rattle.fe2o3_scram.specs.ClientSecret.{Password, up_to}
 use Rattle.fe2o3_scram.specs.Passwords.{Typed}
 use Rattle.fe2o3_sasl_core.specs.Events.{Given, Login, ServerSays, Challenged, Concluded, Failed, ClientSays, Started, Answered, Reported, Refused}
 use Rattle.fe2o3_sasl_core.specs.Bodies.{SpellsBody, carried, server_says}
-use Rattle.fe2o3_sasl_core.specs.Profiles.{Profile, profile_machine, scram_profile, StepAllocates}
+use Rattle.fe2o3_sasl_core.specs.Profiles.{Profile, scram_profile}
+use Rattle.fe2o3_sasl_core.specs.ProfileMachine.{profile_machine, StepAllocates}
 use Rattle.fe2o3_sasl_core.specs.Hex.{SpellsHex}
 use Rattle.fe2o3_sasl_core.specs.declared.client_options.ClientOptions.{ClientOptions}
 use Rattle.fe2o3_sasl_core.specs.declared.events.ClientReply.{ClientReply}

@@ -1,7 +1,8 @@
 -- The profiles and frames that the code's values are, and the addresses that give a profile.
-use Rattle.std.specs.Prelude.{◌≢◌, [], Option, Some, None, string_bytes}
+use Rattle.std.specs.Prelude.{◌≢◌, [], Option, Some, None, option_map, string_bytes}
 use Rattle.fe2o3_sasl_wire.specs.AmqpTypes.{init_frame, response_frame, outcome_frame}
 use Rattle.fe2o3_sasl_wire.specs.SaslFrames.{SaslFrame}
+use Rattle.fe2o3_scram.specs.ClientSecret.{kept_secret}
 use Rattle.fe2o3_scram.specs.declared.hmac.ScramVersion.{ScramVersion}
 use Rattle.fe2o3_scram.specs.declared.hmac.ScramVersion.TheVariants.{Sha1, Sha256, Sha512}
 use Rattle.fe2o3_sasl_core.specs.declared.sasl_profile.error.UrlError.{UrlError}
@@ -10,13 +11,23 @@ use Rattle.fe2o3_sasl_core.specs.declared.sasl_profile.Negotiation.{Negotiation}
 use Rattle.fe2o3_sasl_core.specs.declared.sasl_profile.Negotiation.TheVariants as negotiations
 use Rattle.fe2o3_sasl_core.specs.declared.sasl_profile.SaslProfile.{SaslProfile}
 use Rattle.fe2o3_sasl_core.specs.declared.sasl_profile.SaslProfile.TheVariants as profiles
+use Rattle.fe2o3_sasl_core.specs.declared.sasl_profile.policy.PolicyLogin.{PolicyLogin}
 use Rattle.fe2o3_sasl_core.specs.declared.sasl_profile.single_message.SingleMessage.{SingleMessage}
 use Rattle.url.specs.Parts.{Parts}
-use Rattle.fe2o3_sasl_core.specs.Profiles.{Profile, ScramProfile, PlainProfile, AnonymousProfile, ExternalProfile, MessageProfile, MessageMechanism, AnonymousMessage, ExternalMessage}
+use Rattle.fe2o3_sasl_core.specs.Profiles.{Profile, ScramProfile, PlainProfile, AnonymousProfile, ExternalProfile, MessageProfile, MessageMechanism, AnonymousMessage, ExternalMessage, PolicyProfile, Selection}
 
 -- the profile of a mechanism with its single message
 abbrev pub message_profile : MessageMechanism → SingleMessage → Profile
 message_profile mechanism single = MessageProfile mechanism (string_bytes single.message) single.is_due
+
+-- what a value selects by
+abbrev pub selection_of : PolicyLogin → Selection
+selection_of login = record {
+  user = string_bytes login.username;
+  secret = kept_secret login.secret;
+  policy = login.policy;
+  acts_for = option_map (λ name. string_bytes name) login.acts_for;
+}
 
 -- the profile that a value is
 abbrev pub profile_of : SaslProfile → Profile
@@ -30,6 +41,7 @@ profile_of (profiles.ExternalAs single) = message_profile ExternalMessage single
 profile_of (profiles.ScramSha1 scram) = ScramProfile scram
 profile_of (profiles.ScramSha256 scram) = ScramProfile scram
 profile_of (profiles.ScramSha512 scram) = ScramProfile scram
+profile_of (profiles.ByPolicy login) = PolicyProfile (selection_of login.value)
 
 -- the version of SCRAM that a profile's variant names (RFC 5802, section 4), if it is of SCRAM
 abbrev pub variant_version : SaslProfile → Option ScramVersion

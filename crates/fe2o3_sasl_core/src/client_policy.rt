@@ -13,8 +13,8 @@ pub mod laws;
 
 use crate::OutOfMemory;
 use crate::mechanism_names::{ANONYMOUS, EXTERNAL, PLAIN};
+use crate::offer::Offer;
 use crate::sasl_profile::SaslProfile;
-use fe2o3_sasl_wire::SymbolsView;
 use fe2o3_scram::channel_binding::ChannelBinding;
 use fe2o3_scram::client_secret::{ClientSecret, ClientSecretError, IterationLimits};
 use fe2o3_scram::hmac::{
@@ -313,28 +313,28 @@ fn serves(secret: &ClientSecret<'_>, mechanism: Mechanism) -> bool
 
 /// Returns whether the mechanism can be selected.
 #[tactic(auto, using(crate::proofs::lemmas::machines::PolicyLemmas::taking))]
-fn can_take(
+fn can_take<O: Offer>(
     mechanism: Mechanism,
-    offer: &SymbolsView<'_>,
+    offer: &O,
     secret: &ClientSecret<'_>,
     policy: ClientPolicy,
 ) -> bool
-    ensures { (user : List ℕ) → MatchBool result (CanTake policy user (secret_of secret.now) offer.now mechanism)
-        (¬ CanTake policy user (secret_of secret.now) offer.now mechanism) }
+    ensures { (user : List ℕ) → MatchBool result (CanTake policy user (secret_of secret.now) (O.names offer.now) mechanism)
+        (¬ CanTake policy user (secret_of secret.now) (O.names offer.now) mechanism) }
 {
-    policy.allows(mechanism) && serves(secret, mechanism) && offer.contains(mechanism.name())
+    policy.allows(mechanism) && serves(secret, mechanism) && offer.offers(mechanism.name())
 }
 
 /// Returns the first of the mechanisms that can be selected.
-fn first_taken(
+fn first_taken<O: Offer>(
     mechanisms: &[Mechanism],
-    offer: &SymbolsView<'_>,
+    offer: &O,
     secret: &ClientSecret<'_>,
     policy: ClientPolicy,
 ) -> Option<Mechanism>
     ensures { (user : List ℕ) → MatchOption result
-        (AllByRecursion (λ other. ¬ CanTake policy user (secret_of secret.now) offer.now other) mechanisms.now)
-        (IsFirstTaken policy user (secret_of secret.now) offer.now mechanisms.now) }
+        (AllByRecursion (λ other. ¬ CanTake policy user (secret_of secret.now) (O.names offer.now) other) mechanisms.now)
+        (IsFirstTaken policy user (secret_of secret.now) (O.names offer.now) mechanisms.now) }
 {
     for mechanism in mechanisms {
         if can_take(*mechanism, offer, secret, policy) {
@@ -471,19 +471,19 @@ fn profile_by_mechanism(
 /// PLAIN use the password. The profile has sent nothing. `laws::selected_channels` says what it does with a channel.
 ///
 /// Errors: `NoAcceptableMechanism` if there is no such mechanism, and otherwise `OutOfMemory`.
-pub fn select_mechanism(
+pub fn select_mechanism<O: Offer>(
     alloc: Global,
-    offer: &SymbolsView<'_>,
+    offer: &O,
     username: &str,
     secret: &ClientSecret<'_>,
     policy: ClientPolicy,
 ) -> Result<SaslProfile, ChoiceError>
     ensures ok { IfOk result (λ profile.
-        SelectsProfile policy username.now (secret_of secret.now) offer.now (profile_of profile)) }
+        SelectsProfile policy username.now (secret_of secret.now) (O.names offer.now) (profile_of profile)) }
     ensures err { IfErr result (λ error. error ≢ ChoiceError.OutOfMemory
-        → AllByRecursion (λ other. ¬ CanTake policy username.now (secret_of secret.now) offer.now other) by_strength) }
+        → AllByRecursion (λ other. ¬ CanTake policy username.now (secret_of secret.now) (O.names offer.now) other) by_strength) }
     ensures memory { (result ≡ Err ChoiceError.OutOfMemory)
-        → ¬ AllByRecursion (λ other. ¬ CanTake policy username.now (secret_of secret.now) offer.now other) by_strength }
+        → ¬ AllByRecursion (λ other. ¬ CanTake policy username.now (secret_of secret.now) (O.names offer.now) other) by_strength }
 {
     let Some(mechanism) = first_taken(&BY_STRENGTH, offer, secret, policy) else {
         return Err(ChoiceError::NoAcceptableMechanism);

@@ -11,6 +11,7 @@ pub mod client_policy;
 pub mod events;
 pub mod login_attempts;
 mod mechanism_names;
+pub mod offer;
 pub mod plain_server;
 pub mod rejection;
 pub mod sasl_acceptor;
@@ -25,6 +26,7 @@ pub use crate::client_options::ClientOptions;
 pub use crate::client_policy::{ChoiceError, ClientPolicy, Mechanism, select_mechanism};
 pub use crate::events::{ClientReply, Event, EventError, ServerReply};
 pub use crate::login_attempts::{LoginAttempt, claimed_user};
+pub use crate::offer::Offer;
 pub use crate::plain_server::{MAX_PASSWORD_LEN, PlainPasswords};
 pub use crate::rejection::Rejection;
 pub use crate::sasl_acceptor::{
@@ -32,8 +34,8 @@ pub use crate::sasl_acceptor::{
     SaslServerFrame,
 };
 pub use crate::sasl_profile::{
-    Negotiation, ProfileError, SaslProfile, SaslScramSha1, SaslScramSha256, SaslScramSha512,
-    SingleMessage, UrlError,
+    Negotiation, PolicyLogin, ProfileError, SaslProfile, SaslScramSha1, SaslScramSha256,
+    SaslScramSha512, SingleMessage, UrlError,
 };
 pub use crate::server::Server;
 pub use crate::server::options::{

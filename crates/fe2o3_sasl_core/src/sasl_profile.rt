@@ -1,8 +1,9 @@
 //! The client's side of a negotiation: what it answers to the frames of a server (AMQP 1.0, part 5, section 5.3.2).
 
-ghost use Rattle.std.specs.Prelude.{◌≡◌, ◌++◌, ◌∷◌, [], false, IfOk, IfErr, OnOk, OnErr, MatchOption, IsAscii, option_map, string_bytes};
+ghost use Rattle.std.specs.Prelude.{◌≡◌, ◌++◌, ◌∷◌, [], false, None, IfOk, IfErr, OnOk, OnErr, MatchOption, IsAscii, option_map, string_bytes};
 ghost use Rattle.fe2o3_sasl_wire.specs.AmqpTypes.{binary_bytes};
-ghost use Rattle.fe2o3_sasl_core.specs.Profiles.{ScramProfile, PlainProfile, MessageProfile, AnonymousMessage, ExternalMessage, scram_profile, profile_name, initial_response, after_init};
+ghost use Rattle.fe2o3_scram.specs.ClientSecret.{secret_of};
+ghost use Rattle.fe2o3_sasl_core.specs.Profiles.{ScramProfile, PlainProfile, MessageProfile, PolicyProfile, AnonymousMessage, ExternalMessage, scram_profile, profile_name, initial_response, after_init};
 ghost use Rattle.fe2o3_sasl_core.specs.PlainWords.{ArePlainWords};
 ghost use Rattle.fe2o3_sasl_core.specs.Runs.{login_with};
 ghost use Rattle.fe2o3_sasl_core.specs.SaslProfile.{RefusesUrl, HasCredentials, profile_of};
@@ -10,6 +11,7 @@ ghost use Rattle.fe2o3_sasl_core.specs.SaslProfile.{RefusesUrl, HasCredentials, 
 mod acting;
 mod error;
 mod frames;
+mod policy;
 mod saved;
 mod scram;
 mod scram_frames;
@@ -17,14 +19,17 @@ mod single_message;
 
 use crate::OutOfMemory;
 use crate::client_options::ClientOptions;
+use crate::client_policy::ClientPolicy;
 use crate::mechanism_names::{ANONYMOUS, EXTERNAL, PLAIN, symbol_of};
 use crate::plain_server::is_plain_word;
 pub use error::{ProfileError, UrlError};
 use fe2o3_sasl_wire::{Binary, SaslInit, SaslOutcome, SaslResponse, Symbol};
+use fe2o3_scram::client_secret::ClientSecret;
 use fe2o3_scram::hmac::ScramVersion;
 use fe2o3_scram::scram_client::ScramClient;
 use fe2o3_scram::secrets::SecretText;
 pub(crate) use frames::outcome_of;
+pub use policy::PolicyLogin;
 pub use scram::{SaslScram, SaslScramSha1, SaslScramSha256, SaslScramSha512};
 use scram_frames::first_message;
 pub use single_message::SingleMessage;
@@ -76,6 +81,9 @@ pub enum SaslProfile {
 
     /// SCRAM-SHA-512.
     ScramSha512(SaslScramSha512),
+
+    /// A client that selects its mechanism from the server's offer, made by [`SaslProfile::by_policy`].
+    ByPolicy(Box<PolicyLogin>),
 }
 
 /// A profile's answer.
@@ -137,6 +145,27 @@ impl SaslProfile {
         SaslProfile::ExternalAs(SingleMessage::new(identity))
     }
 
+    /// Makes a profile that selects its mechanism from the server's offer, with a copy of the secret. When it receives the
+    /// offer, it becomes the profile that [`select_mechanism`](crate::select_mechanism) selects. If none can be selected, or
+    /// the selected one cannot ask to act for the identity of [`SaslProfile::acting_for`], it returns `NotImplemented`. Before
+    /// that it sends nothing, and rejects every other frame. OutOfMemory is the only error.
+    pub fn by_policy(
+        alloc: Global,
+        username: String,
+        secret: ClientSecret<'_>,
+        policy: ClientPolicy,
+    ) -> Result<SaslProfile, OutOfMemory>
+        ensures { IfOk result (λ profile. profile_of profile ≡ PolicyProfile (record {
+          user = string_bytes username;
+          secret = secret_of secret.entry;
+          policy = policy;
+          acts_for = None;
+        })) }
+    {
+        let login = PolicyLogin::new(alloc, username, secret, policy)?;
+        Ok(SaslProfile::ByPolicy(Box::new(alloc, login)?))
+    }
+
     /// Makes a PLAIN profile for the user name and the password of an address, in the spelling of `url`. That escapes
     /// blanks, controls, some signs and non-ASCII with percent signs, and no escape is decoded. The scheme is ignored,
     /// so `amqp` sends the password like `amqps` does. NoCredentials if one of the two is empty or absent.
@@ -177,7 +206,7 @@ impl SaslProfile {
         SaslProfile::scram_of(client)
     }
 
-    /// Returns the name of the mechanism.
+    /// Returns the name of the mechanism, which is empty before one is selected.
     pub(crate) fn name(&self) -> &'static str
         ensures name { result.now ≡ profile_name (profile_of self.now) }
         ensures ascii { IsAscii result.now }
@@ -191,17 +220,19 @@ impl SaslProfile {
             SaslProfile::ScramSha1(scram) => scram.client.mechanism(),
             SaslProfile::ScramSha256(scram) => scram.client.mechanism(),
             SaslProfile::ScramSha512(scram) => scram.client.mechanism(),
+            SaslProfile::ByPolicy(_) => "",
         }
     }
 
-    /// Returns the name of the mechanism, as a symbol.
+    /// Returns the name of the mechanism, as a symbol. It is empty before a client by a policy has selected one.
     pub fn mechanism(&self, alloc: Global) -> Result<Symbol, OutOfMemory>
         ensures { IfOk result (λ symbol. symbol ≡ profile_name (profile_of self.now)) }
     {
         symbol_of(alloc, self.name())
     }
 
-    /// Returns the initial response: nothing for ANONYMOUS and EXTERNAL, unless they were made with one; the message of
+    /// Returns the initial response: nothing for ANONYMOUS and EXTERNAL, unless they were made with one, and for a client
+    /// that has selected no mechanism; the message of
     /// PLAIN; and for SCRAM the client-first message of a restart, with a nonce of 32 bytes. An error leaves the profile
     /// unchanged.
     pub fn initial_response(
@@ -215,7 +246,7 @@ impl SaslProfile {
         ensures err { OnErr result (profile_of self.new ≡ profile_of self.old) }
     {
         match self {
-            SaslProfile::Anonymous | SaslProfile::External => Ok(None),
+            SaslProfile::Anonymous | SaslProfile::External | SaslProfile::ByPolicy(_) => Ok(None),
             SaslProfile::Plain { username, password } => {
                 Ok(Some(plain_message(alloc, "", username, password.as_str())?))
             }
@@ -264,6 +295,7 @@ impl Clone for SaslProfile {
             SaslProfile::ScramSha1(scram) => SaslProfile::ScramSha1(scram.clone()?),
             SaslProfile::ScramSha256(scram) => SaslProfile::ScramSha256(scram.clone()?),
             SaslProfile::ScramSha512(scram) => SaslProfile::ScramSha512(scram.clone()?),
+            SaslProfile::ByPolicy(login) => SaslProfile::ByPolicy(login.clone()?),
         })
     }
 }
@@ -324,6 +356,10 @@ impl fmt::Debug for SaslProfile {
             SaslProfile::ScramSha1(scram) => write!(f, "ScramSha1({scram:?})"),
             SaslProfile::ScramSha256(scram) => write!(f, "ScramSha256({scram:?})"),
             SaslProfile::ScramSha512(scram) => write!(f, "ScramSha512({scram:?})"),
+            SaslProfile::ByPolicy(login) => {
+                let username = &login.username;
+                write!(f, "ByPolicy {{ username: {username:?}, .. }}")
+            }
         }
     }
 }

@@ -2,13 +2,12 @@
 
 ghost use Rattle.std.specs.Prelude.{◌≡◌, ◌↔◌, ◌≤◌, ◌^◌, true, ℕ, List, Option, Some, Ok, IfOk, IfErr, OnErr};
 ghost use Rattle.fe2o3_sasl_core.specs.Bodies.{SpellsBody, server_says};
-ghost use Rattle.std.specs.List.{Contains};
 ghost use Rattle.fe2o3_sasl_wire.specs.FrameView.{shown, viewed_frame};
 ghost use Rattle.fe2o3_sasl_wire.specs.Owned.{owned_frame};
 ghost use Rattle.fe2o3_sasl_wire.specs.SaslFrames.{canonical, RefusesFrame, Challenge as ChallengeFrame, Mechanisms as MechanismsFrame, Outcome as OutcomeFrame};
 ghost use Rattle.fe2o3_sasl_core.specs.Costs.{CostsAtMost, AcceptorStepCosts, ProfileCosts, ProfileStepCosts};
 ghost use Rattle.fe2o3_sasl_core.specs.SaslAcceptor.{sent_frame};
-ghost use Rattle.fe2o3_sasl_core.specs.Profiles.{profile_name, StepAllocates};
+ghost use Rattle.fe2o3_sasl_core.specs.ProfileMachine.{StepAllocates};
 ghost use Rattle.fe2o3_sasl_core.specs.SaslProfile.{profile_of};
 ghost use Rattle.fe2o3_sasl_core.specs.Runs.{AcceptorAnswers, AcceptorSteps, ProfileReplies, ProfileSteps, given, server_answer, server_reply, client_answer};
 ghost use Rattle.fe2o3_sasl_core.specs.private.Writing.{IsRequest, Writes, WritesBody};
@@ -248,12 +247,7 @@ pub fn profile_frame_step(
     ensures cost { ProfileCosts (viewed_frame view.entry) (profile_of profile.old) result meter.old meter.new }
 {
     match view {
-        FrameView::Mechanisms(names) => {
-            if !names.contains(profile.name()) {
-                return Err(ProfileError::NotImplemented);
-            }
-            start(alloc, profile, &names, hostname, nonce)
-        }
+        FrameView::Mechanisms(names) => start(alloc, profile, &names, hostname, nonce),
         FrameView::Challenge(challenge) => {
             if let Some(fault) = profile.refusal_unread(challenge) {
                 return Err(fault);
@@ -269,7 +263,7 @@ pub fn profile_frame_step(
     }
 }
 
-/// Returns the init of a profile whose name the server has. The init is written before the profile is started.
+/// Returns the init of the profile that answers an offer. The init is written before the profile is started.
 fn start(
     alloc: Global,
     profile: &mut SaslProfile,
@@ -277,11 +271,12 @@ fn start(
     hostname: Option<&str>,
     nonce: &[u8; 32],
 ) -> Result<ClientReply, ProfileError>
-    requires { Contains names.now (profile_name (profile_of profile.old)) }
     ensures { ProfileReplies (shown hostname.entry) (profile_of profile.old) nonce.now (MechanismsFrame names.now)
         (client_answer result) (profile_of profile.new) }
 {
-    let mut next = profile.clone()?;
+    let Some(mut next) = profile.for_offer(alloc, names)? else {
+        return Err(ProfileError::NotImplemented);
+    };
     let init = next.start(alloc, hostname, nonce)?;
     match client_body_of(alloc, Frame::Init(init)) {
         Ok(body) => {
@@ -328,8 +323,8 @@ fn report(
     ensures { (hostname : Option (List ℕ)) (nonce : List ℕ) → ProfileReplies hostname (profile_of profile.old) nonce
         (OutcomeFrame code (shown additional_data.entry)) (client_answer result) (profile_of profile.new) }
 {
-    if let Some(kind) = profile.outcome_refusal_unread(code, additional_data) {
-        return Err(ProfileError::Scram(kind));
+    if let Some(fault) = profile.outcome_refusal_unread(code, additional_data) {
+        return Err(fault);
     }
     match outcome_of(alloc, code, additional_data) {
         Ok(outcome) => match profile.conclude(alloc, &outcome) {

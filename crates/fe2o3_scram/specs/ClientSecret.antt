@@ -3,10 +3,10 @@ use Rattle.std.specs.Prelude.{ℕ, ◌≡◌}
 use Rattle.fe2o3_scram.specs.declared.client_secret.ClientSecret.{ClientSecret}
 use Rattle.fe2o3_scram.specs.declared.client_secret.ClientSecret.TheVariants as code
 use Rattle.fe2o3_scram.specs.declared.client_secret.IterationLimits.{IterationLimits}
-use Rattle.fe2o3_scram.specs.declared.client_secret.KeptPassword.{KeptPassword}
-use Rattle.fe2o3_scram.specs.declared.client_secret.KeptSecret.{KeptSecret}
-use Rattle.fe2o3_scram.specs.declared.client_secret.KeptSecret.TheVariants as kept
-use Rattle.fe2o3_scram.specs.declared.client_secret.KeptPassword.TheVariants as passwords
+use Rattle.fe2o3_scram.specs.declared.client_secret.OwnedPassword.{OwnedPassword}
+use Rattle.fe2o3_scram.specs.declared.client_secret.OwnedSecret.{OwnedSecret}
+use Rattle.fe2o3_scram.specs.declared.client_secret.OwnedSecret.TheVariants as kept
+use Rattle.fe2o3_scram.specs.declared.client_secret.OwnedPassword.TheVariants as passwords
 use Rattle.fe2o3_scram.specs.declared.hmac.ScramVersion.{ScramVersion}
 use Rattle.fe2o3_scram.specs.ClientKeys.{ClientKeys}
 use Rattle.fe2o3_scram.specs.Passwords.{PasswordText, Typed, Prepared, password_of}
@@ -31,12 +31,12 @@ IsOfVersion version (Keys keys) = keys.version ≡ version
 IsOfVersion version (Both password keys) = keys.version ≡ version
 
 -- the password that a client keeps
-abbrev pub kept_password : KeptPassword → PasswordText
+abbrev pub kept_password : OwnedPassword → PasswordText
 kept_password (passwords.Typed text) = Typed text
 kept_password (passwords.Prepared text) = Prepared text
 
 -- the secret that a client keeps
-abbrev pub kept_secret : KeptSecret → Secret
+abbrev pub kept_secret : OwnedSecret → Secret
 kept_secret (kept.Password password) = Password (kept_password password)
 kept_secret (kept.Keys keys) = Keys keys
 kept_secret (kept.PasswordAndKeys password keys) = Both (kept_password password) keys

@@ -96,21 +96,24 @@ impl IterationLimits {
     }
 }
 
-/// An owned copy of a client's password.
+/// An owned copy of a client's password, which is overwritten before its memory is freed.
 #[derive(Drop)]
-pub(crate) enum KeptPassword {
+pub enum OwnedPassword {
+    /// The password as the user typed it.
     Typed(SecretText),
+
+    /// The password in its prepared form.
     Prepared(SecretText),
 }
 
-impl KeptPassword {
+impl OwnedPassword {
     /// Copies a password.
     fn of(alloc: Global, password: Password<'_>) -> Result<Self, OutOfMemory>
         ensures { IfOk result (λ kept. kept_password kept ≡ password_of password.entry) }
     {
         Ok(match password {
-            Password::Typed(text) => KeptPassword::Typed(SecretText::from_str(alloc, text)?),
-            Password::Prepared(text) => KeptPassword::Prepared(SecretText::from_str(alloc, text)?),
+            Password::Typed(text) => OwnedPassword::Typed(SecretText::from_str(alloc, text)?),
+            Password::Prepared(text) => OwnedPassword::Prepared(SecretText::from_str(alloc, text)?),
         })
     }
 
@@ -119,8 +122,8 @@ impl KeptPassword {
         ensures { password_of result ≡ kept_password self.now }
     {
         match self {
-            KeptPassword::Typed(text) => Password::Typed(text.as_str()),
-            KeptPassword::Prepared(text) => Password::Prepared(text.as_str()),
+            OwnedPassword::Typed(text) => Password::Typed(text.as_str()),
+            OwnedPassword::Prepared(text) => Password::Prepared(text.as_str()),
         }
     }
 
@@ -129,48 +132,56 @@ impl KeptPassword {
         ensures { IfOk result (λ copy. kept_password copy ≡ kept_password self.now) }
     {
         Ok(match self {
-            KeptPassword::Typed(text) => KeptPassword::Typed(text.clone()?),
-            KeptPassword::Prepared(text) => KeptPassword::Prepared(text.clone()?),
+            OwnedPassword::Typed(text) => OwnedPassword::Typed(text.clone()?),
+            OwnedPassword::Prepared(text) => OwnedPassword::Prepared(text.clone()?),
         })
     }
 }
 
-/// An owned copy of a client's secret.
+/// An owned copy of a client's secret ([`ClientSecret`]), which is overwritten before its memory is freed.
 #[derive(Drop)]
-pub(crate) enum KeptSecret {
-    Password(KeptPassword),
+pub enum OwnedSecret {
+    /// The password.
+    Password(OwnedPassword),
+
+    /// The keys of an earlier login.
     Keys(CachedKeys),
+
+    /// Both: the keys if they serve, and otherwise the password.
     PasswordAndKeys {
-        password: KeptPassword,
+        /// The password.
+        password: OwnedPassword,
+
+        /// The keys of an earlier login.
         keys: CachedKeys,
     },
 }
 
-impl KeptSecret {
+impl OwnedSecret {
     /// Copies a secret.
-    pub(crate) fn of(alloc: Global, secret: ClientSecret<'_>) -> Result<Self, OutOfMemory>
+    pub fn of(alloc: Global, secret: ClientSecret<'_>) -> Result<Self, OutOfMemory>
         ensures { IfOk result (λ kept. kept_secret kept ≡ secret_of secret.entry) }
     {
         Ok(match secret {
             ClientSecret::Password(password) => {
-                KeptSecret::Password(KeptPassword::of(alloc, password)?)
+                OwnedSecret::Password(OwnedPassword::of(alloc, password)?)
             }
-            ClientSecret::Keys(keys) => KeptSecret::Keys(keys.clone()?),
-            ClientSecret::PasswordAndKeys { password, keys } => KeptSecret::PasswordAndKeys {
-                password: KeptPassword::of(alloc, password)?,
+            ClientSecret::Keys(keys) => OwnedSecret::Keys(keys.clone()?),
+            ClientSecret::PasswordAndKeys { password, keys } => OwnedSecret::PasswordAndKeys {
+                password: OwnedPassword::of(alloc, password)?,
                 keys: keys.clone()?,
             },
         })
     }
 
     /// Lends the secret.
-    pub(crate) fn lent(&self) -> ClientSecret<'_>
+    pub fn lent(&self) -> ClientSecret<'_>
         ensures { secret_of result ≡ kept_secret self.now }
     {
         match self {
-            KeptSecret::Password(password) => ClientSecret::Password(password.lent()),
-            KeptSecret::Keys(keys) => ClientSecret::Keys(keys),
-            KeptSecret::PasswordAndKeys { password, keys } => ClientSecret::PasswordAndKeys {
+            OwnedSecret::Password(password) => ClientSecret::Password(password.lent()),
+            OwnedSecret::Keys(keys) => ClientSecret::Keys(keys),
+            OwnedSecret::PasswordAndKeys { password, keys } => ClientSecret::PasswordAndKeys {
                 password: password.lent(),
                 keys,
             },
@@ -178,14 +189,14 @@ impl KeptSecret {
     }
 }
 
-impl Clone for KeptSecret {
+impl Clone for OwnedSecret {
     ghost is_clone = { λ secret copy. kept_secret copy ≡ kept_secret secret };
 
     fn clone(&self) -> Result<Self, AllocError> {
         Ok(match self {
-            KeptSecret::Password(password) => KeptSecret::Password(password.copy()?),
-            KeptSecret::Keys(keys) => KeptSecret::Keys(keys.clone()?),
-            KeptSecret::PasswordAndKeys { password, keys } => KeptSecret::PasswordAndKeys {
+            OwnedSecret::Password(password) => OwnedSecret::Password(password.copy()?),
+            OwnedSecret::Keys(keys) => OwnedSecret::Keys(keys.clone()?),
+            OwnedSecret::PasswordAndKeys { password, keys } => OwnedSecret::PasswordAndKeys {
                 password: password.copy()?,
                 keys: keys.clone()?,
             },

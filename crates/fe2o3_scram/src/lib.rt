@@ -36,7 +36,7 @@ pub use crate::acting_rights::ActingRights;
 pub use crate::channel_binding::{
     ChannelBinding, ChannelBindings, ChannelData, ChannelDataLength, ChannelKind,
 };
-pub use crate::client_secret::{ClientSecret, ClientSecretError, IterationLimits};
+pub use crate::client_secret::{ClientSecret, ClientSecretError, IterationLimits, OwnedSecret};
 pub use crate::credentials::{
     AddRecordError, DEFAULT_SALT_LEN, DEFAULT_SCRAM_ITERATIONS, MultiRecordStore, ReadLinesError,
     ReadLinesErrorKind, RecordStore, RecordTextError, ScramRecord, SingleScramCredential,

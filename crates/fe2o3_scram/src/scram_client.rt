@@ -15,7 +15,7 @@ mod saved;
 
 use crate::OutOfMemory;
 use crate::client_secret::{
-    ClientSecret, ClientSecretError, IterationLimits, KeptPassword, KeptSecret,
+    ClientSecret, ClientSecretError, IterationLimits, OwnedPassword, OwnedSecret,
 };
 use crate::hmac::{Meter, ScramVersion};
 use crate::keys::CachedKeys;
@@ -75,7 +75,7 @@ impl ScramClientState {
 #[derive(Drop)]
 pub struct ScramClient {
     username: String,
-    secret: KeptSecret,
+    secret: OwnedSecret,
     scram: ScramVersion,
     limits: IterationLimits,
     channel: ClientChannel,
@@ -118,7 +118,7 @@ impl ScramClient {
         ensures { result ≡ fresh_client (string_bytes username) scram_version
             (ByPassword (Typed (string_bytes password))) }
     {
-        let secret = KeptSecret::Password(KeptPassword::Typed(SecretText::new(password)));
+        let secret = OwnedSecret::Password(OwnedPassword::Typed(SecretText::new(password)));
         ScramClient::by(username, secret, scram_version)
     }
 
@@ -148,12 +148,12 @@ impl ScramClient {
         if !secret.is_of_version(scram_version) {
             return Err(ClientSecretError::VersionMismatch);
         }
-        let secret = KeptSecret::of(alloc, secret)?;
+        let secret = OwnedSecret::of(alloc, secret)?;
         Ok(ScramClient::by(username, secret, scram_version))
     }
 
     /// Returns a client by this secret, which has sent nothing and accepts every count.
-    fn by(username: String, secret: KeptSecret, scram: ScramVersion) -> Self
+    fn by(username: String, secret: OwnedSecret, scram: ScramVersion) -> Self
         ensures { result ≡ fresh_client (string_bytes username) scram (kept_secret secret) }
     {
         Self {

@@ -10,7 +10,8 @@ use Rattle.fe2o3_scram.specs.ScramClient.{AnswersIn, ChecksSignatureIn, ClientSi
 use Rattle.fe2o3_scram.specs.declared.scram_messages.error.ScramErrorKind.{ScramErrorKind}
 use Rattle.fe2o3_sasl_core.specs.Bodies.{carried as sent_or_not}
 use Rattle.fe2o3_sasl_core.specs.Events.{ClientSays, Given, Reported}
-use Rattle.fe2o3_sasl_core.specs.Profiles.{AnonymousProfile, ChallengeReplies, ExternalProfile, MessageProfile, PlainProfile, Profile, ScramProfile, accepts_signature_by_challenge, client_frame, profile_machine}
+use Rattle.fe2o3_sasl_core.specs.Profiles.{AnonymousProfile, ExternalProfile, MessageProfile, PlainProfile, Profile, ScramProfile, accepts_signature_by_challenge}
+use Rattle.fe2o3_sasl_core.specs.ProfileMachine.{ChallengeReplies, client_frame, profile_machine}
 use Rattle.fe2o3_sasl_core.specs.Runs.{ProfileGives, Replies}
 use Rattle.fe2o3_sasl_core.specs.declared.sasl_profile.error.ProfileError.{ProfileError}
 use Rattle.fe2o3_sasl_negotiation.specs.ClientNegotiation.{ClientOutputs, ClientSideAnswers}

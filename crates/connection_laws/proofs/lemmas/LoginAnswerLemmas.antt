@@ -26,7 +26,8 @@ use Rattle.fe2o3_scram.proofs.lemmas.messages.ExchangeLemmas.{nonce_text}
 use Rattle.fe2o3_scram.proofs.lemmas.texts.AsciiLemmas.{IsUtf8-base64_text, IsUtf8-literal}
 use Rattle.fe2o3_sasl_core.specs.Events.{Login, is_strict_login, login_mechanism, Challenged, Concluded, Failed, Started, Answered, Reported, Refused, ServerSays, ClientSays, login_header}
 use Rattle.fe2o3_sasl_core.specs.declared.sasl_profile.error.ProfileError.TheVariants.{Frame as FrameFault}
-use Rattle.fe2o3_sasl_core.specs.Profiles.{Profile, ScramProfile, ChallengeReplies, scram_profile, accepts_signature_by_challenge}
+use Rattle.fe2o3_sasl_core.specs.Profiles.{Profile, ScramProfile, scram_profile, accepts_signature_by_challenge}
+use Rattle.fe2o3_sasl_core.specs.ProfileMachine.{ChallengeReplies}
 use Rattle.fe2o3_sasl_core.specs.Runs.{SendsCanonical, AcceptorGives, ProfileReplies}
 use Rattle.fe2o3_sasl_core.specs.SaslAcceptor.{Acceptor, ScramAcceptor, acceptor_names, acceptor_machine}
 use Rattle.fe2o3_sasl_core.specs.TwoSides.{sides_of}

@@ -7,7 +7,8 @@ use Rattle.fe2o3_sasl_wire.specs.SaslFrames.{SaslFrame, canonical}
 use Rattle.fe2o3_scram.specs.ScramClient.{ClientSide, expects_signature}
 use Rattle.fe2o3_sasl_core.specs.Bodies.{carried}
 use Rattle.fe2o3_sasl_core.specs.Events.{Given, ClientSays}
-use Rattle.fe2o3_sasl_core.specs.Profiles.{Profile, ScramProfile, PlainProfile, AnonymousProfile, ExternalProfile, MessageProfile, ChallengeReplies, profile_machine, is_scram}
+use Rattle.fe2o3_sasl_core.specs.Profiles.{Profile, ScramProfile, PlainProfile, AnonymousProfile, ExternalProfile, MessageProfile, is_scram}
+use Rattle.fe2o3_sasl_core.specs.ProfileMachine.{ChallengeReplies, profile_machine}
 use Rattle.fe2o3_sasl_core.specs.Runs.{ProfileGives, ProfileSteps, Replies, Runs}
 use Rattle.fe2o3_sasl_core.specs.declared.sasl_profile.error.ProfileError.{ProfileError}
 

@@ -13,6 +13,7 @@ pub mod ResponseCostLemmas
 pub mod RunCostLemmas
 pub mod NameLemmas
 pub mod PolicyLemmas
+pub mod SelectionLemmas
 pub mod ChannelPolicyLemmas
 pub mod AnyMechanismLemmas
 pub mod UnknownUserLemmas

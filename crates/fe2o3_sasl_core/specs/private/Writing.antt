@@ -1,12 +1,29 @@
 -- Which frames are answered, and how replies are written in bodies. Only contracts of private functions cite this.
-use Rattle.std.specs.Prelude.{◌≡◌, ℕ, List, Option, Some, None, Result, Ok, Err}
+use Rattle.std.specs.Prelude.{◌≡◌, ℕ, Bool, true, false, List, Option, Some, None, Result, Ok, Err}
+use Rattle.std.specs.List.{Contains}
 use Rattle.fe2o3_sasl_wire.specs.SaslFrames as frames
 use Rattle.fe2o3_sasl_wire.specs.SaslFrames.{SaslFrame}
 use Rattle.fe2o3_sasl_wire.specs.declared.sasl_frames.error.Error.{Error}
 use Rattle.fe2o3_sasl_wire.specs.declared.sasl_frames.error.Error.TheVariants as faults
 use Rattle.fe2o3_sasl_core.specs.declared.sasl_profile.error.ProfileError.{ProfileError}
 use Rattle.fe2o3_sasl_core.specs.declared.sasl_profile.error.ProfileError.TheVariants as profile_faults
-use Rattle.fe2o3_sasl_core.specs.Profiles.{Profile, FrameAllocates, ProfileAnswers, profile_machine}
+use Rattle.fe2o3_sasl_core.specs.Profiles.{Profile, PolicyProfile, profile_name}
+use Rattle.fe2o3_sasl_core.specs.ProfileMachine.{FrameAllocates, IsSelected, NoneIsSelected, ProfileAnswers, profile_machine}
+
+-- whether a profile is by a policy, and has selected no mechanism yet
+abbrev pub is_by_policy : Profile → Bool
+is_by_policy (PolicyProfile selection) = true
+is_by_policy profile = false
+
+-- the profile that answers these mechanisms: its own is among them, or it is selected of them
+abbrev pub IsFor : Profile → List (List ℕ) → Profile → Type 0
+IsFor (PolicyProfile selection) names chosen = IsSelected selection names chosen
+IsFor profile names chosen = Contains names (profile_name profile) × (chosen ≡ profile)
+
+-- none does
+abbrev pub NoneIsFor : Profile → List (List ℕ) → Type 0
+NoneIsFor (PolicyProfile selection) names = NoneIsSelected selection names
+NoneIsFor profile names = ¬ Contains names (profile_name profile)
 
 -- what a profile answers to a frame, for any hostname and nonce
 abbrev pub AnswersAlways : Profile → SaslFrame → Result SaslFrame ProfileError → Profile → Type 0

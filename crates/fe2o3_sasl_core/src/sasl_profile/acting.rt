@@ -17,6 +17,7 @@ impl SaslProfile {
     /// - SCRAM names it in the GS2 header, like [`ScramClient::acting_for`](fe2o3_scram::scram_client::ScramClient::acting_for).
     /// - PLAIN names it in the first part of its message (RFC 4616, section 2).
     /// - EXTERNAL sends it as its initial response, like [`SaslProfile::external_as`].
+    /// - A client by a policy names it by the profile that it selects.
     ///
     /// Returns `None`
     /// - for ANONYMOUS, which names no identity;
@@ -49,6 +50,11 @@ impl SaslProfile {
             }
             SaslProfile::ScramSha512(scram) => {
                 Some(SaslProfile::ScramSha512(scram.acting_for(Some(identity))))
+            }
+            SaslProfile::ByPolicy(login) => {
+                let mut login = login;
+                login.act_for(identity);
+                Some(SaslProfile::ByPolicy(login))
             }
         }
     }

@@ -1,33 +1,32 @@
 //! Answers the frames of a server (AMQP 1.0, part 5, section 5.3.2).
 
-ghost use Rattle.std.specs.Prelude.{◌≡◌, ◌↔◌, ◌≤◌, ◌^◌, Option, Some, ℕ, List, IfOk, IfErr, OnOk, OnErr, MatchOption, IsTrue};
-ghost use Rattle.fe2o3_sasl_core.specs.declared.sasl_profile.error.ProfileError.TheVariants.{Scram};
-ghost use Rattle.std.specs.List.{Contains};
+ghost use Rattle.std.specs.Prelude.{◌≡◌, ◌≢◌, ◌≤◌, ◌^◌, Option, Some, ℕ, List, IfOk, IfErr, OnOk, OnErr, MatchOption};
+ghost use Rattle.fe2o3_sasl_core.specs.declared.sasl_profile.error.ProfileError.TheVariants.{OutOfMemory as FaultOfMemory};
 ghost use Rattle.fe2o3_sasl_wire.specs.AmqpTypes.{init_frame, response_frame, outcome_frame};
 ghost use Rattle.fe2o3_sasl_wire.specs.FrameView.{shown, viewed_frame};
 ghost use Rattle.fe2o3_sasl_wire.specs.Owned.{owned_frame};
-ghost use Rattle.fe2o3_sasl_wire.specs.SaslFrames.{Init, Challenge, Outcome};
+ghost use Rattle.fe2o3_sasl_wire.specs.SaslFrames.{Init, Challenge, Mechanisms, Outcome};
 ghost use Rattle.fe2o3_sasl_core.specs.Costs.{ProfileCosts};
-ghost use Rattle.fe2o3_sasl_core.specs.Profiles.{profile_name, initial_response, after_init, FrameAllocates, ViewAllocates, StepAllocates, ProfileAnswers};
+ghost use Rattle.fe2o3_sasl_core.specs.Profiles.{profile_name, initial_response, after_init};
+ghost use Rattle.fe2o3_sasl_core.specs.ProfileMachine.{FrameAllocates, OfferAllocates, ViewAllocates, StepAllocates, ProfileAnswers};
 ghost use Rattle.fe2o3_sasl_core.specs.ProfileFaults.{answered};
 ghost use Rattle.fe2o3_sasl_core.specs.SaslProfile.{negotiated_frame, profile_of};
-ghost use Rattle.fe2o3_sasl_core.specs.private.Writing.{AnswersAlways, RefusesAlways};
+ghost use Rattle.fe2o3_sasl_core.specs.private.Writing.{AnswersAlways, IsFor, NoneIsFor, RefusesAlways, is_by_policy};
 
 use super::scram_frames::{answer, outcome_refusal_unread, refusal_unread, verify};
 use super::{Negotiation, ProfileError, SaslProfile};
 use crate::OutOfMemory;
-use fe2o3_sasl_wire::{
-    Binary, Frame, FrameView, SaslCode, SaslInit, SaslMechanisms, SaslOutcome, SaslResponse,
-};
+use crate::offer::Offer;
+use fe2o3_sasl_wire::{Binary, Frame, FrameView, SaslCode, SaslInit, SaslOutcome, SaslResponse};
 use fe2o3_scram::hmac::Meter;
-use fe2o3_scram::scram_messages::ScramErrorKind;
 use std::alloc::Global;
 
 impl SaslProfile {
     /// Answers a frame of the server: mechanisms with the profile's name by an init with this hostname, a challenge by
-    /// a response, an outcome by itself. Errors: NotImplemented for mechanisms without the name, for a challenge to a
-    /// profile other than SCRAM, unless `answers_empty_challenge` and it is empty, and for an init or a response;
-    /// otherwise those of SCRAM. An error leaves the profile unchanged.
+    /// a response, an outcome by itself. A client by a policy becomes the profile that it selects from the mechanisms.
+    /// Errors: NotImplemented for mechanisms without the name, or from which none is selected; before that for every other
+    /// frame; for a challenge to a profile other than SCRAM, unless `answers_empty_challenge` and it is empty; and for an init
+    /// or a response; otherwise those of SCRAM. An error leaves the profile unchanged.
     pub fn on_frame(
         &mut self,
         alloc: Global,
@@ -61,10 +60,7 @@ impl SaslProfile {
     {
         match frame {
             Frame::Mechanisms(mechanisms) => {
-                if !has_name(&mechanisms, self.name()) {
-                    return Err(ProfileError::NotImplemented);
-                }
-                Ok(Negotiation::Init(self.start(alloc, hostname, nonce)?))
+                Ok(Negotiation::Init(self.answer_offer(alloc, &mechanisms, hostname, nonce)?))
             }
             Frame::Challenge(challenge) => {
                 match self.respond(alloc, &challenge.challenge.0, meter) {
@@ -113,10 +109,7 @@ impl SaslProfile {
     {
         match view {
             FrameView::Mechanisms(names) => {
-                if !names.contains(self.name()) {
-                    return Err(ProfileError::NotImplemented);
-                }
-                Ok(Negotiation::Init(self.start(alloc, hostname, nonce)?))
+                Ok(Negotiation::Init(self.answer_offer(alloc, &names, hostname, nonce)?))
             }
             FrameView::Challenge(challenge) => {
                 let response = self.respond(alloc, challenge, meter)?;
@@ -126,8 +119,8 @@ impl SaslProfile {
                 code,
                 additional_data,
             } => {
-                if let Some(kind) = self.outcome_refusal_unread(code, additional_data) {
-                    return Err(ProfileError::Scram(kind));
+                if let Some(fault) = self.outcome_refusal_unread(code, additional_data) {
+                    return Err(fault);
                 }
                 match outcome_of(alloc, code, additional_data) {
                     Ok(outcome) => {
@@ -139,6 +132,44 @@ impl SaslProfile {
             }
             FrameView::Init { .. } | FrameView::Response(_) => Err(ProfileError::NotImplemented),
         }
+    }
+
+    /// Returns the profile that answers an offer: a copy of this one if its mechanism is offered, and of a client by a
+    /// policy the one that it selects.
+    pub(crate) fn for_offer<O: Offer>(
+        &self,
+        alloc: Global,
+        offer: &O,
+    ) -> Result<Option<SaslProfile>, OutOfMemory>
+        ensures ok { IfOk result (λ next. MatchOption next (NoneIsFor (profile_of self.now) (O.names offer.now))
+            (λ next. IsFor (profile_of self.now) (O.names offer.now) (profile_of next))) }
+        ensures err { OnErr result (OfferAllocates (profile_of self.now) (O.names offer.now)) }
+    {
+        match self {
+            SaslProfile::ByPolicy(login) => login.selected(alloc, offer),
+            profile if offer.offers(profile.name()) => Ok(Some(profile.clone()?)),
+            _ => Ok(None),
+        }
+    }
+
+    /// Returns the init for an offer. Errors: NotImplemented if no profile answers it, and OutOfMemory.
+    fn answer_offer<O: Offer>(
+        &mut self,
+        alloc: Global,
+        offer: &O,
+        hostname: Option<&str>,
+        nonce: &[u8; 32],
+    ) -> Result<SaslInit, ProfileError>
+        ensures answer { ProfileAnswers FrameAllocates (profile_of self.old) (shown hostname.entry) nonce.now
+            (Mechanisms (O.names offer.now)) (answered init_frame result) (profile_of self.new) }
+        ensures err { OnErr result (profile_of self.new ≡ profile_of self.old) }
+    {
+        let Some(mut next) = self.for_offer(alloc, offer)? else {
+            return Err(ProfileError::NotImplemented);
+        };
+        let init = next.start(alloc, hostname, nonce)?;
+        *self = next;
+        Ok(init)
     }
 
     /// Returns the init for a server that has the mechanism.
@@ -177,6 +208,7 @@ impl SaslProfile {
             SaslProfile::Plain { .. } | SaslProfile::PlainAs { .. } => {
                 Some(ProfileError::NotImplemented)
             }
+            SaslProfile::ByPolicy(_) => Some(ProfileError::NotImplemented),
             SaslProfile::AnonymousAs(single) => single.refusal_unread(challenge),
             SaslProfile::ExternalAs(single) => single.refusal_unread(challenge),
             SaslProfile::ScramSha1(scram) => refusal_unread(&scram.client, challenge),
@@ -185,19 +217,31 @@ impl SaslProfile {
         }
     }
 
-    /// Returns why an outcome is rejected before its data are copied: SCRAM reads them, and they are not expected, or
-    /// not UTF-8.
+    /// Returns whether the profile is by a policy, and has selected no mechanism yet.
+    fn is_by_policy(&self) -> bool
+        ensures { result ≡ is_by_policy (profile_of self.now) }
+    {
+        matches!(self, SaslProfile::ByPolicy(_))
+    }
+
+    /// Returns why an outcome is rejected before its data are copied: no mechanism is selected; or SCRAM reads them, and they
+    /// are not expected, or not UTF-8.
     pub(crate) fn outcome_refusal_unread(
         &self,
         code: SaslCode,
         additional_data: Option<&[u8]>,
-    ) -> Option<ScramErrorKind>
+    ) -> Option<ProfileError>
         ensures { MatchOption result ((text : List ℕ) → shown additional_data.entry ≡ Some text
             → StepAllocates (profile_of self.now) (Outcome code (Some text)))
-            (λ kind. RefusesAlways (profile_of self.now) (Outcome code (shown additional_data.entry)) (Scram kind)) }
+            (λ fault. (fault ≢ FaultOfMemory)
+            × RefusesAlways (profile_of self.now) (Outcome code (shown additional_data.entry)) fault) }
     {
         match self.scram_client() {
-            Some(client) => outcome_refusal_unread(client, code, additional_data),
+            Some(client) => match outcome_refusal_unread(client, code, additional_data) {
+                Some(kind) => Some(ProfileError::Scram(kind)),
+                None => None,
+            },
+            None if self.is_by_policy() => Some(ProfileError::NotImplemented),
             None => None,
         }
     }
@@ -220,6 +264,7 @@ impl SaslProfile {
             SaslProfile::Plain { .. } | SaslProfile::PlainAs { .. } => {
                 Err(ProfileError::NotImplemented)
             }
+            SaslProfile::ByPolicy(_) => Err(ProfileError::NotImplemented),
             SaslProfile::AnonymousAs(single) => single.respond(alloc, challenge),
             SaslProfile::ExternalAs(single) => single.respond(alloc, challenge),
             SaslProfile::ScramSha1(scram) => answer(&mut scram.client, alloc, challenge, meter),
@@ -243,23 +288,12 @@ impl SaslProfile {
             SaslProfile::Anonymous | SaslProfile::External => Ok(()),
             SaslProfile::Plain { .. } | SaslProfile::PlainAs { .. } => Ok(()),
             SaslProfile::AnonymousAs(_) | SaslProfile::ExternalAs(_) => Ok(()),
+            SaslProfile::ByPolicy(_) => Err(ProfileError::NotImplemented),
             SaslProfile::ScramSha1(scram) => verify(&mut scram.client, alloc, outcome),
             SaslProfile::ScramSha256(scram) => verify(&mut scram.client, alloc, outcome),
             SaslProfile::ScramSha512(scram) => verify(&mut scram.client, alloc, outcome),
         }
     }
-}
-
-/// Returns whether the name is among the mechanisms.
-fn has_name(mechanisms: &SaslMechanisms, name: &str) -> bool
-    ensures { IsTrue result ↔ Contains mechanisms.now.sasl_server_mechanisms.0.items name.now }
-{
-    for symbol in &mechanisms.sasl_server_mechanisms.0 {
-        if symbol.as_str() == name {
-            return true;
-        }
-    }
-    false
 }
 
 /// Returns an outcome with a copy of its data.

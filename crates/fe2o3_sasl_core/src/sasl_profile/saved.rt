@@ -26,6 +26,7 @@ impl SaslProfile {
             SaslProfile::Anonymous | SaslProfile::External => None,
             SaslProfile::Plain { .. } | SaslProfile::PlainAs { .. } => None,
             SaslProfile::AnonymousAs(_) | SaslProfile::ExternalAs(_) => None,
+            SaslProfile::ByPolicy(_) => None,
             SaslProfile::ScramSha1(scram) => Some(&scram.client),
             SaslProfile::ScramSha256(scram) => Some(&scram.client),
             SaslProfile::ScramSha512(scram) => Some(&scram.client),

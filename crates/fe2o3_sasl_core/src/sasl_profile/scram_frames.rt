@@ -8,7 +8,8 @@ ghost use Rattle.fe2o3_sasl_wire.specs.SaslFrames.{Challenge, Outcome};
 ghost use Rattle.std.specs.Str.{IsUtf8};
 ghost use Rattle.fe2o3_scram.specs.ScramClient.{expects_signature};
 ghost use Rattle.fe2o3_sasl_core.specs.Costs.{ProfileCosts};
-ghost use Rattle.fe2o3_sasl_core.specs.Profiles.{ScramProfile, FrameAllocates, StepAllocates, ProfileAnswers, initial_response, after_init};
+ghost use Rattle.fe2o3_sasl_core.specs.Profiles.{ScramProfile, initial_response, after_init};
+ghost use Rattle.fe2o3_sasl_core.specs.ProfileMachine.{FrameAllocates, StepAllocates, ProfileAnswers};
 ghost use Rattle.fe2o3_sasl_core.specs.ProfileFaults.{answered};
 ghost use Rattle.fe2o3_sasl_core.specs.private.Writing.{AnswersAlways, RefusesAlways};
 

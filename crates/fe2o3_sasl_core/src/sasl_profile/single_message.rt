@@ -3,7 +3,8 @@
 ghost use Rattle.std.specs.Prelude.{◌≡◌, IfOk, MatchBool, MatchOption, OnErr, OnOk, true, false, string_bytes};
 ghost use Rattle.fe2o3_sasl_wire.specs.AmqpTypes.{binary_bytes, response_frame};
 ghost use Rattle.fe2o3_sasl_wire.specs.SaslFrames.{Challenge};
-ghost use Rattle.fe2o3_sasl_core.specs.Profiles.{MessageMechanism, StepAllocates};
+ghost use Rattle.fe2o3_sasl_core.specs.Profiles.{MessageMechanism};
+ghost use Rattle.fe2o3_sasl_core.specs.ProfileMachine.{StepAllocates};
 ghost use Rattle.fe2o3_sasl_core.specs.ProfileFaults.{answered};
 ghost use Rattle.fe2o3_sasl_core.specs.declared.sasl_profile.error.ProfileError.TheVariants.{NotImplemented};
 ghost use Rattle.fe2o3_sasl_core.specs.SaslProfile.{message_profile};

@@ -10,7 +10,8 @@ use Rattle.fe2o3_scram.specs.ScramClient.{ClientSide, ClientState, AnswersIn, Ch
 use Rattle.fe2o3_scram.specs.ScramClient as client_states
 use Rattle.fe2o3_sasl_core.specs.Events.{Given, Failed, ClientSays, Started, Answered, Refused}
 use Rattle.fe2o3_sasl_core.specs.Bodies.{carried, server_says}
-use Rattle.fe2o3_sasl_core.specs.Profiles.{Profile, ScramProfile, PlainProfile, AnonymousProfile, ExternalProfile, ChallengeReplies, client_frame, profile_machine, MessageProfile}
+use Rattle.fe2o3_sasl_core.specs.Profiles.{Profile, ScramProfile, PlainProfile, AnonymousProfile, ExternalProfile, MessageProfile}
+use Rattle.fe2o3_sasl_core.specs.ProfileMachine.{ChallengeReplies, client_frame, profile_machine}
 use Rattle.fe2o3_sasl_core.specs.Runs.{SendsCanonical, AcceptorAnswers, AcceptorGives, AcceptorSteps, Replies, ProfileSteps}
 use Rattle.fe2o3_sasl_core.specs.declared.sasl_profile.error.ProfileError.{ProfileError}
 use Rattle.fe2o3_sasl_core.specs.declared.sasl_profile.error.ProfileError.TheVariants.{Frame}

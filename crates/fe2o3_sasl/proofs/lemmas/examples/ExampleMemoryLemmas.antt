@@ -13,7 +13,8 @@ use Rattle.fe2o3_scram.specs.ScramClient.{ClientSide, ClientState, ReachesSaltIn
 use Rattle.fe2o3_sasl_core.specs.ClientHistory.{ClientAllocates}
 use Rattle.fe2o3_sasl_core.specs.Events.{Login}
 use Rattle.fe2o3_sasl_core.specs.Laws.{WantsAtServer}
-use Rattle.fe2o3_sasl_core.specs.Profiles.{Profile, ScramProfile, PlainProfile, AnonymousProfile, ExternalProfile, FrameAllocates, ViewAllocates, StepAllocates, ChallengeAllocates, IsChallengeDue, IsStarted, IsAnswered, MessageProfile}
+use Rattle.fe2o3_sasl_core.specs.Profiles.{Profile, ScramProfile, PlainProfile, AnonymousProfile, ExternalProfile, MessageProfile}
+use Rattle.fe2o3_sasl_core.specs.ProfileMachine.{FrameAllocates, ViewAllocates, StepAllocates, ChallengeAllocates, IsChallengeDue, IsStarted, IsAnswered}
 use Rattle.fe2o3_sasl.specs.examples.MemoryExamples.{AcceptorsAskForNone, AskForNone, OwnedAskForNone, ServersWantNone, ClientsWantNone}
 use Rattle.fe2o3_sasl.proofs.lemmas.machines.MechanismLemmas.{other_name}
 

@@ -20,7 +20,8 @@ use Rattle.fe2o3_scram.specs.ScramClient.{ClientSide, ClientState, ClientInitial
 use Rattle.fe2o3_scram.proofs.lemmas.messages.KeptKeyLemmas.{keys_stand}
 use Rattle.fe2o3_sasl_core.specs.Events.{Given, Login, ClientSays, Refused}
 use Rattle.fe2o3_sasl_core.specs.Laws.{KeysFit, KeyedRunsAreRuns, KeyedRunsAreHistories}
-use Rattle.fe2o3_sasl_core.specs.Profiles.{Profile, ScramProfile, ChallengeReplies, StepAllocates, client_frame, profile_machine}
+use Rattle.fe2o3_sasl_core.specs.Profiles.{Profile, ScramProfile}
+use Rattle.fe2o3_sasl_core.specs.ProfileMachine.{ChallengeReplies, StepAllocates, client_frame, profile_machine}
 use Rattle.fe2o3_sasl_core.specs.Runs.{ProfileGives, ProfileReplies, ProfileSteps, Replies, Runs, SendsCanonical}
 use Rattle.fe2o3_sasl_core.specs.Bodies.{SpellsBody}
 use Rattle.fe2o3_sasl_core.proofs.lemmas.machines.ClientMachineLemmas.{profile_runs_are_histories}

@@ -6,7 +6,8 @@ use Rattle.fe2o3_sasl_wire.specs.SaslFrames as frames
 use Rattle.fe2o3_sasl_wire.specs.SaslFrames.{SaslFrame}
 use Rattle.fe2o3_scram.proofs.lemmas.texts.DecisionLemmas.{Decided}
 use Rattle.fe2o3_sasl_core.specs.MechanismLaws.{SomeAcceptorReply, SomeProfileReply}
-use Rattle.fe2o3_sasl_core.specs.Profiles.{Profile, ScramProfile, PlainProfile, AnonymousProfile, ExternalProfile, MessageProfile, MessageMechanism, message_name, profile_machine, profile_name, initial_response, after_init}
+use Rattle.fe2o3_sasl_core.specs.Profiles.{Profile, ScramProfile, PlainProfile, AnonymousProfile, ExternalProfile, MessageProfile, MessageMechanism, message_name, profile_name, initial_response, after_init}
+use Rattle.fe2o3_sasl_core.specs.ProfileMachine.{profile_machine}
 use Rattle.fe2o3_sasl_core.specs.SaslAcceptor.{Acceptor, ScramAcceptor, PlainAcceptor, AnonymousAcceptor, acceptor_machine, ends_with, server_frame, NamesPlain}
 use Rattle.fe2o3_sasl_core.proofs.lemmas.machines.SomeRunLemmas.{some_start, some_conclusion, some_move, contains_or}
 use Rattle.fe2o3_sasl_core.proofs.lemmas.machines.ZeroPartLemmas.{names_plain_or}

@@ -11,10 +11,10 @@ use Rattle.fe2o3_sasl_core.proofs.lemmas.machines.PolicyLemmas.{each_more}
 use Rattle.fe2o3_sasl_core.proofs.client_policy.first_taken.Goals as goal
 
 pub returns-then-can_take : goal.returns-then-can_take
-returns-then-can_take c user =
+returns-then-can_take g c user =
     let xs = c.args.mechanisms.now in
     let k = c.loop-mechanism.mechanism-index in
-    let can = CanTake c.args.policy user (secret_of c.args.secret.now) c.args.offer.now (get_or xs k ScramSha512Plus) in (
+    let can = CanTake c.args.policy user (secret_of c.args.secret.now) (g.O.Offer.names c.args.offer.now) (get_or xs k ScramSha512Plus) in (
       k,
       slice_get-get_or xs k ScramSha512Plus c.loop-mechanism-test.true,
       subst (λ (told : Bool). MatchBool told can (¬ can)) c.if-can_take.true (c.can_take.ensures user),
@@ -22,19 +22,19 @@ returns-then-can_take c user =
     )
 
 pub loop-mechanism-preserved : goal.loop-mechanism-preserved
-loop-mechanism-preserved c user =
+loop-mechanism-preserved g c user =
     let xs = c.args.mechanisms.now in
     let k = c.loop-mechanism.mechanism-index in
-    let can = CanTake c.args.policy user (secret_of c.args.secret.now) c.args.offer.now (get_or xs k ScramSha512Plus) in
-    each_more (λ (other : Mechanism). ¬ CanTake c.args.policy user (secret_of c.args.secret.now) c.args.offer.now other)
+    let can = CanTake c.args.policy user (secret_of c.args.secret.now) (g.O.Offer.names c.args.offer.now) (get_or xs k ScramSha512Plus) in
+    each_more (λ (other : Mechanism). ¬ CanTake c.args.policy user (secret_of c.args.secret.now) (g.O.Offer.names c.args.offer.now) other)
     xs k ScramSha512Plus c.loop-mechanism-test.true (c.loop-mechanism.invariant user)
     (subst (λ (told : Bool). MatchBool told can (¬ can)) c.if-can_take.false (c.can_take.ensures user))
 
 pub returns : goal.returns
-returns c user =
+returns g c user =
     let xs = c.args.mechanisms.now in
     let k = c.loop-mechanism.mechanism-index in
     subst
     (AllByRecursion
-    (λ (other : Mechanism). ¬ CanTake c.args.policy user (secret_of c.args.secret.now) c.args.offer.now other))
+    (λ (other : Mechanism). ¬ CanTake c.args.policy user (secret_of c.args.secret.now) (g.O.Offer.names c.args.offer.now) other))
     (take_all k xs (omega arith)) (c.loop-mechanism.invariant user)

@@ -5,6 +5,6 @@ use Rattle.fe2o3_sasl_core.specs.ClientPolicy.{CanTake}
 use Rattle.fe2o3_sasl_core.proofs.client_policy.first_taken.Given as goal
 
 abbrev pub invariant-loop-mechanism : goal.invariant-loop-mechanism
-invariant-loop-mechanism l = (user : List ℕ)
-    → AllByRecursion (λ other. ¬ CanTake l.policy user (secret_of l.secret) l.offer other)
+invariant-loop-mechanism g l = (user : List ℕ)
+    → AllByRecursion (λ other. ¬ CanTake l.policy user (secret_of l.secret) (g.O.Offer.names l.offer) other)
     (take l.mechanism-index l.mechanisms)

@@ -17,7 +17,8 @@ use Rattle.fe2o3_scram.proofs.lemmas.messages.ServerFinalLemmas.{not_utf8 as not
 use Rattle.fe2o3_sasl_core.specs.ClientHistory.{Answering, answer_at, says_answer, MaySign, ReadsChallenge, ReadsSigning, ClientAnswers, ClientAllocates, is_start, is_answer, ends_answer}
 use Rattle.fe2o3_scram.specs.ScramClient.{ClientState, ClientInitial, ClientFirstSent, ClientFinalSent, SignatureVerified, Complete, ClientSide, AnswersIn, ChecksSignatureIn, ConcludesIn, VerifiesIn, expects_signature}
 use Rattle.fe2o3_sasl_core.specs.Events.{is_strict_login, Given, Login, login_mechanism, ClientSays, Started, Answered, Reported, Refused, scram_fault, login_header}
-use Rattle.fe2o3_sasl_core.specs.Profiles.{Profile, ScramProfile, ChallengeReplies, client_frame, profile_machine, StepAllocates}
+use Rattle.fe2o3_sasl_core.specs.Profiles.{Profile, ScramProfile}
+use Rattle.fe2o3_sasl_core.specs.ProfileMachine.{ChallengeReplies, client_frame, profile_machine, StepAllocates}
 use Rattle.fe2o3_sasl_core.specs.Runs.{Replies, ProfileGives}
 use Rattle.fe2o3_sasl_core.specs.Bodies.{carried}
 use Rattle.fe2o3_sasl_core.proofs.lemmas.frames.SpellingLemmas.{sent}

@@ -14,10 +14,12 @@ use Rattle.fe2o3_sasl_core.specs.ClientHistory.{Answering, ClientAllocates, Clie
 use Rattle.fe2o3_sasl_core.specs.Events.{Given, Login, Answered, Reported, Refused, Failed, scram_fault}
 use Rattle.fe2o3_sasl_core.specs.Laws.{WantsAtServer, ServersWantMemory, ClientsWantMemory, ProfilesWantMemory}
 use Rattle.fe2o3_scram.specs.ScramClient.{ClientSide, expects_signature}
-use Rattle.fe2o3_sasl_core.specs.Profiles.{Profile, ScramProfile, ChallengeReplies, client_frame, profile_machine, StepAllocates, MessageProfile}
+use Rattle.fe2o3_sasl_core.specs.Profiles.{Profile, ScramProfile, MessageProfile, PolicyProfile}
+use Rattle.fe2o3_sasl_core.specs.ProfileMachine.{ChallengeReplies, OfferAllocates, OfferAnswers, client_frame, profile_machine, StepAllocates}
 use Rattle.fe2o3_sasl_core.specs.Runs.{Replies}
 use Rattle.fe2o3_sasl_core.specs.Bodies.{SpellsBody, carried}
 use Rattle.fe2o3_sasl_core.specs.ServerHistory.{Challenging, Open, ServerAllocates, ServerAnswers}
+use Rattle.fe2o3_sasl_core.proofs.lemmas.machines.SelectionLemmas.{chosen_of_some}
 use Rattle.fe2o3_sasl_core.proofs.lemmas.positions.PositionLemmas.{some_at}
 use Rattle.fe2o3_sasl_core.specs.declared.sasl_profile.error.ProfileError.{ProfileError}
 use Rattle.fe2o3_sasl_core.specs.declared.sasl_profile.error.ProfileError.TheVariants.{NotImplemented, Scram, Frame, OutOfMemory}
@@ -180,13 +182,24 @@ verified_otherwise profile moved next reply more (Ok verified) is said =
 verified_otherwise profile moved next reply more (Err kind) is said =
     refused_otherwise profile moved next reply (scram_fault kind) is (not_scram kind) said
 
+-- an answer to a list of mechanisms gives it in no case, or memory is asked for
+offer_wants : (hostname : Option (List ℕ)) (profile next : Profile) (nonce : List ℕ) (names : List (List ℕ))
+    (reply : Result SaslFrame ProfileError) (moved : Profile) → OfferAnswers profile hostname nonce names reply moved
+    → Replies profile moved reply (Refused OutOfMemory) next → OfferAllocates profile names
+offer_wants hostname (PolicyProfile selection) next nonce names reply moved (inl selected) said =
+    chosen_of_some selection names selected.1.0 selected.1.1
+offer_wants hostname (PolicyProfile selection) next nonce names reply moved (inr none) said = absurd (refused_otherwise
+    (PolicyProfile selection) moved next reply NotImplemented none.1 not_unexpected said)
+offer_wants hostname profile next nonce names reply moved (inl named) said = named.0
+offer_wants hostname profile next nonce names reply moved (inr unnamed) said =
+    absurd (refused_otherwise profile moved next reply NotImplemented unnamed.1 not_unexpected said)
+
 -- the machine gives it in no case, or memory is asked for
 machine_wants : (hostname : Option (List ℕ)) (profile next : Profile) (nonce : List ℕ) (frame : SaslFrame)
     (reply : Result SaslFrame ProfileError) (moved : Profile) → profile_machine profile hostname nonce frame reply moved
     → Replies profile moved reply (Refused OutOfMemory) next → StepAllocates profile frame
-machine_wants hostname profile next nonce (frames.Mechanisms names) reply moved (inl named) said = named.0
-machine_wants hostname profile next nonce (frames.Mechanisms names) reply moved (inr unnamed) said =
-    absurd (refused_otherwise profile moved next reply NotImplemented unnamed.1 not_unexpected said)
+machine_wants hostname profile next nonce (frames.Mechanisms names) reply moved made said =
+    offer_wants hostname profile next nonce names reply moved made said
 machine_wants hostname (ScramProfile client) next nonce (frames.Challenge text) reply moved (inl other) said =
     absurd (refused_otherwise (ScramProfile client) moved next reply (Scram kinds.Utf8Error) other.1
     (not_scram kinds.Utf8Error) said)
@@ -197,6 +210,8 @@ machine_wants hostname (ScramProfile client) next nonce (frames.Outcome outcomes
 machine_wants hostname (ScramProfile client) next nonce (frames.Outcome outcomes.Ok (Some text)) reply moved is said =
     absurd (verified_otherwise (ScramProfile client) moved next reply (Some text) is.0 is.3 said)
 machine_wants hostname (MessageProfile mechanism message true) next nonce (frames.Challenge []) reply moved is said = tt
+machine_wants hostname (PolicyProfile selection) next nonce (frames.Outcome code more) reply moved is said = absurd
+    (refused_otherwise (PolicyProfile selection) moved next reply NotImplemented is.0 not_unexpected said)
 machine_wants hostname profile next nonce (frames.Outcome code more) reply moved is said =
     absurd (reported_otherwise profile moved next reply code more is.0 said)
 machine_wants hostname profile next nonce frame reply moved is said =

@@ -28,7 +28,8 @@ use Rattle.fe2o3_sasl_core.specs.Bodies.{carried}
 use Rattle.fe2o3_sasl_core.specs.CostLaws.{MeteredAcceptorSteps, MeteredProfileSteps, server_most, client_most, SumsUp, ServerRunsCost, ClientRunsCost, reply_of}
 use Rattle.fe2o3_sasl_core.specs.Costs.{ReachesLookUp, acceptor_hmacs, AcceptorCostsOf, ProfileCostsOf}
 use Rattle.fe2o3_sasl_core.specs.Events.{Given, ClientSays}
-use Rattle.fe2o3_sasl_core.specs.Profiles.{Profile, ScramProfile, ChallengeReplies, profile_machine}
+use Rattle.fe2o3_sasl_core.specs.Profiles.{Profile, ScramProfile}
+use Rattle.fe2o3_sasl_core.specs.ProfileMachine.{ChallengeReplies, profile_machine}
 use Rattle.fe2o3_sasl_core.specs.Runs.{Runs, ProfileGives, Replies}
 use Rattle.fe2o3_sasl_core.specs.SaslAcceptor.{Acceptor, ScramAcceptor}
 use Rattle.fe2o3_sasl_core.proofs.lemmas.frames.SpellingLemmas.{one_spelling}

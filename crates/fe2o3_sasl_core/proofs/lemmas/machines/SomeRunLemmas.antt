@@ -33,7 +33,8 @@ use Rattle.fe2o3_sasl_core.specs.Events.{Given, ServerSays, Failed, ClientSays, 
 use Rattle.fe2o3_sasl_core.specs.Laws.{BodiesAreBytes, SomeServerHistory, SomeClientHistory}
 use Rattle.fe2o3_sasl_core.specs.Runs.{Runs, AcceptorGives, AcceptorSteps, ProfileGives, ProfileSteps, Replies, SendsCanonical}
 use Rattle.fe2o3_sasl_core.specs.SaslAcceptor.{ScramAcceptor, acceptor_machine, ends_with, server_frame}
-use Rattle.fe2o3_sasl_core.specs.Profiles.{ScramProfile, ChallengeReplies, profile_machine, profile_name, client_frame, initial_response}
+use Rattle.fe2o3_sasl_core.specs.Profiles.{ScramProfile, profile_name, initial_response}
+use Rattle.fe2o3_sasl_core.specs.ProfileMachine.{ChallengeReplies, profile_machine, client_frame}
 use Rattle.fe2o3_sasl_core.specs.Complete.{ServerComplete, ClientComplete}
 use Rattle.fe2o3_sasl_core.specs.Bodies.{SpellsBody, server_says}
 use Rattle.fe2o3_sasl_core.proofs.lemmas.machines.ClientMachineLemmas.{profile_runs_are_histories}

@@ -15,9 +15,10 @@ use Rattle.fe2o3_sasl_wire.specs.declared.amqp_types.SaslCode.{SaslCode}
 use Rattle.fe2o3_sasl_wire.specs.declared.amqp_types.SaslCode.TheVariants as outcomes
 use Rattle.fe2o3_scram.specs.ClientKeys.{ClientKeys}
 use Rattle.fe2o3_scram.specs.ServerFinal.{ReadsServerFinal, ReadsSignature}
-use Rattle.fe2o3_sasl_core.specs.Profiles.{Profile, ScramProfile, PlainProfile, AnonymousProfile, ExternalProfile, ChallengeAllocates, ChallengeReplies, profile_machine, FrameAllocates, ViewAllocates, StepAllocates, IsAnswered, ProfileAnswers, is_scram, MessageProfile, MessageMechanism}
+use Rattle.fe2o3_sasl_core.specs.Profiles.{Profile, ScramProfile, PlainProfile, AnonymousProfile, ExternalProfile, is_scram, MessageProfile, MessageMechanism, PolicyProfile}
+use Rattle.fe2o3_sasl_core.specs.ProfileMachine.{ChallengeAllocates, ChallengeReplies, profile_machine, FrameAllocates, ViewAllocates, StepAllocates, IsAnswered, ProfileAnswers}
 use Rattle.fe2o3_sasl_core.specs.ProfileFaults.{fault_of_kind}
-use Rattle.fe2o3_sasl_core.specs.private.Writing.{AnswersAlways, RefusesAlways}
+use Rattle.fe2o3_sasl_core.specs.private.Writing.{AnswersAlways, RefusesAlways, is_by_policy}
 use Rattle.fe2o3_sasl_core.specs.declared.sasl_profile.error.ProfileError.{ProfileError}
 use Rattle.fe2o3_sasl_core.specs.declared.sasl_profile.error.ProfileError.TheVariants.{NotImplemented, Scram, StaleKeys, Frame, OutOfMemory}
 
@@ -97,6 +98,7 @@ outcome_allocates (PlainProfile identity user password) code text has = tt
 outcome_allocates AnonymousProfile code text has = tt
 outcome_allocates ExternalProfile code text has = tt
 outcome_allocates (MessageProfile mechanism message is_due) code text has = tt
+outcome_allocates (PolicyProfile selection) code text has = absurd has
 
 -- what a profile rejects, it rejects of a view
 pub view_refuses : (profile next : Profile) (hostname : Option (List ℕ)) (nonce : List ℕ) (frame : SaslFrame)
@@ -165,12 +167,13 @@ other_outcome client outcomes.SysPerm text other = tt
 other_outcome client outcomes.SysTemp text other = tt
 
 pub unread_outcome : (profile : Profile) (code : SaslCode) (text : List ℕ) → is_scram profile ≡ false
-    → StepAllocates profile (frames.Outcome code (Some text))
-unread_outcome (ScramProfile client) code text is = absurd (cc)
-unread_outcome (PlainProfile identity user password) code text is = tt
-unread_outcome AnonymousProfile code text is = tt
-unread_outcome ExternalProfile code text is = tt
-unread_outcome (MessageProfile mechanism message is_due) code text is = tt
+    → is_by_policy profile ≡ false → StepAllocates profile (frames.Outcome code (Some text))
+unread_outcome (ScramProfile client) code text is other = absurd (cc)
+unread_outcome (PlainProfile identity user password) code text is other = tt
+unread_outcome AnonymousProfile code text is other = tt
+unread_outcome ExternalProfile code text is other = tt
+unread_outcome (MessageProfile mechanism message is_due) code text is other = tt
+unread_outcome (PolicyProfile selection) code text is other = absurd (cc)
 
 -- a single message is the response to a challenge that asks for it
 pub message_responds : (mechanism : MessageMechanism) (message : List ℕ) (is_due : Bool) (text response : List ℕ)
@@ -199,3 +202,23 @@ pub not_among_all : (names : List (List ℕ)) (i : ℕ) (name : List ℕ) → le
     → ¬ Contains (take i names) name → ¬ Contains names name
 not_among_all names i name past none there =
     none (subst (λ (some : List (List ℕ)). Contains some name) (sym (take_all i names past)) there)
+
+-- what is rejected in any case, a view is answered by
+pub refused_answers : (profile : Profile) (hostname : Option (List ℕ)) (nonce : List ℕ) (frame : SaslFrame)
+    (fault : ProfileError) → fault ≢ OutOfMemory → RefusesAlways profile frame fault
+    → ProfileAnswers ViewAllocates profile hostname nonce frame (Err fault) profile
+refused_answers profile hostname nonce frame OutOfMemory other refuses = absurd (other refl)
+refused_answers profile hostname nonce frame NotImplemented other refuses = refuses hostname nonce
+refused_answers profile hostname nonce frame (Scram kind) other refuses = refuses hostname nonce
+refused_answers profile hostname nonce frame StaleKeys other refuses = refuses hostname nonce
+refused_answers profile hostname nonce frame (Frame fault) other refuses = refuses hostname nonce
+
+-- before a profile is selected, each outcome is rejected
+pub policy_refuses : (profile : Profile) (code : SaslCode) (more : Option (List ℕ)) → is_by_policy profile ≡ true
+    → RefusesAlways profile (frames.Outcome code more) NotImplemented
+policy_refuses (PolicyProfile selection) code more is = λ hostname nonce. (refl, refl)
+policy_refuses (ScramProfile client) code more is = absurd (cc)
+policy_refuses (PlainProfile identity user password) code more is = absurd (cc)
+policy_refuses AnonymousProfile code more is = absurd (cc)
+policy_refuses ExternalProfile code more is = absurd (cc)
+policy_refuses (MessageProfile mechanism message is_due) code more is = absurd (cc)

@@ -13,7 +13,8 @@ use Rattle.fe2o3_scram.specs.ScramClient.{ClientSide, ClientState, SignatureVeri
 use Rattle.fe2o3_scram.specs.Logins.{IsSigned}
 use Rattle.fe2o3_sasl_core.specs.Bodies.{SpellsBody}
 use Rattle.fe2o3_sasl_core.specs.Events.{Given, ClientSays, Started, Answered, Refused, scram_fault}
-use Rattle.fe2o3_sasl_core.specs.Profiles.{Profile, ScramProfile, ChallengeReplies, client_frame, profile_machine}
+use Rattle.fe2o3_sasl_core.specs.Profiles.{Profile, ScramProfile}
+use Rattle.fe2o3_sasl_core.specs.ProfileMachine.{ChallengeReplies, client_frame, profile_machine}
 use Rattle.fe2o3_sasl_core.specs.Runs.{Replies, SendsCanonical}
 use Rattle.fe2o3_sasl_core.specs.StepLaws.{VerifiedOnSignature}
 use Rattle.fe2o3_sasl_core.specs.declared.sasl_profile.error.ProfileError.{ProfileError}

@@ -15,7 +15,8 @@ use Rattle.fe2o3_scram.specs.Logins.{IsSigned}
 use Rattle.fe2o3_scram.proofs.lemmas.messages.LoginLemmas.{accepted_texts_log_in, verified_texts_are_signed}
 use Rattle.fe2o3_sasl_core.specs.Bodies.{SpellsBody, carried, server_says}
 use Rattle.fe2o3_sasl_core.specs.Events.{Given, ServerSays, Concluded, Failed, ClientSays, Reported, Refused}
-use Rattle.fe2o3_sasl_core.specs.Profiles.{Profile, ScramProfile, ChallengeReplies, client_frame, profile_machine}
+use Rattle.fe2o3_sasl_core.specs.Profiles.{Profile, ScramProfile}
+use Rattle.fe2o3_sasl_core.specs.ProfileMachine.{ChallengeReplies, client_frame, profile_machine}
 use Rattle.fe2o3_sasl_core.specs.Runs.{Replies, SendsCanonical}
 use Rattle.fe2o3_sasl_core.specs.SaslAcceptor.{Acceptor, ScramAcceptor, acceptor_machine, ends_with, server_frame}
 use Rattle.fe2o3_sasl_core.specs.StepLaws.{BodyLogsIn, OksLogIn, ReportedOksAreSigned, ShowsSignature}

@@ -1,6 +1,5 @@
 -- What a profile replies in a body, from what it answers and what was written.
 use Rattle.std.proofs.Common.{◌≡◌, ℕ, Bool, true, false, Option, Some, List, refl, sym, ap, ◌∙◌, subst, inl, inr, Ok, Err, []}
-use Rattle.std.specs.List.{Contains}
 use Rattle.fe2o3_sasl_wire.specs.declared.amqp_types.SaslCode.{SaslCode}
 use Rattle.fe2o3_sasl_wire.specs.declared.amqp_types.SaslCode.TheVariants as outcomes
 use Rattle.fe2o3_sasl_wire.specs.declared.sasl_frames.error.Error.{Error}
@@ -9,12 +8,14 @@ use Rattle.fe2o3_sasl_wire.specs.SaslFrames as frames
 use Rattle.fe2o3_sasl_wire.specs.SaslFrames.{SaslFrame, canonical}
 use Rattle.fe2o3_sasl_core.specs.Events.{Started, Answered, Reported, Refused}
 use Rattle.fe2o3_sasl_core.specs.Runs.{ProfileReplies, SendsCanonical}
-use Rattle.fe2o3_sasl_core.specs.Profiles.{Profile, ScramProfile, profile_name, initial_response, after_init, profile_machine, ChallengeAllocates, FrameAllocates, StepAllocates, IsStarted, IsChallengeDue, ProfileAnswers, MessageProfile}
+use Rattle.fe2o3_sasl_core.specs.Profiles.{Profile, ScramProfile, profile_name, initial_response, after_init, MessageProfile, PolicyProfile}
+use Rattle.fe2o3_sasl_core.specs.ProfileMachine.{OfferAllocates, OfferAnswers, profile_machine, ChallengeAllocates, FrameAllocates, StepAllocates, IsStarted, IsChallengeDue, ProfileAnswers}
 use Rattle.fe2o3_scram.specs.ScramClient as client_states
 use Rattle.fe2o3_scram.specs.ScramClient.{ClientSide, ClientState, ReachesSaltIn, expects_signature}
 use Rattle.fe2o3_sasl_core.specs.declared.sasl_profile.error.ProfileError.{ProfileError}
 use Rattle.fe2o3_sasl_core.specs.declared.sasl_profile.error.ProfileError.TheVariants as profile_faults
-use Rattle.fe2o3_sasl_core.specs.private.Writing.{RefusesAlways, WritesBody}
+use Rattle.fe2o3_sasl_core.specs.private.Writing.{IsFor, NoneIsFor, RefusesAlways, WritesBody}
+use Rattle.fe2o3_sasl_core.proofs.lemmas.machines.SelectionLemmas.{chosen_of_some}
 use Rattle.fe2o3_sasl_core.proofs.lemmas.steps.ProfileReplyLemmas.{waiting}
 use Rattle.fe2o3_sasl_core.specs.declared.sasl_profile.error.ProfileError.TheVariants.{NotImplemented, Scram, StaleKeys, Frame, OutOfMemory}
 
@@ -76,47 +77,85 @@ reported hostname profile next nonce frame code more is h =
 
 -- ---- starts
 
+-- the init of a profile
+abbrev init_of : Option (List ℕ) → List ℕ → Profile → SaslFrame
+init_of hostname nonce profile = frames.Init (profile_name profile) (initial_response profile nonce) hostname
+
+-- the profile that answers an offer sends its init
+offer_started : (profile begun : Profile) (hostname : Option (List ℕ)) (nonce : List ℕ) (names : List (List ℕ))
+    → IsFor profile names begun
+    → OfferAnswers profile hostname nonce names (Ok (init_of hostname nonce begun)) (after_init begun nonce)
+offer_started (PolicyProfile selection) begun hostname nonce names is = inl (begun, is, (refl, refl))
+offer_started profile begun hostname nonce names (has, same) = inl (
+  has,
+  (ap (λ (p : Profile). Ok (init_of hostname nonce p)) same, ap (λ (p : Profile). after_init p nonce) same),
+)
+
+-- and allocates
+pub for_allocates : (profile begun : Profile) (names : List (List ℕ)) → IsFor profile names begun
+    → OfferAllocates profile names
+for_allocates (PolicyProfile selection) begun names is = chosen_of_some selection names is.0 is.1
+for_allocates profile begun names is = is.0
+
+-- an offer that no profile answers
+pub offer_refused : (profile : Profile) (hostname : Option (List ℕ)) (nonce : List ℕ) (names : List (List ℕ))
+    → NoneIsFor profile names → OfferAnswers profile hostname nonce names (Err NotImplemented) profile
+offer_refused (PolicyProfile selection) hostname nonce names none = inr (none, refl, refl)
+offer_refused profile hostname nonce names none = inr (none, refl, refl)
+
+-- an answer to an offer
+pub offer_answered : (profile begun moved : Profile) (hostname : Option (List ℕ)) (nonce : List ℕ) (names : List (List ℕ))
+    (init : SaslFrame) → IsFor profile names begun
+    → init ≡ frames.Init (profile_name begun) (initial_response begun nonce) hostname
+    → moved ≡ after_init begun nonce
+    → profile_machine profile hostname nonce (frames.Mechanisms names) (Ok init) moved
+offer_answered profile begun moved hostname nonce names init for is after =
+    subst (λ (p : Profile). OfferAnswers profile hostname nonce names (Ok init) p) (sym after)
+    (subst (λ (f : SaslFrame). OfferAnswers profile hostname nonce names (Ok f) (after_init begun nonce)) (sym is)
+    (offer_started profile begun hostname nonce names for))
+
 -- an init that is written
 pub started_ok : (hostname : Option (List ℕ)) (profile begun moved : Profile) (nonce : List ℕ) (names : List (List ℕ))
-    (init : SaslFrame) (body : List ℕ) → begun ≡ profile → Contains names (profile_name profile)
+    (init : SaslFrame) (body : List ℕ) → IsFor profile names begun
     → init ≡ frames.Init (profile_name begun) (initial_response begun nonce) hostname
     → moved ≡ after_init begun nonce → canonical init ≡ Some body
     → ProfileReplies hostname profile nonce (frames.Mechanisms names) (Started body) moved
-started_ok hostname profile begun moved nonce names init body same has is after written =
-    let init_of : Profile → SaslFrame = λ p. frames.Init (profile_name p) (initial_response p nonce) hostname in
-    let e : init ≡ init_of profile = is ∙ ap init_of same in
+started_ok hostname profile begun moved nonce names init body for is after written =
     inr (
-      Ok (init_of profile),
-      after_init profile nonce,
-      inl (has, refl, refl),
+      Ok (init_of hostname nonce begun),
+      after_init begun nonce,
+      offer_started profile begun hostname nonce names for,
       subst (λ (b : Option (List ℕ)). SendsCanonical (Refused (Frame faults.TooLarge)) (λ b. Started b) b profile
-          (after_init profile nonce) (Started body) moved) (sym (ap canonical (sym e) ∙ written))
-          (refl, after ∙ ap (λ (p : Profile). after_init p nonce) same),
+          (after_init begun nonce) (Started body) moved) (sym (ap canonical (sym is) ∙ written)) (refl, after),
     )
 
 -- an init that is not
 pub started_err : {X : Type 0} (view : X → List ℕ) (hostname : Option (List ℕ)) (profile begun : Profile)
-    (nonce : List ℕ) (names : List (List ℕ)) (init : SaslFrame) (fault : ProfileError) → begun ≡ profile
-    → Contains names (profile_name profile)
+    (nonce : List ℕ) (names : List (List ℕ)) (init : SaslFrame) (fault : ProfileError) → IsFor profile names begun
     → init ≡ frames.Init (profile_name begun) (initial_response begun nonce) hostname
     → WritesBody view (canonical init) (Err fault)
     → ProfileReplies hostname profile nonce (frames.Mechanisms names) (Refused fault) profile
-started_err view hostname profile begun nonce names init profile_faults.OutOfMemory same has is w =
-    inl (has, refl, refl)
-started_err view hostname profile begun nonce names init (profile_faults.Frame fault) same has is w =
-    let init_of : Profile → SaslFrame = λ p. frames.Init (profile_name p) (initial_response p nonce) hostname in
-    let e : init ≡ init_of profile = is ∙ ap init_of same in
+started_err view hostname profile begun nonce names init profile_faults.OutOfMemory for is w =
+    inl (for_allocates profile begun names for, refl, refl)
+started_err view hostname profile begun nonce names init (profile_faults.Frame fault) for is w =
     inr (
-      Ok (init_of profile),
-      after_init profile nonce,
-      inl (has, refl, refl),
+      Ok (init_of hostname nonce begun),
+      after_init begun nonce,
+      offer_started profile begun hostname nonce names for,
       subst (λ (b : Option (List ℕ)). SendsCanonical (Refused (Frame faults.TooLarge)) (λ b. Started b) b profile
-          (after_init profile nonce) (Refused (Frame fault)) profile) (sym (ap canonical (sym e) ∙ w.1))
+          (after_init begun nonce) (Refused (Frame fault)) profile) (sym (ap canonical (sym is) ∙ w.1))
           (ap (λ (f : Error). Refused (Frame f)) w.0, refl),
     )
-started_err view hostname profile begun nonce names init profile_faults.NotImplemented same has is w = absurd w
-started_err view hostname profile begun nonce names init (profile_faults.Scram kind) same has is w = absurd w
-started_err view hostname profile begun nonce names init profile_faults.StaleKeys same has is w = absurd w
+started_err view hostname profile begun nonce names init profile_faults.NotImplemented for is w = absurd w
+started_err view hostname profile begun nonce names init (profile_faults.Scram kind) for is w = absurd w
+started_err view hostname profile begun nonce names init profile_faults.StaleKeys for is w = absurd w
+
+-- an offer that is not answered
+pub unanswered : (hostname : Option (List ℕ)) (profile : Profile) (nonce : List ℕ) (names : List (List ℕ))
+    → NoneIsFor profile names
+    → ProfileReplies hostname profile nonce (frames.Mechanisms names) (Refused NotImplemented) profile
+unanswered hostname profile nonce names none =
+    inr (Err NotImplemented, profile, offer_refused profile hostname nonce names none, (refl, refl))
 
 -- ---- answers
 

@@ -1,6 +1,5 @@
 -- A step over a body, in the cases of what the body spells.
 use Rattle.std.proofs.Common.{ℕ, Option, List, refl, inl, inr, Ok, Err}
-use Rattle.std.specs.List.{Contains}
 use Rattle.fe2o3_sasl_wire.specs.declared.sasl_frames.error.Error.{Error}
 use Rattle.fe2o3_sasl_wire.specs.declared.sasl_frames.error.Error.TheVariants as faults
 use Rattle.fe2o3_sasl_wire.specs.Owned.{RefusesView}
@@ -9,9 +8,9 @@ use Rattle.fe2o3_sasl_wire.specs.SaslFrames.{SaslFrame, ReadsBody}
 use Rattle.fe2o3_sasl_wire.proofs.lemmas.frames.LawLemmas.{spelled_mechanisms_are_ascii}
 use Rattle.fe2o3_sasl_core.specs.Events.{Given, ServerSays, Failed, ClientSays, Refused}
 use Rattle.fe2o3_sasl_core.specs.Runs.{AcceptorAnswers, AcceptorGives, AcceptorSteps, ProfileReplies, ProfileSteps}
-use Rattle.fe2o3_sasl_core.specs.Profiles.{Profile, profile_name}
+use Rattle.fe2o3_sasl_core.specs.Profiles.{Profile}
 use Rattle.fe2o3_sasl_core.specs.private.Writing.{IsRequest}
-use Rattle.fe2o3_sasl_core.specs.declared.sasl_profile.error.ProfileError.TheVariants.{NotImplemented, Frame}
+use Rattle.fe2o3_sasl_core.specs.declared.sasl_profile.error.ProfileError.TheVariants.{Frame}
 
 -- ---- acceptors
 
@@ -76,9 +75,3 @@ profile_reads hostname profile event frame n says next reads h = (Ok frame, (n, 
 pub profile_unreadable : (hostname : Option (List ℕ)) (profile : Profile) (event : Given) (fault : Error)
     → ReadsBody event.body (Err fault) → ProfileSteps hostname profile event (Refused (Frame fault)) profile
 profile_unreadable hostname profile event fault reads = (Err fault, reads, (refl, refl))
-
--- a list without the name
-pub unnamed : (hostname : Option (List ℕ)) (profile : Profile) (nonce : List ℕ) (names : List (List ℕ))
-    → ¬ Contains names (profile_name profile)
-    → ProfileReplies hostname profile nonce (frames.Mechanisms names) (Refused NotImplemented) profile
-unnamed hostname profile nonce names none = inr (Err NotImplemented, profile, inr (none, refl, refl), (refl, refl))

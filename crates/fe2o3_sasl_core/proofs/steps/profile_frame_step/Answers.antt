@@ -1,20 +1,10 @@
-use Rattle.std.proofs.Common.{◌≡◌, Bool, true, false, refl, inr, Err}
+use Rattle.std.proofs.Common.{refl, inr, Err}
 use Rattle.fe2o3_sasl_wire.specs.FrameView.{shown}
 use Rattle.fe2o3_sasl_wire.specs.SaslFrames as frames
 use Rattle.fe2o3_sasl_core.specs.SaslProfile.{profile_of}
 use Rattle.fe2o3_sasl_core.proofs.lemmas.steps.WrittenReplyLemmas.{refused_unread}
-use Rattle.fe2o3_sasl_core.proofs.lemmas.steps.WrittenStepLemmas.{unnamed}
 use Rattle.fe2o3_sasl_core.specs.declared.sasl_profile.error.ProfileError.TheVariants.{NotImplemented}
 use Rattle.fe2o3_sasl_core.proofs.steps.profile_frame_step.Goals as goal
-
-pub returns-then-not-contains-clause-answer : goal.returns-then-not-contains-clause-answer
-returns-then-not-contains-clause-answer c =
-    rw c.in-Mechanisms.is (unnamed (shown c.args.hostname) (profile_of c.args.profile.now) c.args.nonce.now
-    c.in-Mechanisms.names (λ has. apart c.contains.result (c.contains.ensures.1 (rw c.name.ensures.name has))
-    c.if-not-contains.true))
-  where
-    apart : (b : Bool) → b ≡ true → b ≡ false → ⊥
-    apart b is_true is_false = cc
 
 pub returns-in-Some-clause-answer : goal.returns-in-Some-clause-answer
 returns-in-Some-clause-answer c =

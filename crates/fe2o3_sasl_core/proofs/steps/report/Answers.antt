@@ -8,7 +8,6 @@ use Rattle.fe2o3_sasl_core.specs.Events.{Reported, Refused}
 use Rattle.fe2o3_sasl_core.specs.Runs.{ProfileReplies}
 use Rattle.fe2o3_sasl_core.specs.SaslProfile.{profile_of}
 use Rattle.fe2o3_sasl_core.proofs.lemmas.steps.WrittenReplyLemmas.{reported, refusal_replies, refused_unread}
-use Rattle.fe2o3_sasl_core.specs.declared.sasl_profile.error.ProfileError.TheVariants.{Scram}
 use Rattle.fe2o3_sasl_core.proofs.steps.report.Goals as goal
 
 pub returns-in-Ok-conclude : goal.returns-in-Ok-conclude
@@ -31,4 +30,4 @@ returns-in-Err-conclude c = λ hostname nonce.
 pub returns-in-Some : goal.returns-in-Some
 returns-in-Some c = λ hostname nonce.
     refused_unread hostname (profile_of c.args.profile.now) nonce
-    (frames.Outcome c.args.code (shown c.args.additional_data)) (Scram c.in-Some.kind) c.in-Some.ensures
+    (frames.Outcome c.args.code (shown c.args.additional_data)) c.in-Some.fault c.in-Some.ensures.1

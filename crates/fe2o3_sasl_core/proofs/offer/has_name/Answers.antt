@@ -1,7 +1,7 @@
 use Rattle.std.proofs.Common.{◌≡◌, ◌∙◌, Bool, true, false}
 use Rattle.std.proofs.lemmas.Slice.Eq.{bytes_eq-Decides}
 use Rattle.fe2o3_sasl_core.proofs.lemmas.steps.ProfileReplyLemmas.{not_among_more, not_among_all}
-use Rattle.fe2o3_sasl_core.proofs.sasl_profile.frames.has_name.Goals as goal
+use Rattle.fe2o3_sasl_core.proofs.offer.has_name.Goals as goal
 
 pub loop-symbol-preserved : goal.loop-symbol-preserved
 loop-symbol-preserved c =
