@@ -54,21 +54,19 @@ OfferAllocates profile names = Contains names (profile_name profile)
 
 -- ---- what a profile answers
 
--- a profile sends its init
-abbrev pub Starts : Profile → Option (List ℕ) → List ℕ → Result SaslFrame ProfileError → Profile → Type 0
-Starts profile hostname nonce reply next =
-    (reply ≡ Ok (frames.Init (profile_name profile) (initial_response profile nonce) hostname))
-    × (next ≡ after_init profile nonce)
-
 -- what a profile answers to a list of mechanisms: its init if its own is among them; a client by a policy selects a profile,
 -- which sends its init
 abbrev pub OfferAnswers : Profile → Option (List ℕ) → List ℕ → List (List ℕ) → Result SaslFrame ProfileError → Profile
     → Type 0
 OfferAnswers (PolicyProfile selection) hostname nonce names reply next =
-    ((chosen : Profile) × IsSelected selection names chosen × Starts chosen hostname nonce reply next)
+    ((chosen : Profile) × IsSelected selection names chosen
+    × (reply ≡ Ok (frames.Init (profile_name chosen) (initial_response chosen nonce) hostname))
+    × (next ≡ after_init chosen nonce))
     ⊎ (NoneIsSelected selection names × (reply ≡ Err NotImplemented) × (next ≡ PolicyProfile selection))
 OfferAnswers profile hostname nonce names reply next =
-    (Contains names (profile_name profile) × Starts profile hostname nonce reply next)
+    (Contains names (profile_name profile)
+    × (reply ≡ Ok (frames.Init (profile_name profile) (initial_response profile nonce) hostname))
+    × (next ≡ after_init profile nonce))
     ⊎ (¬ Contains names (profile_name profile) × (reply ≡ Err NotImplemented) × (next ≡ profile))
 
 -- the frame of a SCRAM client's answer, or its error

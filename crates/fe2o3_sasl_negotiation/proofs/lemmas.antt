@@ -30,7 +30,6 @@ pub mod RetryLemmas
 pub mod FrameSizeLemmas
 pub mod NonceLemmas
 pub mod ResponseNonceLemmas
-pub mod PolicyClientLemmas
+pub mod SelectedProfileLemmas
 pub mod PolicyLawLemmas
 pub mod PolicyInitLemmas
-pub mod PolicyNonceLemmas

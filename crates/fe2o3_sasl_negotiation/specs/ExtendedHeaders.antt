@@ -10,7 +10,6 @@ use Rattle.fe2o3_sasl_negotiation.specs.Connections.{fresh}
 use Rattle.fe2o3_sasl_negotiation.specs.Framing.{framed, unextended}
 use Rattle.fe2o3_sasl_negotiation.specs.Laws.{Call, Calls}
 use Rattle.fe2o3_sasl_negotiation.specs.Negotiations.{Side, SideOutput, Reading, Receives}
-use Rattle.fe2o3_sasl_negotiation.specs.PolicyClient.{PolicySideAnswers, Selection}
 
 -- a unit, and what is read of it: a header as received (part 2, section 2.2), and a frame without its extended header
 abbrev pub IsReadAs : List ℕ → List ℕ → Type 0
@@ -50,9 +49,6 @@ ExtendedHeadersAreIgnored {S} Answers = (limit : ℕ) (state : S) (calls : List 
     × Calls (Receives Answers) (fresh limit state) others (stream_of reads ++ (tail ++ rest)) sent
     (record last { held = [] }) (last.held ++ rest)
 
--- and so for every client, of any hostname, and for one that selects its mechanism
+-- and so for every client, of any hostname
 abbrev pub ClientsIgnoreExtendedHeaders : Type 0
 ClientsIgnoreExtendedHeaders = (hostname : Option (List ℕ)) → ExtendedHeadersAreIgnored (ClientSideAnswers hostname)
-
-abbrev pub PolicyClientsIgnoreExtendedHeaders : Type 0
-PolicyClientsIgnoreExtendedHeaders = (selection : Selection) → ExtendedHeadersAreIgnored (PolicySideAnswers selection)

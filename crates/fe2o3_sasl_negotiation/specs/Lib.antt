@@ -15,6 +15,5 @@ pub mod Retries
 pub mod Refusals
 pub mod FrameSizes
 pub mod Nonces
-pub mod PolicyClient
 pub mod PolicyLaws
 pub mod ExtendedHeaders

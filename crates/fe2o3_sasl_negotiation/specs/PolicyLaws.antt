@@ -1,20 +1,20 @@
--- Laws of a client that selects its mechanism from the server's offer. Each is the contract of a clause of
--- `policy_laws::policy_clients` or of `policy_laws::policy_nonces`.
-use Rattle.std.specs.Prelude.{◌≡◌, ◌≢◌, ◌⊎◌, ℕ, true, false, Option, Some, None, List, [], Ok}
+-- Laws of a client that selects its mechanism from the server's offer, by a policy. Each is the contract of a clause of
+-- `policy_laws::policy_clients`.
+use Rattle.std.specs.Prelude.{◌≡◌, ◌≢◌, ◌⊎◌, ℕ, true, Option, Some, List, [], Ok}
 use Rattle.std.specs.List.{Contains}
 use Rattle.fe2o3_sasl_wire.specs.SaslFrames as frames
 use Rattle.fe2o3_sasl_wire.specs.SaslFrames.{canonical}
+use Rattle.fe2o3_sasl_wire.specs.declared.sasl_frames.error.Error.TheVariants.{TooLarge}
 use Rattle.fe2o3_sasl_core.specs.Bodies.{SpellsBody}
 use Rattle.fe2o3_sasl_core.specs.ClientPolicy.{is_allowed, policy_name}
-use Rattle.fe2o3_sasl_core.specs.Profiles.{Profile}
+use Rattle.fe2o3_sasl_core.specs.ProfileMachine.{IsSelected, NoneIsSelected}
+use Rattle.fe2o3_sasl_core.specs.Profiles.{PolicyProfile, Profile, Selection}
 use Rattle.fe2o3_sasl_core.specs.declared.client_policy.Mechanism.{Mechanism}
-use Rattle.fe2o3_sasl_core.specs.declared.sasl_profile.error.ProfileError.TheVariants.{NotImplemented}
+use Rattle.fe2o3_sasl_core.specs.declared.sasl_profile.error.ProfileError.TheVariants.{Frame as FrameFault, NotImplemented}
 use Rattle.fe2o3_sasl_negotiation.specs.ClientNegotiation.{ClientReceives}
 use Rattle.fe2o3_sasl_negotiation.specs.Framing.{framed}
 use Rattle.fe2o3_sasl_negotiation.specs.Memory.{CompletesInTurn}
 use Rattle.fe2o3_sasl_negotiation.specs.Negotiations.{Completes, Side}
-use Rattle.fe2o3_sasl_negotiation.specs.Nonces.{client_uses_nonce}
-use Rattle.fe2o3_sasl_negotiation.specs.PolicyClient.{IsSelected, NoneIsSelected, PolicyReceives, Selection}
 use Rattle.fe2o3_sasl_negotiation.specs.declared.progress.CloseReason.TheVariants.{Mechanism as ProfileRefused}
 use Rattle.fe2o3_sasl_negotiation.specs.declared.progress.FrameKind.TheVariants as turns
 use Rattle.fe2o3_sasl_negotiation.specs.declared.progress.Progress.TheVariants.{Failed}
@@ -31,33 +31,34 @@ side_in_state side state = record {
 
 -- a call that completes no frame in turn does what it does to a client of any profile, and selects none
 abbrev pub WaitsForOffer : Type 0
-WaitsForOffer = (selection : Selection) (profile : Profile) (side next : Side (Option Profile)) (bytes nonce sent : List ℕ)
-    (taken : ℕ) → side.state ≡ None → ¬ CompletesInTurn side bytes
-    → PolicyReceives selection side bytes nonce taken sent next
-    → (next.state ≡ None)
-    × ClientReceives selection.hostname (side_in_state side profile) bytes nonce taken sent (side_in_state next profile)
+WaitsForOffer = (hostname : Option (List ℕ)) (selection : Selection) (profile : Profile) (side next : Side Profile)
+    (bytes nonce sent : List ℕ) (taken : ℕ) → side.state ≡ PolicyProfile selection → ¬ CompletesInTurn side bytes
+    → ClientReceives hostname side bytes nonce taken sent next
+    → (next.state ≡ PolicyProfile selection)
+    × ClientReceives hostname (side_in_state side profile) bytes nonce taken sent (side_in_state next profile)
 
--- a call that completes the list of mechanisms does what it does to a client of the selected profile, which it selects;
+-- the client is one of this profile after the call, or its init has no body, and the side has closed
+abbrev pub BecomesProfile : Selection → Side Profile → List ℕ → Profile → Profile → Type 0
+BecomesProfile selection next sent profile moved = (next.state ≡ moved)
+    ⊎ ((moved ≡ profile) × (next.state ≡ PolicyProfile selection) × (sent ≡ [])
+    × (next.progress ≡ Failed (ProfileRefused (FrameFault TooLarge))))
+
+-- a call that completes the list of mechanisms does what it does to a client of the selected profile, which the client becomes;
 -- or, if there is none, it sends nothing and closes the side
 abbrev pub SelectsAtOffer : Type 0
-SelectsAtOffer = (selection : Selection) (side next : Side (Option Profile)) (bytes nonce body sent : List ℕ) (taken : ℕ)
-    (names : List (List ℕ)) → side.state ≡ None → Completes side bytes turns.Mechanisms body
-    → SpellsBody body (Ok (frames.Mechanisms names)) → PolicyReceives selection side bytes nonce taken sent next
+SelectsAtOffer = (hostname : Option (List ℕ)) (selection : Selection) (side next : Side Profile)
+    (bytes nonce body sent : List ℕ) (taken : ℕ) (names : List (List ℕ)) → side.state ≡ PolicyProfile selection
+    → Completes side bytes turns.Mechanisms body → SpellsBody body (Ok (frames.Mechanisms names))
+    → ClientReceives hostname side bytes nonce taken sent next
     → (NoneIsSelected selection names × (sent ≡ []) × (next.progress ≡ Failed (ProfileRefused NotImplemented))
-    × (next.state ≡ None))
-    ⊎ ((profile : Profile) × (moved : Profile) × IsSelected selection names profile × (next.state ≡ Some moved)
-    × ClientReceives selection.hostname (side_in_state side profile) bytes nonce taken sent (side_in_state next moved))
-
--- a call of a client that has selected a profile does what it does to a client of this profile
-abbrev pub GoesOnByProfile : Type 0
-GoesOnByProfile = (selection : Selection) (profile : Profile) (side next : Side (Option Profile))
-    (bytes nonce sent : List ℕ) (taken : ℕ) → side.state ≡ Some profile
-    → PolicyReceives selection side bytes nonce taken sent next
-    → (moved : Profile) × (next.state ≡ Some moved)
-    × ClientReceives selection.hostname (side_in_state side profile) bytes nonce taken sent (side_in_state next moved)
+    × (next.state ≡ PolicyProfile selection))
+    ⊎ ((profile : Profile) × (moved : Profile) × IsSelected selection names profile
+    × ClientReceives hostname (side_in_state side profile) bytes nonce taken sent (side_in_state next moved)
+    × BecomesProfile selection next sent profile moved)
 
 -- an init of a mechanism that the policy allows and the server has offered, in a frame
-pub record SendsAllowed (selection : Selection) (side : Side (Option Profile)) (bytes sent : List ℕ) : Type 0 where
+pub record SendsAllowed (hostname : Option (List ℕ)) (selection : Selection) (side : Side Profile) (bytes sent : List ℕ)
+    : Type 0 where
   pub body : List ℕ
   pub names : List (List ℕ)
   pub mechanism : Mechanism
@@ -67,17 +68,11 @@ pub record SendsAllowed (selection : Selection) (side : Side (Option Profile)) (
   pub spells : SpellsBody body (Ok (frames.Mechanisms names))
   pub allowed : is_allowed selection.policy mechanism ≡ true
   pub offered : Contains names (policy_name mechanism)
-  pub written : canonical (frames.Init (policy_name mechanism) response selection.hostname) ≡ Some init
+  pub written : canonical (frames.Init (policy_name mechanism) response hostname) ≡ Some init
   pub sends : sent ≡ framed init
 
--- all that a client sends before it has a profile is an init of a mechanism that the policy allows and the server offers
+-- all that a client sends before it has selected a profile is an init of a mechanism that the policy allows and the server offers
 abbrev pub NothingBelowPolicy : Type 0
-NothingBelowPolicy = (selection : Selection) (side next : Side (Option Profile)) (bytes nonce sent : List ℕ) (taken : ℕ)
-    → side.state ≡ None → PolicyReceives selection side bytes nonce taken sent next → sent ≢ []
-    → SendsAllowed selection side bytes sent
-
--- a call of a client that uses no nonce does the same with every nonce
-abbrev pub PolicyIgnoresNonces : Type 0
-PolicyIgnoresNonces = (selection : Selection) (side next : Side (Option Profile)) (bytes nonce other sent : List ℕ)
-    (taken : ℕ) → client_uses_nonce side ≡ false → PolicyReceives selection side bytes nonce taken sent next
-    → PolicyReceives selection side bytes other taken sent next
+NothingBelowPolicy = (hostname : Option (List ℕ)) (selection : Selection) (side next : Side Profile)
+    (bytes nonce sent : List ℕ) (taken : ℕ) → side.state ≡ PolicyProfile selection
+    → ClientReceives hostname side bytes nonce taken sent next → sent ≢ [] → SendsAllowed hostname selection side bytes sent

@@ -42,11 +42,12 @@ pub struct ClientEndpoint {
     hostname: Option<String>,
 }
 
-/// The client's side of one connection, which logs in by a profile.
+/// The client's side of one connection, which logs in by a profile. One by a policy (`SaslProfile::by_policy`) selects its
+/// mechanism when the list of mechanisms is complete.
 pub type ClientNegotiation = ConnectionSide<ClientEndpoint, ClientRole>;
 
 /// Answers the server's header. A client continues only after the header of SASL.
-pub(crate) fn open(header: &[u8]) -> Step
+fn open(header: &[u8]) -> Step
     requires { length header.now ≡ 8 }
     ensures { (out : List ℕ) → Appends (ClientOpens header.now) out out result }
 {
@@ -125,7 +126,7 @@ fn refuse(turn: FrameKind, fault: ProfileError) -> Result<Step, OutOfMemory>
 }
 
 /// Answers a frame, which begins with its size.
-pub(crate) fn reply(
+fn reply(
     alloc: Global,
     profile: &mut SaslProfile,
     hostname: Option<&str>,
@@ -159,7 +160,7 @@ pub(crate) fn reply(
 }
 
 /// Returns the hostname of a client, if it has one.
-pub(crate) fn shown_name(hostname: &Option<String>) -> Option<&str>
+fn shown_name(hostname: &Option<String>) -> Option<&str>
     ensures { shown result ≡ option_map string_bytes hostname.now }
 {
     match hostname {

@@ -8,7 +8,7 @@ ghost use Rattle.fe2o3_sasl_core.specs.SaslAcceptor.{ScramAcceptor, acceptor_mac
 ghost use Rattle.fe2o3_sasl_negotiation.specs.ClientNegotiation.{ClientReceives};
 ghost use Rattle.fe2o3_sasl_negotiation.specs.Connections.{ServersConnect, ClientsConnect, ServerConnectionsLogIn, ClientConnectionsLogIn};
 ghost use Rattle.fe2o3_sasl_negotiation.specs.CostLaws.{ServersCost, ClientsCost, ServersOfAreBounded, ServersAreBounded, ClientsAreBounded};
-ghost use Rattle.fe2o3_sasl_negotiation.specs.ExtendedHeaders.{ExtendedHeadersAreIgnored, ClientsIgnoreExtendedHeaders, PolicyClientsIgnoreExtendedHeaders};
+ghost use Rattle.fe2o3_sasl_negotiation.specs.ExtendedHeaders.{ExtendedHeadersAreIgnored, ClientsIgnoreExtendedHeaders};
 ghost use Rattle.fe2o3_sasl_negotiation.specs.Laws.{CutsDoNotMatter, ClientCutsDoNotMatter};
 ghost use Rattle.fe2o3_sasl_negotiation.specs.ScramConnections.{ScramServersServe, ScramClientsReport};
 ghost use Rattle.fe2o3_sasl_negotiation.specs.ServerNegotiation.{ServerSideAnswers, ServerReceives};
@@ -30,7 +30,6 @@ pub fn cuts<A: AuthenticatedUser>()
 pub fn extended_headers<A: AuthenticatedUser>()
     ensures server { ExtendedHeadersAreIgnored (ServerSideAnswers A.names A.machine) }
     ensures client { ClientsIgnoreExtendedHeaders }
-    ensures policy_client { PolicyClientsIgnoreExtendedHeaders }
 {}
 
 /// The headline theorem over the bytes of a server's connection, in whatever calls they are passed. A server of any

@@ -14,6 +14,7 @@ pub mod RunCostLemmas
 pub mod NameLemmas
 pub mod PolicyLemmas
 pub mod SelectionLemmas
+pub mod OfferLemmas
 pub mod ChannelPolicyLemmas
 pub mod AnyMechanismLemmas
 pub mod UnknownUserLemmas

@@ -13,6 +13,7 @@ use Rattle.fe2o3_sasl_core.specs.Costs.{ProfileCosts}
 use Rattle.fe2o3_sasl_core.specs.Events.{Given, ClientSays, Started, Answered, Refused as ClientRefused}
 use Rattle.fe2o3_sasl_core.specs.Profiles.{Profile, ScramProfile, MessageProfile, profile_state}
 use Rattle.fe2o3_sasl_core.specs.ProfileMachine.{ChallengeReplies, profile_machine}
+use Rattle.fe2o3_sasl_core.proofs.lemmas.machines.OfferLemmas.{Viewed, offer_view}
 use Rattle.fe2o3_sasl_core.specs.Runs.{ProfileSteps, Replies}
 use Rattle.fe2o3_sasl_core.specs.declared.sasl_profile.error.ProfileError.{ProfileError}
 use Rattle.fe2o3_sasl_core.specs.declared.sasl_profile.error.ProfileError.TheVariants.{Frame as FrameFault}
@@ -109,8 +110,12 @@ machine_responds : (profile : Profile) (hostname : Option (List ℕ)) (nonce : L
     → profile_machine profile hostname nonce frame reply moved → Responds reply moved
 machine_responds (ScramProfile client) hostname nonce frame reply moved is =
     scram_responds client hostname nonce frame reply moved is
-machine_responds profile hostname nonce (frames.Mechanisms names) reply moved (inl is) = responds reply _ moved is.1 tt
-machine_responds profile hostname nonce (frames.Mechanisms names) reply moved (inr is) = responds reply _ moved is.1 tt
+machine_responds profile hostname nonce (frames.Mechanisms names) reply moved is =
+    offer_responds (offer_view profile hostname nonce names reply moved is)
+  where
+    offer_responds : Viewed profile hostname nonce names reply moved → Responds reply moved
+    offer_responds (inl (chosen, for, sends, moves)) = responds reply _ moved sends tt
+    offer_responds (inr none) = responds reply _ moved none.1 tt
 machine_responds (MessageProfile mechanism message true) hostname nonce (frames.Challenge []) reply moved is =
     responds reply (Ok (frames.Response message)) moved is.0 (subst IsPast (sym is.1) tt)
 machine_responds profile hostname nonce frame reply moved is = responds reply _ moved is.0 tt

@@ -8,7 +8,7 @@ use Rattle.fe2o3_sasl_wire.specs.SaslFrames.{SaslFrame}
 use Rattle.fe2o3_sasl_core.specs.AnyMechanismLaws.{Machine}
 use Rattle.fe2o3_sasl_core.specs.Bodies.{SpellsBody}
 use Rattle.fe2o3_sasl_core.specs.Events.{ClientSays, Given, ServerSays}
-use Rattle.fe2o3_sasl_core.specs.Profiles.{Profile, ScramProfile, PlainProfile, AnonymousProfile, ExternalProfile, MessageProfile}
+use Rattle.fe2o3_sasl_core.specs.Profiles.{Profile, ScramProfile, PlainProfile, AnonymousProfile, ExternalProfile, MessageProfile, PolicyProfile}
 use Rattle.fe2o3_sasl_core.specs.ProfileMachine.{profile_machine}
 use Rattle.fe2o3_sasl_core.specs.Runs.{AcceptorGives, ProfileGives}
 use Rattle.fe2o3_sasl_core.specs.declared.sasl_profile.error.ProfileError.{ProfileError}
@@ -31,7 +31,7 @@ event_of body nonce = record { body = body; nonce = nonce }
 -- ---- any side
 
 -- a call is the same with two nonces if the answer to a unit is
-pub receives_alike : {S : Type 0} (Answers : Expected → S → List ℕ → List ℕ → SideOutput → S → Type 0) (nonce other : List ℕ)
+receives_alike : {S : Type 0} (Answers : Expected → S → List ℕ → List ℕ → SideOutput → S → Type 0) (nonce other : List ℕ)
     (progress : Progress) (side next : Side S) (bytes sent : List ℕ) (taken : ℕ)
     → (progress ≡ InProgress → (unit : List ℕ) (answer : SideOutput) (state : S)
     → Answers side.expected side.state nonce unit answer state → Answers side.expected side.state other unit answer state)
@@ -45,7 +45,7 @@ receives_alike Answers nonce other Authenticated side next bytes sent taken alik
 receives_alike Answers nonce other (Failed why) side next bytes sent taken alike rests = rests
 
 -- an answer to a body is the same in two ways if it is for a frame in turn
-pub answers_alike : {S : Type 0} (Asks Others : SideOutput → S → Type 0) (turn : FrameKind) (state next : S)
+answers_alike : {S : Type 0} (Asks Others : SideOutput → S → Type 0) (turn : FrameKind) (state next : S)
     (spelled : Result SaslFrame Error) (answer : SideOutput)
     → ((frame : SaslFrame) → spelled ≡ Ok frame → IsInTurn turn frame → Asks answer next → Others answer next)
     → AnswersTo Asks turn state spelled answer next → AnswersTo Others turn state spelled answer next
@@ -133,6 +133,7 @@ module _ (hostname : Option (List ℕ)) (nonce other : List ℕ) where
       by ExternalProfile replies = replies
       by (MessageProfile mechanism message true) replies = replies
       by (MessageProfile mechanism message false) replies = replies
+      by (PolicyProfile selection) replies = replies
   replies_alike turn (frames.Response text) unused in_turn profile next reply replies = by profile replies
     where
       by : (profile : Profile) → profile_machine profile hostname nonce (frames.Response text) reply next
@@ -143,6 +144,7 @@ module _ (hostname : Option (List ℕ)) (nonce other : List ℕ) where
       by ExternalProfile replies = replies
       by (MessageProfile mechanism message true) replies = replies
       by (MessageProfile mechanism message false) replies = replies
+      by (PolicyProfile selection) replies = replies
   replies_alike turn (frames.Challenge text) unused in_turn profile next reply replies = by profile text replies
     where
       by : (profile : Profile) (text : List ℕ) → profile_machine profile hostname nonce (frames.Challenge text) reply next
@@ -154,6 +156,7 @@ module _ (hostname : Option (List ℕ)) (nonce other : List ℕ) where
       by (MessageProfile mechanism message true) [] replies = replies
       by (MessageProfile mechanism message true) (byte ∷ text) replies = replies
       by (MessageProfile mechanism message false) text replies = replies
+      by (PolicyProfile selection) text replies = replies
   replies_alike turn (frames.Outcome code more) unused in_turn profile next reply replies = by profile code more replies
     where
       by : (profile : Profile) (code : SaslCode) (more : Option (List ℕ))
@@ -170,6 +173,7 @@ module _ (hostname : Option (List ℕ)) (nonce other : List ℕ) where
       by ExternalProfile code more replies = replies
       by (MessageProfile mechanism message true) code more replies = replies
       by (MessageProfile mechanism message false) code more replies = replies
+      by (PolicyProfile selection) code more replies = replies
   replies_alike turns.Mechanisms (frames.Mechanisms list) unused in_turn profile next reply replies = absurd (cc)
   replies_alike turns.Init (frames.Mechanisms list) unused in_turn profile next reply replies = absurd in_turn
   replies_alike turns.Challenge (frames.Mechanisms list) unused in_turn profile next reply replies = absurd in_turn
@@ -201,7 +205,7 @@ module _ (hostname : Option (List ℕ)) (nonce other : List ℕ) where
         outputs,
       )
 
-  pub client_answer_alike : (expected : Expected) → client_nonce_at InProgress expected ≡ false → (unit : List ℕ)
+  client_answer_alike : (expected : Expected) → client_nonce_at InProgress expected ≡ false → (unit : List ℕ)
       (answer : SideOutput) (profile next : Profile) → ClientSideAnswers hostname expected profile nonce unit answer next
       → ClientSideAnswers hostname expected profile other unit answer next
   client_answer_alike Header unused unit answer profile next answers = answers

@@ -1,33 +1,20 @@
--- A client sends no init of a mechanism that its policy does not allow, or that is not offered.
-use Rattle.std.proofs.Common.{◌≡◌, ◌≢◌, ◌&&◌, ℕ, Bool, true, false, Option, Some, None, List, [], ◌++◌, drop, take, refl, sym, ◌∙◌, ap, subst, inl, inr, Result, Ok, Err}
-use Rattle.std.specs.Prelude.{is_some}
+-- A client by a policy sends no init of a mechanism that its policy does not allow, or that is not offered.
+use Rattle.std.proofs.Common.{◌≡◌, ◌≢◌, ℕ, false, Option, Some, None, List, [], ◌++◌, drop, take, refl, ◌∙◌, ap, subst, inl, inr, Result, Ok, Err}
 use Rattle.fe2o3_sasl_wire.specs.SaslFrames as frames
 use Rattle.fe2o3_sasl_wire.specs.SaslFrames.{SaslFrame, canonical}
 use Rattle.fe2o3_sasl_wire.specs.declared.sasl_frames.error.Error.{Error}
 use Rattle.fe2o3_sasl_wire.specs.declared.sasl_frames.error.Error.TheVariants as faults
-use Rattle.fe2o3_scram.specs.declared.channel_binding.ChannelBinding.{ChannelBinding}
-use Rattle.fe2o3_scram.specs.declared.scram_messages.client_channel.ClientChannel.{ClientChannel}
-use Rattle.fe2o3_scram.specs.declared.hmac.ScramVersion.{ScramVersion}
-use Rattle.fe2o3_scram.specs.declared.hmac.ScramVersion.TheVariants.{Sha1, Sha256, Sha512}
-use Rattle.fe2o3_scram.specs.ChannelBinding.{is_bound, mechanism_of, plus_name}
-use Rattle.fe2o3_scram.specs.ClientSecret.{Secret, Password, Keys, Both}
-use Rattle.fe2o3_scram.specs.Hmac.{mechanism_name}
-use Rattle.fe2o3_sasl_core.specs.ActingProfiles.{acting_profile}
 use Rattle.fe2o3_sasl_core.specs.Bodies.{SpellsBody, carried}
-use Rattle.fe2o3_sasl_core.specs.ClientPolicy.{bound_channel, is_allowed, is_from, policy_name, profile_by, scram_by, secret_for, unbound_channel}
 use Rattle.fe2o3_sasl_core.specs.Events.{ClientSays, Given, Refused, Started}
-use Rattle.fe2o3_sasl_core.specs.Profiles.{AnonymousMessage, AnonymousProfile, ExternalMessage, ExternalProfile, MessageProfile, PlainProfile, Profile, ScramProfile, accepts_signature_by_challenge, initial_response, profile_name}
+use Rattle.fe2o3_sasl_core.specs.ProfileMachine.{IsSelected, profile_machine}
+use Rattle.fe2o3_sasl_core.specs.Profiles.{PolicyProfile, Profile, Selection, initial_response, profile_name}
 use Rattle.fe2o3_sasl_core.specs.Runs.{ProfileGives, Replies}
-use Rattle.fe2o3_sasl_core.specs.declared.client_policy.ClientPolicy.{ClientPolicy}
-use Rattle.fe2o3_sasl_core.specs.declared.client_policy.Mechanism.{Mechanism}
-use Rattle.fe2o3_sasl_core.specs.declared.client_policy.Mechanism.TheVariants.{ScramSha512Plus, ScramSha256Plus, ScramSha1Plus, ScramSha512, ScramSha256, ScramSha1, External, Plain, Anonymous}
 use Rattle.fe2o3_sasl_core.specs.declared.sasl_profile.error.ProfileError.{ProfileError}
-use Rattle.fe2o3_sasl_core.specs.declared.sasl_profile.error.ProfileError.TheVariants.{Frame as FrameFault}
-use Rattle.fe2o3_sasl_core.proofs.lemmas.frames.SpellingLemmas.{one_spelled_frame, one_spelling}
-use Rattle.fe2o3_sasl_negotiation.specs.ClientNegotiation.{ClientOutputs, ClientReplies}
+use Rattle.fe2o3_sasl_core.specs.declared.sasl_profile.error.ProfileError.TheVariants.{Frame as FrameFault, NotImplemented}
+use Rattle.fe2o3_sasl_core.proofs.lemmas.frames.SpellingLemmas.{one_spelling}
+use Rattle.fe2o3_sasl_negotiation.specs.ClientNegotiation.{AsksProfile, ClientOutputs, ClientSideAnswers}
 use Rattle.fe2o3_sasl_negotiation.specs.Framing.{framed, size_of, unit_size, IsWhole}
 use Rattle.fe2o3_sasl_negotiation.specs.Negotiations.{IsInTurn, ReceivesAt, Side, SideOutput, Sends}
-use Rattle.fe2o3_sasl_negotiation.specs.PolicyClient.{IsActing, PolicySideAnswers, Selection, SelectsFor}
 use Rattle.fe2o3_sasl_negotiation.specs.PolicyLaws.{NothingBelowPolicy, SendsAllowed}
 use Rattle.fe2o3_sasl_negotiation.specs.declared.progress.Expected.{Expected}
 use Rattle.fe2o3_sasl_negotiation.specs.declared.progress.Expected.TheVariants.{Header, Frame}
@@ -36,120 +23,58 @@ use Rattle.fe2o3_sasl_negotiation.specs.declared.progress.FrameKind.TheVariants 
 use Rattle.fe2o3_sasl_negotiation.specs.declared.progress.Progress.{Progress}
 use Rattle.fe2o3_sasl_negotiation.specs.declared.progress.Progress.TheVariants.{Authenticated, Failed, InProgress}
 use Rattle.fe2o3_sasl_negotiation.proofs.lemmas.PolicyLawLemmas.{sent_is}
+use Rattle.fe2o3_sasl_negotiation.proofs.lemmas.SelectedProfileLemmas.{acting_name, selected_name}
 
--- ---- the name of a selected profile
-
-abbrev name_in : Option Profile → List ℕ
-name_in None = []
-name_in (Some profile) = profile_name profile
-
--- a policy that allows a mechanism with -PLUS has a channel, which such a profile binds
-binds : (channel : Option ChannelBinding) (is_strong : Bool) → (is_some channel && is_strong) ≡ true
-    → is_bound (bound_channel channel) ≡ true
-binds None is_strong allowed = absurd (cc)
-binds (Some binding) is_strong allowed = refl
-
--- and one without -PLUS binds none
-binds_none : (channel : Option ChannelBinding) → is_bound (unbound_channel channel) ≡ false
-binds_none None = refl
-binds_none (Some binding) = refl
-
-module _ (policy : ClientPolicy) (user : List ℕ) where
-  scram_name : (channel : ClientChannel) (version : ScramVersion) (secret : Option Secret) (profile : Profile)
-      → scram_by policy channel user version secret ≡ Some profile
-      → profile_name profile ≡ mechanism_of version (is_bound channel)
-  scram_name channel version None profile is = absurd (cc)
-  scram_name channel version (Some secret) profile is = sym (ap name_in is)
-
-  bound_name : (version : ScramVersion) (secret : Secret) (profile : Profile)
-      → (is_some policy.channel && is_from policy.floor version) ≡ true
-      → scram_by policy (bound_channel policy.channel) user version (secret_for version secret) ≡ Some profile
-      → profile_name profile ≡ plus_name version
-  bound_name version secret profile allowed is =
-      scram_name (bound_channel policy.channel) version (secret_for version secret) profile is
-      ∙ ap (mechanism_of version) (binds policy.channel (is_from policy.floor version) allowed)
-
-  unbound_name : (version : ScramVersion) (secret : Secret) (profile : Profile)
-      → scram_by policy (unbound_channel policy.channel) user version (secret_for version secret) ≡ Some profile
-      → profile_name profile ≡ mechanism_name version
-  unbound_name version secret profile is =
-      scram_name (unbound_channel policy.channel) version (secret_for version secret) profile is
-      ∙ ap (mechanism_of version) (binds_none policy.channel)
-
-  selected_name : (secret : Secret) (mechanism : Mechanism) (profile : Profile) → is_allowed policy mechanism ≡ true
-      → profile_by policy user secret mechanism ≡ Some profile → profile_name profile ≡ policy_name mechanism
-  selected_name secret ScramSha512Plus profile allowed is = bound_name Sha512 secret profile allowed is
-  selected_name secret ScramSha256Plus profile allowed is = bound_name Sha256 secret profile allowed is
-  selected_name secret ScramSha1Plus profile allowed is = bound_name Sha1 secret profile allowed is
-  selected_name secret ScramSha512 profile allowed is = unbound_name Sha512 secret profile is
-  selected_name secret ScramSha256 profile allowed is = unbound_name Sha256 secret profile is
-  selected_name secret ScramSha1 profile allowed is = unbound_name Sha1 secret profile is
-  selected_name secret External profile allowed is = sym (ap name_in is)
-  selected_name (Password password) Plain profile allowed is = sym (ap name_in is)
-  selected_name (Keys keys) Plain profile allowed is = absurd (cc)
-  selected_name (Both password keys) Plain profile allowed is = sym (ap name_in is)
-  selected_name secret Anonymous profile allowed is = sym (ap name_in is)
-
--- ---- the init that a profile sends
+-- ---- the init that is sent
 
 -- an init of this mechanism, in a frame
 abbrev SendsInit : List ℕ → Option (List ℕ) → SideOutput → Type 0
 SendsInit name hostname answer = (response : Option (List ℕ)) × (init : List ℕ)
     × (canonical (frames.Init name response hostname) ≡ Some init) × (answer.sent ≡ framed init)
 
-module _ (hostname : Option (List ℕ)) (profile moved : Profile) (event : Given) (names : List (List ℕ))
-    (answer : SideOutput) (some : answer.sent ≡ [] → ⊥) (spells : SpellsBody event.body (Ok (frames.Mechanisms names))) where
-  abbrev signs : Bool
-  signs = accepts_signature_by_challenge profile
+-- an init of a selected profile
+abbrev SendsSelected : Selection → List (List ℕ) → Option (List ℕ) → SideOutput → Type 0
+SendsSelected selection names hostname answer = (chosen : Profile) × IsSelected selection names chosen
+    × SendsInit (profile_name chosen) hostname answer
 
-  sends : (init : List ℕ) → canonical (frames.Init (profile_name profile) (initial_response profile event.nonce) hostname)
-      ≡ Some init
-      → Sends init InProgress (Frame turns.Challenge) answer → SendsInit (profile_name profile) hostname answer
-  sends init is (inl (fits, same)) = (initial_response profile event.nonce, init, is, sent_is answer _ same)
-  sends init is (inr (long, same)) = absurd (some (sent_is answer _ same))
+module _ (hostname : Option (List ℕ)) (selection : Selection) (next : Profile) (turn : FrameKind) (event : Given)
+    (names : List (List ℕ)) (answer : SideOutput) (some : answer.sent ≡ [] → ⊥) (is_turn : turn ≡ turns.Mechanisms)
+    (spells : SpellsBody event.body (Ok (frames.Mechanisms names))) where
+  abbrev Outputs : ClientSays → Type 0
+  Outputs says = ClientOutputs false says turns.Mechanisms answer
 
-  carries : (body : Option (List ℕ)) (says : ClientSays)
-      → canonical (frames.Init (profile_name profile) (initial_response profile event.nonce) hostname) ≡ body
-      → says ≡ carried (Refused (FrameFault faults.TooLarge)) (λ b. Started b) body
-      → ClientOutputs signs says turns.Mechanisms answer → SendsInit (profile_name profile) hostname answer
-  carries None says written is outputs =
-      absurd (some (sent_is answer _ (subst (λ (s : ClientSays). ClientOutputs signs s turns.Mechanisms answer) is outputs)))
-  carries (Some init) says written is outputs =
-      sends init written (subst (λ (s : ClientSays). ClientOutputs signs s turns.Mechanisms answer) is outputs)
+  sends : (chosen : Profile) (init : List ℕ)
+      → canonical (frames.Init (profile_name chosen) (initial_response chosen event.nonce) hostname) ≡ Some init
+      → Sends init InProgress (Frame turns.Challenge) answer → SendsInit (profile_name chosen) hostname answer
+  sends chosen init is (inl (fits, same)) = (initial_response chosen event.nonce, init, is, sent_is answer _ same)
+  sends chosen init is (inr (long, same)) = absurd (some (sent_is answer _ same))
 
-  gives : (says : ClientSays) → ProfileGives hostname profile event (Ok (frames.Mechanisms names)) says moved
-      → ClientOutputs signs says turns.Mechanisms answer → SendsInit (profile_name profile) hostname answer
-  gives says (inl (allocates, is, same)) outputs =
-      absurd (subst (λ (s : ClientSays). ClientOutputs signs s turns.Mechanisms answer) is outputs)
-  gives says (inr (reply, after, inl (offered, is, next), replies)) outputs =
-      carries _ says refl
-      (subst (λ (r : Result SaslFrame ProfileError). Replies profile after r says moved) is replies).0 outputs
-  gives says (inr (reply, after, inr (other, is, next), replies)) outputs =
-      absurd (some (sent_is answer _ (subst (λ (s : ClientSays). ClientOutputs signs s turns.Mechanisms answer)
-      (subst (λ (r : Result SaslFrame ProfileError). Replies profile after r says moved) is replies).0 outputs)))
+  carries : (chosen : Profile) (body : Option (List ℕ)) (says : ClientSays)
+      → canonical (frames.Init (profile_name chosen) (initial_response chosen event.nonce) hostname) ≡ body
+      → says ≡ carried (Refused (FrameFault faults.TooLarge)) (λ b. Started b) body → Outputs says
+      → SendsInit (profile_name chosen) hostname answer
+  carries chosen None says written is outputs = absurd (some (sent_is answer _ (subst Outputs is outputs)))
+  carries chosen (Some init) says written is outputs = sends chosen init written (subst Outputs is outputs)
 
-  init_sent : ClientReplies hostname turns.Mechanisms profile event answer moved
-      → SendsInit (profile_name profile) hostname answer
-  init_sent (Err fault, too, (is, same)) = absurd (some (sent_is answer _ is))
-  init_sent (Ok frame, too, inl (out, is, same)) = absurd (some (sent_is answer _ is))
-  init_sent (Ok frame, too, inr (in_turn, (says, (spelled, spelt, step), outputs))) =
-      gives says (subst (λ (s : Result SaslFrame Error). ProfileGives hostname profile event s says moved)
-      (one_spelling event.body spelled (Ok (frames.Mechanisms names)) spelt spells) step) outputs
+  gives : (says : ClientSays) → ProfileGives hostname (PolicyProfile selection) event (Ok (frames.Mechanisms names)) says next
+      → Outputs says → SendsSelected selection names hostname answer
+  gives says (inl (allocates, is, same)) outputs = absurd (subst Outputs is outputs)
+  gives says (inr (reply, moved, inl (chosen, selected, is, after), replies)) outputs = (
+    chosen,
+    selected,
+    carries chosen _ says refl (subst (λ (r : Result SaslFrame ProfileError).
+        Replies (PolicyProfile selection) moved r says next) is replies).0 outputs,
+  )
+  gives says (inr (reply, moved, inr (none, is, after), replies)) outputs =
+      absurd (some (sent_is answer _ (subst Outputs (subst (λ (r : Result SaslFrame ProfileError).
+      Replies (PolicyProfile selection) moved r says next) is replies).0 outputs)))
 
--- ---- the name of a profile that acts for an identity
-
-named_alike : (chosen : Profile) (identity : List ℕ) → profile_name (acting_profile chosen identity) ≡ profile_name chosen
-named_alike (ScramProfile client) identity = refl
-named_alike (PlainProfile other user password) identity = refl
-named_alike AnonymousProfile identity = refl
-named_alike ExternalProfile identity = refl
-named_alike (MessageProfile AnonymousMessage message is_due) identity = refl
-named_alike (MessageProfile ExternalMessage message is_due) identity = refl
-
-acting_name : (acts_for : Option (List ℕ)) (chosen profile : Profile) → IsActing acts_for chosen profile
-    → profile_name profile ≡ profile_name chosen
-acting_name None chosen profile is = ap profile_name is
-acting_name (Some identity) chosen profile (can, is) = ap profile_name is ∙ named_alike chosen identity
+  init_sent : AsksProfile hostname turn (PolicyProfile selection) event answer next
+      → SendsSelected selection names hostname answer
+  init_sent (says, (spelled, spelt, step), outputs) =
+      gives says (subst (λ (s : Result SaslFrame Error). ProfileGives hostname (PolicyProfile selection) event s says next)
+      (one_spelling event.body spelled (Ok (frames.Mechanisms names)) spelt spells) step)
+      (subst (λ (t : FrameKind). ClientOutputs false says t answer) is_turn outputs)
 
 -- ---- what a call sends
 
@@ -162,27 +87,62 @@ list_in_turn turns.Response names in_turn = absurd in_turn
 list_in_turn turns.Outcome names in_turn = absurd in_turn
 list_in_turn turns.SignatureChallenge names in_turn = absurd in_turn
 
-module _ (selection : Selection) (side next : Side (Option Profile)) (bytes nonce sent : List ℕ) (taken : ℕ)
-    (some : sent ≢ []) (going : side.progress ≡ InProgress) where
-  offered_list : (turn : FrameKind) → side.expected ≡ Frame turn → turn ≡ turns.Mechanisms
-      → IsWhole (Frame turn) side.limit (side.held ++ bytes) → (names : List (List ℕ)) (answer : SideOutput)
-      (state : Option Profile) → sent ≡ answer.sent
-      → SpellsBody (drop 4 (take (size_of (side.held ++ bytes)) (side.held ++ bytes))) (Ok (frames.Mechanisms names))
-      → SelectsFor selection turn
-      (record { body = drop 4 (take (size_of (side.held ++ bytes)) (side.held ++ bytes)); nonce = nonce })
-      (frames.Mechanisms names) answer state → SendsAllowed selection side bytes sent
-  offered_list turn expects is whole names answer state same spells (inl (none, closed, kept)) =
-      absurd (some (same ∙ sent_is answer _ closed))
-  offered_list turn expects is whole names answer state same spells (inr (profile, moved, selected, replies, kept)) =
-      let event : Given =
-      record { body = drop 4 (take (size_of (side.held ++ bytes)) (side.held ++ bytes)); nonce = nonce } in
-      let init = init_sent selection.hostname profile moved event names answer (λ empty. some (same ∙ empty)) spells
-      (subst (λ (t : FrameKind). ClientReplies selection.hostname t profile event answer moved) is replies) in
-      let (chosen, (mechanism, first, is_by), acting) = selected in
-      let named = acting_name selection.acts_for chosen profile acting
-      ∙ selected_name selection.policy selection.user selection.secret mechanism chosen first.2.0 is_by in
+module _ (hostname : Option (List ℕ)) (selection : Selection) (side next : Side Profile) (bytes nonce sent : List ℕ)
+    (taken : ℕ) (some : sent ≢ []) (going : side.progress ≡ InProgress) where
+  abbrev body : List ℕ
+  body = drop 4 (take (size_of (side.held ++ bytes)) (side.held ++ bytes))
+
+  abbrev event : Given
+  event = record { body = body; nonce = nonce }
+
+  -- nothing is sent for a frame that is no list of mechanisms
+  rejected : (turn : FrameKind) (answer : SideOutput) (state moved : Profile) (reply : Result SaslFrame ProfileError)
+      (says : ClientSays) → reply ≡ Err NotImplemented → Replies (PolicyProfile selection) moved reply says state
+      → ClientOutputs false says turn answer → answer.sent ≡ []
+  rejected turn answer state moved reply says is replies outputs =
+      sent_is answer _ (subst (λ (x : ClientSays). ClientOutputs false x turn answer)
+      (subst (λ (r : Result SaslFrame ProfileError). Replies (PolicyProfile selection) moved r says state) is replies).0 outputs)
+
+  silent : (turn : FrameKind) (answer : SideOutput) (state : Profile) (says : ClientSays) (frame : SaslFrame)
+      → ((names : List (List ℕ)) → frame ≢ frames.Mechanisms names)
+      → ProfileGives hostname (PolicyProfile selection) event (Ok frame) says state → ClientOutputs false says turn answer
+      → answer.sent ≡ []
+  silent turn answer state says frame other (inl (allocates, is, same)) outputs =
+      absurd (subst (λ (x : ClientSays). ClientOutputs false x turn answer) is outputs)
+  silent turn answer state says frame other (inr (reply, moved, made, replies)) outputs = go frame other made
+    where
+      go : (frame : SaslFrame) → ((names : List (List ℕ)) → frame ≢ frames.Mechanisms names)
+          → profile_machine (PolicyProfile selection) hostname nonce frame reply moved → answer.sent ≡ []
+      go (frames.Mechanisms names) other made = absurd (other names refl)
+      go (frames.Init mechanism response host) other made =
+          rejected turn answer state moved reply says made.0 replies outputs
+      go (frames.Challenge text) other made = rejected turn answer state moved reply says made.0 replies outputs
+      go (frames.Response text) other made = rejected turn answer state moved reply says made.0 replies outputs
+      go (frames.Outcome code more) other made = rejected turn answer state moved reply says made.0 replies outputs
+
+  apart : {A : Type 0} (turn : FrameKind) (answer : SideOutput) (state : Profile) → sent ≡ answer.sent
+      → (frame : SaslFrame) → ((names : List (List ℕ)) → frame ≢ frames.Mechanisms names) → SpellsBody body (Ok frame)
+      → AsksProfile hostname turn (PolicyProfile selection) event answer state → A
+  apart turn answer state same frame other spells (says, (spelled, spelt, step), outputs) = absurd (some (same
+      ∙ silent turn answer state says frame other
+      (subst (λ (s : Result SaslFrame Error). ProfileGives hostname (PolicyProfile selection) event s says state)
+      (one_spelling body spelled (Ok frame) spelt spells) step) outputs))
+
+  -- an answer to a frame is an init for a list of mechanisms
+  by_list : (turn : FrameKind) → side.expected ≡ Frame turn → IsWhole (Frame turn) side.limit (side.held ++ bytes)
+      → (answer : SideOutput) (state : Profile) → sent ≡ answer.sent → (names : List (List ℕ))
+      → SpellsBody body (Ok (frames.Mechanisms names)) → IsInTurn turn (frames.Mechanisms names)
+      → AsksProfile hostname turn (PolicyProfile selection) event answer state
+      → SendsAllowed hostname selection side bytes sent
+  by_list turn expects whole answer state same names spells in_turn asks =
+      let is = list_in_turn turn names in_turn in
+      let (chosen, selected, init) = init_sent hostname selection state turn event names answer
+      (λ empty. some (same ∙ empty)) is spells asks in
+      let (taken_one, (mechanism, first, is_by), acting) = selected in
+      let named = acting_name selection.acts_for taken_one chosen acting
+      ∙ selected_name selection.policy selection.user selection.secret mechanism taken_one first.2.0 is_by in
       record {
-        body = event.body;
+        body = body;
         names = names;
         mechanism = mechanism;
         response = init.0;
@@ -196,51 +156,55 @@ module _ (selection : Selection) (side next : Side (Option Profile)) (bytes nonc
         spells = spells;
         allowed = first.2.0;
         offered = first.2.2;
-        written = subst (λ (name : List ℕ). canonical (frames.Init name init.0 selection.hostname) ≡ Some init.1) named init.2;
+        written = subst (λ (name : List ℕ). canonical (frames.Init name init.0 hostname) ≡ Some init.1) named init.2;
         sends = same ∙ init.3;
       }
 
+  by_frame : (turn : FrameKind) → side.expected ≡ Frame turn → IsWhole (Frame turn) side.limit (side.held ++ bytes)
+      → (answer : SideOutput) (state : Profile) → sent ≡ answer.sent → (frame : SaslFrame) → SpellsBody body (Ok frame)
+      → IsInTurn turn frame → AsksProfile hostname turn (PolicyProfile selection) event answer state
+      → SendsAllowed hostname selection side bytes sent
+  by_frame turn expects whole answer state same (frames.Mechanisms names) spells in_turn asks =
+      by_list turn expects whole answer state same names spells in_turn asks
+  by_frame turn expects whole answer state same (frames.Init mechanism response host) spells in_turn asks =
+      apart turn answer state same (frames.Init mechanism response host) (λ names is. absurd (cc)) spells asks
+  by_frame turn expects whole answer state same (frames.Challenge text) spells in_turn asks =
+      apart turn answer state same (frames.Challenge text) (λ names is. absurd (cc)) spells asks
+  by_frame turn expects whole answer state same (frames.Response text) spells in_turn asks =
+      apart turn answer state same (frames.Response text) (λ names is. absurd (cc)) spells asks
+  by_frame turn expects whole answer state same (frames.Outcome code more) spells in_turn asks =
+      apart turn answer state same (frames.Outcome code more) (λ names is. absurd (cc)) spells asks
+
   allowed_answer : (expected : Expected) → side.expected ≡ expected → IsWhole expected side.limit (side.held ++ bytes)
-      → (answer : SideOutput) (state : Option Profile) → sent ≡ answer.sent
-      → PolicySideAnswers selection expected None nonce (take (unit_size expected (side.held ++ bytes)) (side.held ++ bytes))
-      answer state → SendsAllowed selection side bytes sent
+      → (answer : SideOutput) (state : Profile) → sent ≡ answer.sent
+      → ClientSideAnswers hostname expected (PolicyProfile selection) nonce
+      (take (unit_size expected (side.held ++ bytes)) (side.held ++ bytes)) answer state
+      → SendsAllowed hostname selection side bytes sent
   allowed_answer Header expects whole answer state same (inl (other, is), kept) = absurd (some (same ∙ sent_is answer _ is))
   allowed_answer Header expects whole answer state same (inr (sasl, is), kept) = absurd (some (same ∙ sent_is answer _ is))
   allowed_answer (Frame turn) expects whole answer state same (Err fault, spells, (is, kept)) =
       absurd (some (same ∙ sent_is answer _ is))
   allowed_answer (Frame turn) expects whole answer state same (Ok frame, spells, inl (out, is, kept)) =
       absurd (some (same ∙ sent_is answer _ is))
-  allowed_answer (Frame turn) expects whole answer state same (Ok frame, spells, inr (in_turn, (other, spelt, selects))) =
-      by other spelt selects
-    where
-      by : (other : SaslFrame) → SpellsBody (drop 4 (take (size_of (side.held ++ bytes)) (side.held ++ bytes))) (Ok other)
-          → SelectsFor selection turn
-          (record { body = drop 4 (take (size_of (side.held ++ bytes)) (side.held ++ bytes)); nonce = nonce }) other answer
-          state → SendsAllowed selection side bytes sent
-      by (frames.Mechanisms names) spelt selects =
-          offered_list turn expects (list_in_turn turn names (subst (λ (f : SaslFrame). IsInTurn turn f)
-          (one_spelled_frame (drop 4 (take (size_of (side.held ++ bytes)) (side.held ++ bytes))) frame
-          (frames.Mechanisms names) spells spelt) in_turn)) whole names answer state same spelt selects
-      by (frames.Init mechanism response hostname) spelt (is, kept) = absurd (some (same ∙ sent_is answer _ is))
-      by (frames.Challenge text) spelt (is, kept) = absurd (some (same ∙ sent_is answer _ is))
-      by (frames.Response text) spelt (is, kept) = absurd (some (same ∙ sent_is answer _ is))
-      by (frames.Outcome code more) spelt (is, kept) = absurd (some (same ∙ sent_is answer _ is))
+  allowed_answer (Frame turn) expects whole answer state same (Ok frame, spells, inr (in_turn, asks)) =
+      by_frame turn expects whole answer state same frame spells in_turn asks
 
-allowed_at : (selection : Selection) (side next : Side (Option Profile)) (bytes nonce sent : List ℕ) (taken : ℕ)
-    (progress : Progress) → side.progress ≡ progress → side.state ≡ None
-    → ReceivesAt progress (PolicySideAnswers selection) side bytes nonce taken sent next → sent ≢ []
-    → SendsAllowed selection side bytes sent
-allowed_at selection side next bytes nonce sent taken InProgress going none (inl (part, (t, s, is))) some = absurd (some s)
-allowed_at selection side next bytes nonce sent taken InProgress going none (inr (inl (refused, (t, s, is)))) some =
+allowed_at : (hostname : Option (List ℕ)) (selection : Selection) (side next : Side Profile) (bytes nonce sent : List ℕ)
+    (taken : ℕ) (progress : Progress) → side.progress ≡ progress → side.state ≡ PolicyProfile selection
+    → ReceivesAt progress (ClientSideAnswers hostname) side bytes nonce taken sent next → sent ≢ []
+    → SendsAllowed hostname selection side bytes sent
+allowed_at hostname selection side next bytes nonce sent taken InProgress going state (inl (part, (t, s, is))) some =
     absurd (some s)
-allowed_at selection side next bytes nonce sent taken InProgress going none
-    (inr (inr (answer, state, whole, answers, (t, s, is)))) some =
-    allowed_answer selection side next bytes nonce sent taken some going side.expected refl whole answer state s
-    (subst (λ (p : Option Profile). PolicySideAnswers selection side.expected p nonce
-    (take (unit_size side.expected (side.held ++ bytes)) (side.held ++ bytes)) answer state) none answers)
-allowed_at selection side next bytes nonce sent taken Authenticated going none (t, s, is) some = absurd (some s)
-allowed_at selection side next bytes nonce sent taken (Failed why) going none (t, s, is) some = absurd (some s)
+allowed_at hostname selection side next bytes nonce sent taken InProgress going state (inr (inl (refused, (t, s, is)))) some =
+    absurd (some s)
+allowed_at hostname selection side next bytes nonce sent taken InProgress going state
+    (inr (inr (answer, after, whole, answers, (t, s, is)))) some =
+    allowed_answer hostname selection side next bytes nonce sent taken some going side.expected refl whole answer after s
+    (subst (λ (p : Profile). ClientSideAnswers hostname side.expected p nonce
+    (take (unit_size side.expected (side.held ++ bytes)) (side.held ++ bytes)) answer after) state answers)
+allowed_at hostname selection side next bytes nonce sent taken Authenticated going state (t, s, is) some = absurd (some s)
+allowed_at hostname selection side next bytes nonce sent taken (Failed why) going state (t, s, is) some = absurd (some s)
 
 pub nothing_below_policy : NothingBelowPolicy
-nothing_below_policy selection side next bytes nonce sent taken none receives some =
-    allowed_at selection side next bytes nonce sent taken side.progress refl none receives some
+nothing_below_policy hostname selection side next bytes nonce sent taken state receives some =
+    allowed_at hostname selection side next bytes nonce sent taken side.progress refl state receives some

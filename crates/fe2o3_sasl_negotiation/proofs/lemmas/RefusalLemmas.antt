@@ -10,8 +10,9 @@ use Rattle.fe2o3_scram.specs.ScramClient.{ClientSide, ClientState, AnswersIn, Ch
 use Rattle.fe2o3_scram.specs.ScramClient as client_states
 use Rattle.fe2o3_sasl_core.specs.Events.{Given, Failed, ClientSays, Started, Answered, Refused}
 use Rattle.fe2o3_sasl_core.specs.Bodies.{carried, server_says}
-use Rattle.fe2o3_sasl_core.specs.Profiles.{Profile, ScramProfile, PlainProfile, AnonymousProfile, ExternalProfile, MessageProfile}
+use Rattle.fe2o3_sasl_core.specs.Profiles.{Profile, ScramProfile, PlainProfile, AnonymousProfile, ExternalProfile, MessageProfile, PolicyProfile}
 use Rattle.fe2o3_sasl_core.specs.ProfileMachine.{ChallengeReplies, client_frame, profile_machine}
+use Rattle.fe2o3_sasl_core.proofs.lemmas.machines.OfferLemmas.{Viewed, offer_view}
 use Rattle.fe2o3_sasl_core.specs.Runs.{SendsCanonical, AcceptorAnswers, AcceptorGives, AcceptorSteps, Replies, ProfileSteps}
 use Rattle.fe2o3_sasl_core.specs.declared.sasl_profile.error.ProfileError.{ProfileError}
 use Rattle.fe2o3_sasl_core.specs.declared.sasl_profile.error.ProfileError.TheVariants.{Frame}
@@ -51,9 +52,12 @@ verification_refused (client_states.Complete keys) side after text kind refused 
 machine_refused : (profile : Profile) (hostname : Option (List ℕ)) (nonce : List ℕ) (frame : SaslFrame)
     (reply : Result SaslFrame ProfileError) (fault : ProfileError) (moved : Profile) → reply ≡ Err fault
     → profile_machine profile hostname nonce frame reply moved → moved ≡ profile
-machine_refused profile hostname nonce (frames.Mechanisms names) reply fault moved is (inl m) =
-    let apart = m.1 in absurd (cc)
-machine_refused profile hostname nonce (frames.Mechanisms names) reply fault moved is (inr m) = m.2
+machine_refused profile hostname nonce (frames.Mechanisms names) reply fault moved is m =
+    go (offer_view profile hostname nonce names reply moved m)
+  where
+    go : Viewed profile hostname nonce names reply moved → moved ≡ profile
+    go (inl (chosen, for, apart, moves)) = absurd (cc)
+    go (inr none) = none.2
 machine_refused (ScramProfile client) hostname nonce (frames.Challenge text) reply fault moved is (inl m) = m.2
 machine_refused (ScramProfile client) hostname nonce (frames.Challenge text) reply fault moved is (inr m) =
     by (expects_signature client) m.1
@@ -116,6 +120,10 @@ machine_refused ExternalProfile hostname nonce (frames.Challenge text) reply fau
 machine_refused ExternalProfile hostname nonce (frames.Outcome code more) reply fault moved is m = m.1
 machine_refused ExternalProfile hostname nonce (frames.Init mechanism response host) reply fault moved is m = m.1
 machine_refused ExternalProfile hostname nonce (frames.Response text) reply fault moved is m = m.1
+machine_refused (PolicyProfile selection) hostname nonce (frames.Challenge text) reply fault moved is m = m.1
+machine_refused (PolicyProfile selection) hostname nonce (frames.Outcome code more) reply fault moved is m = m.1
+machine_refused (PolicyProfile selection) hostname nonce (frames.Init mechanism response host) reply fault moved is m = m.1
+machine_refused (PolicyProfile selection) hostname nonce (frames.Response text) reply fault moved is m = m.1
 machine_refused (MessageProfile mechanism message true) hostname nonce (frames.Challenge []) reply fault moved is m =
     let no = sym is ∙ m.0 in absurd (cc)
 machine_refused (MessageProfile mechanism message true) hostname nonce (frames.Challenge (byte ∷ rest)) reply fault moved

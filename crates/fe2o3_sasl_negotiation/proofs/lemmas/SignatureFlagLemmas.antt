@@ -9,10 +9,11 @@ use Rattle.fe2o3_scram.specs.ScramClient as client_states
 use Rattle.fe2o3_scram.specs.ScramClient.{ClientSide, ClientState, AnswersIn, ChecksSignatureIn, ConcludesIn, VerifiesIn, expects_signature}
 use Rattle.fe2o3_sasl_core.specs.Bodies.{carried}
 use Rattle.fe2o3_sasl_core.specs.Events.{Given, ClientSays}
-use Rattle.fe2o3_sasl_core.specs.Profiles.{Profile, ScramProfile, PlainProfile, AnonymousProfile, ExternalProfile, MessageProfile, accepts_signature_by_challenge}
+use Rattle.fe2o3_sasl_core.specs.Profiles.{Profile, ScramProfile, PlainProfile, AnonymousProfile, ExternalProfile, MessageProfile, PolicyProfile, accepts_signature_by_challenge, after_init}
 use Rattle.fe2o3_sasl_core.specs.ProfileMachine.{ChallengeReplies, profile_machine}
 use Rattle.fe2o3_sasl_core.specs.Runs.{ProfileGives, ProfileSteps, Replies, Runs}
 use Rattle.fe2o3_sasl_core.specs.declared.sasl_profile.error.ProfileError.{ProfileError}
+use Rattle.fe2o3_sasl_negotiation.proofs.lemmas.SelectedProfileLemmas.{selected_ordinary}
 
 -- the second profile accepts the signature in a challenge exactly if the first does
 abbrev pub Stays : Profile → Profile → Type 0
@@ -87,6 +88,14 @@ scram_stays client hostname nonce (frames.Init mechanism response host) reply mo
     ap accepts_signature_by_challenge is.1
 scram_stays client hostname nonce (frames.Response text) reply moved is = ap accepts_signature_by_challenge is.1
 
+started_stays : (profile : Profile) (nonce : List ℕ) → Stays profile (after_init profile nonce)
+started_stays (ScramProfile client) nonce = refl
+started_stays (PlainProfile identity user password) nonce = refl
+started_stays AnonymousProfile nonce = refl
+started_stays ExternalProfile nonce = refl
+started_stays (MessageProfile mechanism message is_due) nonce = refl
+started_stays (PolicyProfile selection) nonce = refl
+
 machine_stays : (profile : Profile) (hostname : Option (List ℕ)) (nonce : List ℕ) (frame : SaslFrame)
     (reply : Result SaslFrame ProfileError) (moved : Profile)
     → profile_machine profile hostname nonce frame reply moved → Stays profile moved
@@ -107,6 +116,12 @@ machine_stays ExternalProfile hostname nonce (frames.Mechanisms names) reply mov
 machine_stays ExternalProfile hostname nonce (frames.Mechanisms names) reply moved (inr is) =
     ap accepts_signature_by_challenge is.2
 machine_stays ExternalProfile hostname nonce frame reply moved is = ap accepts_signature_by_challenge is.1
+machine_stays (PolicyProfile selection) hostname nonce (frames.Mechanisms names) reply moved (inl (chosen, selected, is, to)) =
+    ap accepts_signature_by_challenge to
+    ∙ (started_stays chosen nonce ∙ (selected_ordinary selection names chosen selected).1)
+machine_stays (PolicyProfile selection) hostname nonce (frames.Mechanisms names) reply moved (inr is) =
+    ap accepts_signature_by_challenge is.2
+machine_stays (PolicyProfile selection) hostname nonce frame reply moved is = ap accepts_signature_by_challenge is.1
 machine_stays (MessageProfile mechanism message is_due) hostname nonce (frames.Mechanisms names) reply moved (inl is) =
     ap accepts_signature_by_challenge is.2
 machine_stays (MessageProfile mechanism message is_due) hostname nonce (frames.Mechanisms names) reply moved (inr is) =

@@ -13,8 +13,8 @@ use Rattle.fe2o3_scram.specs.ScramClient.{ClientSide, ClientState, ReachesSaltIn
 use Rattle.fe2o3_sasl_core.specs.ClientHistory.{ClientAllocates}
 use Rattle.fe2o3_sasl_core.specs.Events.{Login}
 use Rattle.fe2o3_sasl_core.specs.Laws.{WantsAtServer}
-use Rattle.fe2o3_sasl_core.specs.Profiles.{Profile, ScramProfile, PlainProfile, AnonymousProfile, ExternalProfile, MessageProfile}
-use Rattle.fe2o3_sasl_core.specs.ProfileMachine.{FrameAllocates, ViewAllocates, StepAllocates, ChallengeAllocates, IsChallengeDue, IsStarted, IsAnswered}
+use Rattle.fe2o3_sasl_core.specs.Profiles.{Profile, ScramProfile, PlainProfile, AnonymousProfile, ExternalProfile, MessageProfile, PolicyProfile, Selection}
+use Rattle.fe2o3_sasl_core.specs.ProfileMachine.{FrameAllocates, NoneCanBeTaken, OfferAllocates, ViewAllocates, StepAllocates, ChallengeAllocates, IsChallengeDue, IsStarted, IsAnswered}
 use Rattle.fe2o3_sasl.specs.examples.MemoryExamples.{AcceptorsAskForNone, AskForNone, OwnedAskForNone, ServersWantNone, ClientsWantNone}
 use Rattle.fe2o3_sasl.proofs.lemmas.machines.MechanismLemmas.{other_name}
 
@@ -62,6 +62,26 @@ acceptors_ask_for_none = (
   λ frame asks. asks,
 )
 
+-- nothing is selected of an empty offer
+none_taken : (selection : Selection) → NoneCanBeTaken selection []
+none_taken selection = (
+  λ can. no_name _ can.2,
+  (
+    λ can. no_name _ can.2,
+    (
+      λ can. no_name _ can.2,
+      (
+        λ can. no_name _ can.2,
+        (λ can. no_name _ can.2, (λ can. no_name _ can.2, (λ can. no_name _ can.2, (λ can. no_name _ can.2, (λ can. no_name _ can.2, tt))))),
+      ),
+    ),
+  ),
+)
+
+empty_offer : (profile : Profile) → ¬ OfferAllocates profile []
+empty_offer (PolicyProfile selection) asks = asks (none_taken selection)
+empty_offer profile asks = no_name _ asks
+
 no_data : (profile : Profile) (code : SaslCode) → ¬ FrameAllocates profile (frames.Outcome code None)
 no_data (ScramProfile client) outcomes.Ok asks = asks
 no_data (ScramProfile client) outcomes.Auth asks = asks
@@ -72,11 +92,12 @@ no_data (PlainProfile identity user password) code asks = asks
 no_data AnonymousProfile code asks = asks
 no_data ExternalProfile code asks = asks
 no_data (MessageProfile mechanism message is_due) code asks = asks
+no_data (PolicyProfile selection) code asks = asks
 
 pub owned_ask_for_none : OwnedAskForNone
 owned_ask_for_none = (
   (
-    λ profile asks. no_name _ asks,
+    empty_offer,
     λ client asks. no_text asks.0,
     λ client text is asks. not_due client text is asks.1,
     λ identity user password text asks. asks,
@@ -98,10 +119,11 @@ no_data_in_view (PlainProfile identity user password) code asks = asks
 no_data_in_view AnonymousProfile code asks = asks
 no_data_in_view ExternalProfile code asks = asks
 no_data_in_view (MessageProfile mechanism message is_due) code asks = asks
+no_data_in_view (PolicyProfile selection) code asks = asks
 
 pub views_ask_for_none : AskForNone ViewAllocates
 views_ask_for_none = (
-  λ profile asks. no_name _ asks,
+  empty_offer,
   λ client asks. no_text asks.0,
   λ client text is asks. not_due client text is asks.1,
   λ identity user password text asks. asks,
@@ -120,10 +142,11 @@ no_data_in_step (PlainProfile identity user password) code asks = asks
 no_data_in_step AnonymousProfile code asks = asks
 no_data_in_step ExternalProfile code asks = asks
 no_data_in_step (MessageProfile mechanism message is_due) code asks = asks
+no_data_in_step (PolicyProfile selection) code asks = asks
 
 pub steps_ask_for_none : AskForNone StepAllocates
 steps_ask_for_none = (
-  λ profile asks. no_name _ asks,
+  empty_offer,
   λ client asks. no_text asks.0,
   λ client text is asks. not_expected client is asks.1,
   λ identity user password text asks. asks,

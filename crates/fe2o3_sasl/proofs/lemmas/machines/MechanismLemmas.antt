@@ -11,7 +11,7 @@ use Rattle.fe2o3_scram.specs.declared.hmac.ScramVersion.TheVariants.{Sha1, Sha25
 use Rattle.fe2o3_scram.specs.ChannelBinding.{is_bound, mechanism_of, server_mechanism}
 use Rattle.fe2o3_sasl_core.specs.MechanismLaws.{PlainIdentitiesAgree, PlainLetsIn, PlainRefuses, AnonymousLetsIn, OffersAgree, SomethingIsOffered, NamesDiffer, Differ}
 use Rattle.fe2o3_sasl_core.specs.SaslAcceptor.{ScramAcceptor, PlainAcceptor, AnonymousAcceptor}
-use Rattle.fe2o3_sasl_core.specs.Profiles.{ScramProfile, PlainProfile, AnonymousProfile, ExternalProfile, MessageProfile, AnonymousMessage, ExternalMessage, initial_response}
+use Rattle.fe2o3_sasl_core.specs.Profiles.{ScramProfile, PlainProfile, AnonymousProfile, ExternalProfile, MessageProfile, AnonymousMessage, ExternalMessage, PolicyProfile, initial_response}
 use Rattle.fe2o3_sasl_core.specs.PlainServer.{PlainParts, asked_identity}
 use Rattle.fe2o3_sasl_wire.specs.SaslFrames as frames
 use Rattle.fe2o3_sasl_core.proofs.lemmas.machines.PlainMessageLemmas.{one_message}
@@ -74,6 +74,14 @@ other_name Sha256 false = (differ _ _ refl, differ _ _ refl, differ _ _ refl)
 other_name Sha512 true = (differ _ _ refl, differ _ _ refl, differ _ _ refl)
 other_name Sha512 false = (differ _ _ refl, differ _ _ refl, differ _ _ refl)
 
+is_not_empty : (version : ScramVersion) (bound : Bool) → mechanism_of version bound ≢ []
+is_not_empty Sha1 true = differ _ _ refl
+is_not_empty Sha1 false = differ _ _ refl
+is_not_empty Sha256 true = differ _ _ refl
+is_not_empty Sha256 false = differ _ _ refl
+is_not_empty Sha512 true = differ _ _ refl
+is_not_empty Sha512 false = differ _ _ refl
+
 pub offers_agree : OffersAgree
 offers_agree (ScramAcceptor provider state) (ScramProfile client) = (
   λ has. one_mechanism provider.version client.version (is_some provider.rules.channels) (is_bound client.channel)
@@ -91,6 +99,10 @@ offers_agree (ScramAcceptor provider state) (MessageProfile AnonymousMessage mes
     (λ has. absurd ((other_name provider.version (is_some provider.rules.channels)).1 (the_one _ _ has)), λ same. absurd same)
 offers_agree (ScramAcceptor provider state) (MessageProfile ExternalMessage message is_due) =
     (λ has. absurd ((other_name provider.version (is_some provider.rules.channels)).2 (the_one _ _ has)), λ same. absurd same)
+offers_agree (ScramAcceptor provider state) (PolicyProfile selection) = (
+  λ has. absurd (is_not_empty provider.version (is_some provider.rules.channels) (the_one _ _ has)),
+  λ same. absurd same,
+)
 offers_agree (PlainAcceptor user password accepted) (ScramProfile client) =
     (λ has. absurd ((other_name client.version (is_bound client.channel)).0 (sym (the_one _ _ has))), λ same. absurd same)
 offers_agree (PlainAcceptor user password accepted) (PlainProfile identity other secret) = (λ has. tt, λ same. contains_one _)
@@ -101,6 +113,10 @@ offers_agree (PlainAcceptor user password accepted) ExternalProfile =
 offers_agree (PlainAcceptor user password accepted) (MessageProfile AnonymousMessage message is_due) =
     (λ has. absurd (differ _ _ refl (the_one _ _ has)), λ same. absurd same)
 offers_agree (PlainAcceptor user password accepted) (MessageProfile ExternalMessage message is_due) =
+    (λ has. absurd (differ _ _ refl (the_one _ _ has)), λ same. absurd same)
+offers_agree (PlainAcceptor user password accepted) (PolicyProfile selection) =
+    (λ has. absurd (differ _ _ refl (the_one _ _ has)), λ same. absurd same)
+offers_agree AnonymousAcceptor (PolicyProfile selection) =
     (λ has. absurd (differ _ _ refl (the_one _ _ has)), λ same. absurd same)
 offers_agree AnonymousAcceptor (ScramProfile client) =
     (λ has. absurd ((other_name client.version (is_bound client.channel)).1 (sym (the_one _ _ has))), λ same. absurd same)

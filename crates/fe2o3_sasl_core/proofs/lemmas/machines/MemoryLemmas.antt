@@ -15,11 +15,11 @@ use Rattle.fe2o3_sasl_core.specs.Events.{Given, Login, Answered, Reported, Refus
 use Rattle.fe2o3_sasl_core.specs.Laws.{WantsAtServer, ServersWantMemory, ClientsWantMemory, ProfilesWantMemory}
 use Rattle.fe2o3_scram.specs.ScramClient.{ClientSide, expects_signature}
 use Rattle.fe2o3_sasl_core.specs.Profiles.{Profile, ScramProfile, MessageProfile, PolicyProfile}
-use Rattle.fe2o3_sasl_core.specs.ProfileMachine.{ChallengeReplies, OfferAllocates, OfferAnswers, client_frame, profile_machine, StepAllocates}
+use Rattle.fe2o3_sasl_core.specs.ProfileMachine.{ChallengeReplies, OfferAllocates, client_frame, profile_machine, StepAllocates}
 use Rattle.fe2o3_sasl_core.specs.Runs.{Replies}
 use Rattle.fe2o3_sasl_core.specs.Bodies.{SpellsBody, carried}
 use Rattle.fe2o3_sasl_core.specs.ServerHistory.{Challenging, Open, ServerAllocates, ServerAnswers}
-use Rattle.fe2o3_sasl_core.proofs.lemmas.machines.SelectionLemmas.{chosen_of_some}
+use Rattle.fe2o3_sasl_core.proofs.lemmas.machines.OfferLemmas.{Viewed, for_allocates, offer_view}
 use Rattle.fe2o3_sasl_core.proofs.lemmas.positions.PositionLemmas.{some_at}
 use Rattle.fe2o3_sasl_core.specs.declared.sasl_profile.error.ProfileError.{ProfileError}
 use Rattle.fe2o3_sasl_core.specs.declared.sasl_profile.error.ProfileError.TheVariants.{NotImplemented, Scram, Frame, OutOfMemory}
@@ -184,22 +184,19 @@ verified_otherwise profile moved next reply more (Err kind) is said =
 
 -- an answer to a list of mechanisms gives it in no case, or memory is asked for
 offer_wants : (hostname : Option (List ℕ)) (profile next : Profile) (nonce : List ℕ) (names : List (List ℕ))
-    (reply : Result SaslFrame ProfileError) (moved : Profile) → OfferAnswers profile hostname nonce names reply moved
+    (reply : Result SaslFrame ProfileError) (moved : Profile) → Viewed profile hostname nonce names reply moved
     → Replies profile moved reply (Refused OutOfMemory) next → OfferAllocates profile names
-offer_wants hostname (PolicyProfile selection) next nonce names reply moved (inl selected) said =
-    chosen_of_some selection names selected.1.0 selected.1.1
-offer_wants hostname (PolicyProfile selection) next nonce names reply moved (inr none) said = absurd (refused_otherwise
-    (PolicyProfile selection) moved next reply NotImplemented none.1 not_unexpected said)
-offer_wants hostname profile next nonce names reply moved (inl named) said = named.0
-offer_wants hostname profile next nonce names reply moved (inr unnamed) said =
-    absurd (refused_otherwise profile moved next reply NotImplemented unnamed.1 not_unexpected said)
+offer_wants hostname profile next nonce names reply moved (inl sent) said = for_allocates profile sent.0 names sent.1
+offer_wants hostname profile next nonce names reply moved (inr none) said =
+    absurd (refused_otherwise profile moved next reply NotImplemented none.1 not_unexpected said)
 
 -- the machine gives it in no case, or memory is asked for
 machine_wants : (hostname : Option (List ℕ)) (profile next : Profile) (nonce : List ℕ) (frame : SaslFrame)
     (reply : Result SaslFrame ProfileError) (moved : Profile) → profile_machine profile hostname nonce frame reply moved
     → Replies profile moved reply (Refused OutOfMemory) next → StepAllocates profile frame
 machine_wants hostname profile next nonce (frames.Mechanisms names) reply moved made said =
-    offer_wants hostname profile next nonce names reply moved made said
+    offer_wants hostname profile next nonce names reply moved
+    (offer_view profile hostname nonce names reply moved made) said
 machine_wants hostname (ScramProfile client) next nonce (frames.Challenge text) reply moved (inl other) said =
     absurd (refused_otherwise (ScramProfile client) moved next reply (Scram kinds.Utf8Error) other.1
     (not_scram kinds.Utf8Error) said)

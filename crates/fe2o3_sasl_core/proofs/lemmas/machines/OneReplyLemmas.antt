@@ -27,9 +27,9 @@ use Rattle.fe2o3_scram.proofs.lemmas.messages.ServerFinalLemmas.{one_server_fina
 use Rattle.fe2o3_scram.proofs.lemmas.messages.ServerFirstLemmas.{one_server_first}
 use Rattle.fe2o3_sasl_core.specs.MechanismLaws.{OneAcceptorReply, OneProfileReply}
 use Rattle.fe2o3_sasl_core.specs.SaslAcceptor.{Acceptor, ScramAcceptor, PlainAcceptor, AnonymousAcceptor, server_frame}
-use Rattle.fe2o3_sasl_core.specs.Profiles.{Profile, ScramProfile, MessageProfile, PolicyProfile, after_init, initial_response, profile_name}
-use Rattle.fe2o3_sasl_core.specs.ProfileMachine.{ChallengeReplies, OfferAnswers, client_frame}
-use Rattle.fe2o3_sasl_core.proofs.lemmas.machines.SelectionLemmas.{one_selected, selected_of_some}
+use Rattle.fe2o3_sasl_core.specs.Profiles.{Profile, ScramProfile, MessageProfile, PolicyProfile}
+use Rattle.fe2o3_sasl_core.specs.ProfileMachine.{ChallengeReplies, client_frame}
+use Rattle.fe2o3_sasl_core.proofs.lemmas.machines.OfferLemmas.{one_offer_reply}
 use Rattle.fe2o3_sasl_core.specs.declared.sasl_profile.error.ProfileError.{ProfileError}
 
 -- the result is made of a reading
@@ -322,32 +322,6 @@ one_challenge_reply false client text reply other next last is too =
 one_challenge_reply true client text reply other next last is too =
     same_turn (λ verified. frames.Response []) (is.0, is.1) (too.0, too.1) reply other next last
     (one_check client.state client text is.0 too.0 is.1 too.1 is.2 too.2) is.3 is.4 too.3 too.4
-
--- an answer to a list of mechanisms
-one_offer_reply : (profile : Profile) (hostname : Option (List ℕ)) (nonce : List ℕ) (names : List (List ℕ))
-    (reply other : Result SaslFrame ProfileError) (next last : Profile)
-    → OfferAnswers profile hostname nonce names reply next → OfferAnswers profile hostname nonce names other last
-    → (reply ≡ other) × (next ≡ last)
-one_offer_reply (PolicyProfile selection) hostname nonce names reply other next last (inl is) (inl too) =
-    let same : too.0 ≡ is.0 = one_selected selection names is.0 too.0 is.1 too.1 in
-    let init_of : Profile → Result SaslFrame ProfileError =
-        λ p. Ok (frames.Init (profile_name p) (initial_response p nonce) hostname) in
-    (
-      is.2 ∙ sym (too.2 ∙ ap init_of same),
-      is.3 ∙ sym (too.3 ∙ ap (λ (p : Profile). after_init p nonce) same),
-    )
-one_offer_reply (PolicyProfile selection) hostname nonce names reply other next last (inl is) (inr too) =
-    absurd (selected_of_some selection names is.0 is.1 too.0)
-one_offer_reply (PolicyProfile selection) hostname nonce names reply other next last (inr is) (inl too) =
-    absurd (selected_of_some selection names too.0 too.1 is.0)
-one_offer_reply (PolicyProfile selection) hostname nonce names reply other next last (inr is) (inr too) =
-    (is.1 ∙ sym too.1, is.2 ∙ sym too.2)
-one_offer_reply profile hostname nonce names reply other next last (inl is) (inl too) =
-    (is.1 ∙ sym too.1, is.2 ∙ sym too.2)
-one_offer_reply profile hostname nonce names reply other next last (inl is) (inr too) = absurd (too.0 is.0)
-one_offer_reply profile hostname nonce names reply other next last (inr is) (inl too) = absurd (is.0 too.0)
-one_offer_reply profile hostname nonce names reply other next last (inr is) (inr too) =
-    (is.1 ∙ sym too.1, is.2 ∙ sym too.2)
 
 pub one_profile_reply : OneProfileReply
 one_profile_reply profile hostname nonce (frames.Mechanisms names) reply other next last is too =

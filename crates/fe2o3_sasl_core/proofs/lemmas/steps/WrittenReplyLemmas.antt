@@ -9,13 +9,13 @@ use Rattle.fe2o3_sasl_wire.specs.SaslFrames.{SaslFrame, canonical}
 use Rattle.fe2o3_sasl_core.specs.Events.{Started, Answered, Reported, Refused}
 use Rattle.fe2o3_sasl_core.specs.Runs.{ProfileReplies, SendsCanonical}
 use Rattle.fe2o3_sasl_core.specs.Profiles.{Profile, ScramProfile, profile_name, initial_response, after_init, MessageProfile, PolicyProfile}
-use Rattle.fe2o3_sasl_core.specs.ProfileMachine.{OfferAllocates, OfferAnswers, profile_machine, ChallengeAllocates, FrameAllocates, StepAllocates, IsStarted, IsChallengeDue, ProfileAnswers}
+use Rattle.fe2o3_sasl_core.specs.ProfileMachine.{OfferAnswers, profile_machine, ChallengeAllocates, FrameAllocates, StepAllocates, IsStarted, IsChallengeDue, ProfileAnswers}
 use Rattle.fe2o3_scram.specs.ScramClient as client_states
 use Rattle.fe2o3_scram.specs.ScramClient.{ClientSide, ClientState, ReachesSaltIn, expects_signature}
 use Rattle.fe2o3_sasl_core.specs.declared.sasl_profile.error.ProfileError.{ProfileError}
 use Rattle.fe2o3_sasl_core.specs.declared.sasl_profile.error.ProfileError.TheVariants as profile_faults
 use Rattle.fe2o3_sasl_core.specs.private.Writing.{IsFor, NoneIsFor, RefusesAlways, WritesBody}
-use Rattle.fe2o3_sasl_core.proofs.lemmas.machines.SelectionLemmas.{chosen_of_some}
+use Rattle.fe2o3_sasl_core.proofs.lemmas.machines.OfferLemmas.{for_allocates, init_of, offer_refused, offer_started}
 use Rattle.fe2o3_sasl_core.proofs.lemmas.steps.ProfileReplyLemmas.{waiting}
 use Rattle.fe2o3_sasl_core.specs.declared.sasl_profile.error.ProfileError.TheVariants.{NotImplemented, Scram, StaleKeys, Frame, OutOfMemory}
 
@@ -76,32 +76,6 @@ reported hostname profile next nonce frame code more is h =
     )
 
 -- ---- starts
-
--- the init of a profile
-abbrev init_of : Option (List ℕ) → List ℕ → Profile → SaslFrame
-init_of hostname nonce profile = frames.Init (profile_name profile) (initial_response profile nonce) hostname
-
--- the profile that answers an offer sends its init
-offer_started : (profile begun : Profile) (hostname : Option (List ℕ)) (nonce : List ℕ) (names : List (List ℕ))
-    → IsFor profile names begun
-    → OfferAnswers profile hostname nonce names (Ok (init_of hostname nonce begun)) (after_init begun nonce)
-offer_started (PolicyProfile selection) begun hostname nonce names is = inl (begun, is, (refl, refl))
-offer_started profile begun hostname nonce names (has, same) = inl (
-  has,
-  (ap (λ (p : Profile). Ok (init_of hostname nonce p)) same, ap (λ (p : Profile). after_init p nonce) same),
-)
-
--- and allocates
-pub for_allocates : (profile begun : Profile) (names : List (List ℕ)) → IsFor profile names begun
-    → OfferAllocates profile names
-for_allocates (PolicyProfile selection) begun names is = chosen_of_some selection names is.0 is.1
-for_allocates profile begun names is = is.0
-
--- an offer that no profile answers
-pub offer_refused : (profile : Profile) (hostname : Option (List ℕ)) (nonce : List ℕ) (names : List (List ℕ))
-    → NoneIsFor profile names → OfferAnswers profile hostname nonce names (Err NotImplemented) profile
-offer_refused (PolicyProfile selection) hostname nonce names none = inr (none, refl, refl)
-offer_refused profile hostname nonce names none = inr (none, refl, refl)
 
 -- an answer to an offer
 pub offer_answered : (profile begun moved : Profile) (hostname : Option (List ℕ)) (nonce : List ℕ) (names : List (List ℕ))

@@ -1,6 +1,5 @@
 use Rattle.std.proofs.Common.{Option, List, ℕ}
 use Rattle.fe2o3_sasl_negotiation.specs.ClientNegotiation.{ClientSideAnswers}
-use Rattle.fe2o3_sasl_negotiation.specs.PolicyClient.{PolicySideAnswers, Selection}
 use Rattle.fe2o3_sasl_negotiation.specs.ServerNegotiation.{ServerSideAnswers}
 use Rattle.fe2o3_sasl_negotiation.proofs.lemmas.ExtendedLawLemmas.{ignores_extended_headers}
 use Rattle.fe2o3_sasl_negotiation.proofs.laws.extended_headers.Goals as goal
@@ -11,6 +10,3 @@ returns-clause-server g c =
 
 pub returns-clause-client : goal.returns-clause-client
 returns-clause-client g c = λ (hostname : Option (List ℕ)). ignores_extended_headers (ClientSideAnswers hostname)
-
-pub returns-clause-policy_client : goal.returns-clause-policy_client
-returns-clause-policy_client g c = λ (selection : Selection). ignores_extended_headers (PolicySideAnswers selection)

@@ -1,4 +1,4 @@
-use Rattle.fe2o3_sasl_negotiation.proofs.lemmas.PolicyLawLemmas.{goes_on_by_profile, selects_at_offer, waits_for_offer}
+use Rattle.fe2o3_sasl_negotiation.proofs.lemmas.PolicyLawLemmas.{selects_at_offer, waits_for_offer}
 use Rattle.fe2o3_sasl_negotiation.proofs.lemmas.PolicyInitLemmas.{nothing_below_policy}
 use Rattle.fe2o3_sasl_negotiation.proofs.policy_laws.policy_clients.Goals as goal
 
@@ -7,9 +7,6 @@ returns-clause-before c = waits_for_offer
 
 pub returns-clause-selects : goal.returns-clause-selects
 returns-clause-selects c = selects_at_offer
-
-pub returns-clause-after : goal.returns-clause-after
-returns-clause-after c = goes_on_by_profile
 
 pub returns-clause-allowed : goal.returns-clause-allowed
 returns-clause-allowed c = nothing_below_policy
