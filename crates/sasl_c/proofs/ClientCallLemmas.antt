@@ -3,7 +3,7 @@ use Rattle.std.proofs.Common.{arith, refl, sym, ap, subst, inl, inr, ◌∙◌, 
 use Rattle.std.specs.Prelude.{Bool, true, false, if◌then◌else◌, Option, Ok, Err, take, drop}
 use Rattle.fe2o3_scram.specs.ClientKeys.{ClientKeys}
 use Rattle.fe2o3_scram.specs.ScramClient.{ClientState, ClientInitial, ClientFirstSent, ClientFinalSent, SignatureVerified, Complete, is_complete, with_state}
-use Rattle.fe2o3_sasl_core.specs.Profiles.{AnonymousProfile, ExternalProfile, MessageProfile, PlainProfile, Profile, ScramProfile}
+use Rattle.fe2o3_sasl_core.specs.Profiles.{AnonymousProfile, ExternalProfile, MessageProfile, PlainProfile, PolicyProfile, Profile, ScramProfile}
 use Rattle.fe2o3_sasl_negotiation.specs.ClientNegotiation.{ClientSideAnswers}
 use Rattle.fe2o3_sasl_negotiation.specs.Connections.{fresh}
 use Rattle.fe2o3_sasl_negotiation.specs.Laws.{Calls}
@@ -51,6 +51,7 @@ profile_open login scram (PlainProfile identity user password) is going = refl
 profile_open login scram AnonymousProfile is going = refl
 profile_open login scram ExternalProfile is going = refl
 profile_open login scram (MessageProfile mechanism message is_due) is going = refl
+profile_open login scram (PolicyProfile selection) is going = absurd is
 
 -- a struct that is written for a login which is not complete
 numbered : (scram other : ScramStruct) → scram ≡ other → other.state ≢ 3 → scram.state ≢ 3
@@ -75,6 +76,7 @@ profile_written scram (MessageProfile mechanism message true) is goes =
     numbered scram _ is (λ three. absurd (omega (arith, three)))
 profile_written scram (MessageProfile mechanism message false) is goes =
     numbered scram _ is (λ three. absurd (omega (arith, three)))
+profile_written scram (PolicyProfile selection) is goes = numbered scram _ is (λ three. absurd (omega (arith, three)))
 
 -- ---- the struct after a call
 
@@ -197,6 +199,7 @@ new_shown login (ScramProfile side) (is, none) =
 new_shown login (PlainProfile identity user password) (is, none) = is
 new_shown login AnonymousProfile (is, none) = is
 new_shown login ExternalProfile (is, none) = is
+new_shown login (PolicyProfile selection) (is, none) = absurd is
 new_shown login (MessageProfile mechanism message is_due) (is, none) = (
   is.0,
   is.1,
@@ -235,6 +238,7 @@ new_of login scram (ScramProfile side) is =
 new_of login scram (PlainProfile identity user password) is = (is, tt)
 new_of login scram AnonymousProfile is = (is, tt)
 new_of login scram ExternalProfile is = (is, tt)
+new_of login scram (PolicyProfile selection) is = absurd is
 new_of login scram (MessageProfile mechanism message is_due) is = ((is.0, is.1, is.3), refl)
 
 pub logins_spell_clients : LoginsSpellClients

@@ -1,6 +1,6 @@
 -- A client of SCRAM completes its login only by an outcome Ok, which ends the connection's login (RFC 5802, section 5):
 -- `received_open`.
-use Rattle.std.proofs.Common.{sym, ap, subst, inl, inr, ◌∙◌, ◌≡◌, ◌≢◌, ℕ, List}
+use Rattle.std.proofs.Common.{refl, sym, ap, subst, inl, inr, ◌∙◌, ◌≡◌, ◌≢◌, ℕ, List}
 use Rattle.std.specs.Prelude.{Bool, true, false, Option, Some, None, Result, Ok, Err, drop}
 use Rattle.fe2o3_sasl_wire.specs.declared.amqp_types.SaslCode.TheVariants as outcomes
 use Rattle.fe2o3_sasl_wire.specs.declared.sasl_frames.error.Error.{Error}
@@ -10,7 +10,7 @@ use Rattle.fe2o3_scram.specs.ScramClient.{AnswersIn, ChecksSignatureIn, ClientSi
 use Rattle.fe2o3_scram.specs.declared.scram_messages.error.ScramErrorKind.{ScramErrorKind}
 use Rattle.fe2o3_sasl_core.specs.Bodies.{carried as sent_or_not}
 use Rattle.fe2o3_sasl_core.specs.Events.{ClientSays, Given, Reported}
-use Rattle.fe2o3_sasl_core.specs.Profiles.{AnonymousProfile, ExternalProfile, MessageProfile, PlainProfile, Profile, ScramProfile, accepts_signature_by_challenge}
+use Rattle.fe2o3_sasl_core.specs.Profiles.{AnonymousProfile, ExternalProfile, MessageProfile, PlainProfile, PolicyProfile, Profile, ScramProfile, after_init, accepts_signature_by_challenge}
 use Rattle.fe2o3_sasl_core.specs.ProfileMachine.{ChallengeReplies, client_frame, profile_machine}
 use Rattle.fe2o3_sasl_core.specs.Runs.{ProfileGives, Replies}
 use Rattle.fe2o3_sasl_core.specs.declared.sasl_profile.error.ProfileError.{ProfileError}
@@ -143,6 +143,15 @@ scram_open client hostname nonce (frames.Init mechanism response host) reply mov
 scram_open client hostname nonce (frames.Response text) reply moved is goes =
     still reply moved (same_open (ScramProfile client) moved is.1 goes)
 
+-- nor is a profile that has sent its init
+started_open : (profile : Profile) (nonce : List ℕ) → is_done (after_init profile nonce) ≡ false
+started_open (ScramProfile client) nonce = refl
+started_open (PlainProfile identity user password) nonce = refl
+started_open AnonymousProfile nonce = refl
+started_open ExternalProfile nonce = refl
+started_open (MessageProfile mechanism message is_due) nonce = refl
+started_open (PolicyProfile selection) nonce = refl
+
 machine_open : (profile : Profile) (hostname : Option (List ℕ)) (nonce : List ℕ) (frame : SaslFrame)
     (reply : Result SaslFrame ProfileError) (moved : Profile) → profile_machine profile hostname nonce frame reply moved
     → IsOpen profile → OpenUnless reply moved
@@ -154,6 +163,11 @@ machine_open AnonymousProfile hostname nonce frame reply moved is goes =
     still reply moved (ap is_done (anonymous_stays hostname nonce frame reply moved is))
 machine_open ExternalProfile hostname nonce frame reply moved is goes =
     still reply moved (ap is_done (external_stays hostname nonce frame reply moved is))
+machine_open (PolicyProfile selection) hostname nonce (frames.Mechanisms names) reply moved (inl (chosen, selected, sends, to))
+    goes = still reply moved (ap is_done to ∙ started_open chosen nonce)
+machine_open (PolicyProfile selection) hostname nonce (frames.Mechanisms names) reply moved (inr none) goes =
+    still reply moved (ap is_done none.2)
+machine_open (PolicyProfile selection) hostname nonce frame reply moved is goes = still reply moved (ap is_done is.1)
 machine_open (MessageProfile mechanism message is_due) hostname nonce frame reply moved is goes =
     still reply moved (ap is_done (message_stays mechanism message is_due hostname nonce frame reply moved is).1)
 

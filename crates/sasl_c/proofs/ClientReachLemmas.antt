@@ -10,7 +10,7 @@ use Rattle.fe2o3_scram.specs.ScramClient as states
 use Rattle.fe2o3_scram.specs.ScramClient.{AnswersIn, VerifiesIn, ClientSide, ClientState, started, ChecksSignatureIn, ConcludesIn, expects_signature}
 use Rattle.fe2o3_sasl_core.specs.Bodies.{carried as sent_or_not}
 use Rattle.fe2o3_sasl_core.specs.Events.{Given, ClientSays}
-use Rattle.fe2o3_sasl_core.specs.Profiles.{Profile, ScramProfile, PlainProfile, AnonymousProfile, ExternalProfile, MessageProfile, MessageMechanism}
+use Rattle.fe2o3_sasl_core.specs.Profiles.{Profile, ScramProfile, PlainProfile, AnonymousProfile, ExternalProfile, MessageProfile, MessageMechanism, PolicyProfile}
 use Rattle.fe2o3_sasl_core.specs.ProfileMachine.{profile_machine, ChallengeReplies}
 use Rattle.fe2o3_sasl_core.specs.Runs.{ProfileGives, Replies}
 use Rattle.fe2o3_sasl_negotiation.specs.declared.progress.Expected.{Expected}
@@ -215,6 +215,7 @@ machine_comes login AnonymousProfile hostname nonce frame reply moved is comes =
     same_comes login _ moved (anonymous_stays hostname nonce frame reply moved is) comes
 machine_comes login ExternalProfile hostname nonce frame reply moved is comes =
     same_comes login _ moved (external_stays hostname nonce frame reply moved is) comes
+machine_comes login (PolicyProfile selection) hostname nonce frame reply moved is comes = absurd comes
 machine_comes login (MessageProfile mechanism message is_due) hostname nonce frame reply moved is comes =
     let stays = message_stays mechanism message is_due hostname nonce frame reply moved is in
     same_comes login (MessageProfile mechanism message stays.0) moved stays.1 comes
@@ -272,3 +273,4 @@ profile_comes login scram (PlainProfile identity user password) is = is
 profile_comes login scram AnonymousProfile is = is
 profile_comes login scram ExternalProfile is = is
 profile_comes login scram (MessageProfile mechanism message is_due) is = (is.0, is.1, is.3)
+profile_comes login scram (PolicyProfile selection) is = absurd is

@@ -15,7 +15,7 @@ use Rattle.fe2o3_scram.specs.declared.hmac.ScramVersion.TheVariants as versions
 use Rattle.fe2o3_scram.specs.declared.scram_messages.channel_binding_flag.ChannelBindingFlag.TheVariants.{Required}
 use Rattle.fe2o3_scram.specs.declared.scram_messages.client_channel.ClientChannel.{ClientChannel}
 use Rattle.fe2o3_scram.specs.declared.scram_messages.client_channel.ClientChannel.TheVariants.{Absent, NotOffered, Bound}
-use Rattle.fe2o3_sasl_core.specs.Profiles.{AnonymousMessage, AnonymousProfile, ExternalMessage, ExternalProfile, MessageMechanism, MessageProfile, PlainProfile, Profile, ScramProfile}
+use Rattle.fe2o3_sasl_core.specs.Profiles.{AnonymousMessage, AnonymousProfile, ExternalMessage, ExternalProfile, MessageMechanism, MessageProfile, PolicyProfile, PlainProfile, Profile, ScramProfile}
 use Rattle.sasl_c.specs.declared.client.ScramClient.{ScramClient as ScramStruct}
 use Rattle.sasl_c.specs.declared.keys.ScramKeys.{ScramKeys as KeysStruct}
 use Rattle.sasl_c.specs.declared.login.Login.{Login as Words}
@@ -306,6 +306,12 @@ alike_of login scram (MessageProfile mechanism message is_due) AnonymousProfile 
     absurd (omega (arith, message_not mechanism login.mechanism is.0, too.0))
 alike_of login scram (MessageProfile mechanism message is_due) ExternalProfile going is too =
     absurd (omega (arith, message_not mechanism login.mechanism is.0, too.0))
+alike_of login scram (PolicyProfile selection) other going is too = absurd is
+alike_of login scram (ScramProfile side) (PolicyProfile selection) going is too = absurd too
+alike_of login scram (PlainProfile identity user password) (PolicyProfile selection) going is too = absurd too
+alike_of login scram AnonymousProfile (PolicyProfile selection) going is too = absurd too
+alike_of login scram ExternalProfile (PolicyProfile selection) going is too = absurd too
+alike_of login scram (MessageProfile mechanism message is_due) (PolicyProfile selection) going is too = absurd too
 
 -- ---- a login of the same values
 
@@ -382,6 +388,7 @@ of_base base login scram (PlainProfile identity user password) one is =
     (sym one.mechanism ∙ is.0, plain_of_base base.login login.login one.words identity user password is.1)
 of_base base login scram AnonymousProfile one is = (sym one.mechanism ∙ is.0, sym one.words.acts_for ∙ is.1)
 of_base base login scram ExternalProfile one is = (sym one.mechanism ∙ is.0, sym one.words.acts_for ∙ is.1)
+of_base base login scram (PolicyProfile selection) one is = absurd is
 of_base base login scram (MessageProfile mechanism message is_due) one is =
     (sym one.mechanism ∙ is.0, is.1 ∙ one.words.username, is.2, sym one.words.acts_for ∙ is.3)
 

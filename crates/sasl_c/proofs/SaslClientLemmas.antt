@@ -6,7 +6,7 @@ use Rattle.fe2o3_scram.specs.Readings.{IsFirst, NoneHolds}
 use Rattle.fe2o3_scram.specs.ScramClient.{ClientSide, identity_named}
 use Rattle.fe2o3_sasl_core.specs.PlainWords.{ArePlainWords}
 use Rattle.fe2o3_scram.proofs.lemmas.texts.DecisionLemmas.{same_number_or}
-use Rattle.fe2o3_sasl_core.specs.Profiles.{Profile, ScramProfile, PlainProfile, AnonymousProfile, ExternalProfile, MessageProfile, MessageMechanism, AnonymousMessage, ExternalMessage, after_init, answers_empty_challenge, is_scram}
+use Rattle.fe2o3_sasl_core.specs.Profiles.{Profile, ScramProfile, PlainProfile, AnonymousProfile, ExternalProfile, MessageProfile, PolicyProfile, MessageMechanism, AnonymousMessage, ExternalMessage, after_init, answers_empty_challenge, is_scram}
 use Rattle.fe2o3_sasl_negotiation.specs.declared.snapshot.Snapshot.{Snapshot}
 use Rattle.fe2o3_sasl_negotiation.specs.declared.progress.Expected.{Expected}
 use Rattle.fe2o3_sasl_negotiation.specs.declared.progress.Expected.TheVariants.{Header, Frame}
@@ -51,6 +51,7 @@ shows_other login (PlainProfile identity user password) scram other due comes = 
 shows_other login AnonymousProfile scram other due comes = comes
 shows_other login ExternalProfile scram other due comes = comes
 shows_other login (MessageProfile mechanism message is_due) scram other due comes = (comes.0, comes.1, due, comes.2)
+shows_other login (PolicyProfile selection) scram other due comes = absurd comes
 
 -- the struct that is written for a profile
 pub writes_scram : (profile : Profile) (machine : ClientSide) (answer : Option ScramStruct)
@@ -68,6 +69,7 @@ writes_other AnonymousProfile scram other same due = same
 writes_other ExternalProfile scram other same due = same
 writes_other (MessageProfile mechanism message true) scram other same due = absurd (cc)
 writes_other (MessageProfile mechanism message false) scram other same due = same
+writes_other (PolicyProfile selection) scram other same due = same
 
 pub writes_due : (profile : Profile) (scram : ScramStruct) → scram ≡ started_struct (replicate 32 0)
     → answers_empty_challenge profile ≡ true → WritesProfile scram profile
@@ -77,6 +79,7 @@ writes_due AnonymousProfile scram same due = absurd (cc)
 writes_due ExternalProfile scram same due = absurd (cc)
 writes_due (MessageProfile mechanism message true) scram same due = same
 writes_due (MessageProfile mechanism message false) scram same due = absurd (cc)
+writes_due (PolicyProfile selection) scram same due = absurd (cc)
 
 -- and those that are written for a side
 pub writes_side : (connection : Kept) (scram : ScramStruct) (accepts : Bool) (side : Side Profile) (kept : Snapshot)

@@ -3,7 +3,7 @@ use Rattle.std.specs.Prelude.{◌≡◌, ◌≢◌, ◌<◌, ◌⊎◌, ℕ, Boo
 use Rattle.std.specs.Str.{IsUtf8}
 use Rattle.fe2o3_scram.specs.Readings.{IsFirst, NoneHolds}
 use Rattle.fe2o3_scram.specs.ScramClient.{ClientSide, identity_named}
-use Rattle.fe2o3_sasl_core.specs.Profiles.{Profile, ScramProfile, PlainProfile, AnonymousProfile, ExternalProfile, MessageProfile, MessageMechanism, AnonymousMessage, ExternalMessage}
+use Rattle.fe2o3_sasl_core.specs.Profiles.{Profile, ScramProfile, PlainProfile, AnonymousProfile, ExternalProfile, MessageProfile, PolicyProfile, MessageMechanism, AnonymousMessage, ExternalMessage}
 use Rattle.fe2o3_sasl_core.specs.PlainWords.{ArePlainWords}
 use Rattle.fe2o3_sasl_negotiation.specs.declared.progress.Progress.TheVariants.{InProgress}
 use Rattle.fe2o3_sasl_negotiation.specs.ClientNegotiation.{ClientSideAnswers}
@@ -63,7 +63,8 @@ IsPlainOf words identity user password = (identity ≡ words.acts_for.now) × (u
 abbrev pub NamesNoIdentity : Words → Type 0
 NamesNoIdentity words = words.acts_for.now ≡ []
 
--- the profile of a login; that of SCRAM has the client of the struct (RFC 4616, RFC 4505, RFC 4422, RFC 5802)
+-- the profile of a login; that of SCRAM has the client of the struct (RFC 4616, RFC 4505, RFC 4422, RFC 5802). A login names
+-- its mechanism, so that no profile is by a policy
 abbrev pub IsProfile : Login → ScramStruct → Profile → Type 0
 IsProfile login scram (ScramProfile side) = (login.mechanism ≡ 0) × IsSide login.login scram side
 IsProfile login scram (PlainProfile identity user password) =
@@ -72,6 +73,7 @@ IsProfile login scram AnonymousProfile = (login.mechanism ≡ 2) × NamesNoIdent
 IsProfile login scram ExternalProfile = (login.mechanism ≡ 3) × NamesNoIdentity login.login
 IsProfile login scram (MessageProfile mechanism message is_due) = (login.mechanism ≡ message_number mechanism)
     × (message ≡ login.login.username.now) × IsDueIn scram is_due × NamesNoIdentity login.login
+IsProfile login scram (PolicyProfile selection) = ⊥
 
 -- why the words of a login give no PLAIN
 abbrev pub HasNoClientWords : Words → Status → Type 0
@@ -109,6 +111,7 @@ WritesProfile written AnonymousProfile = written ≡ fresh_client_struct
 WritesProfile written ExternalProfile = written ≡ fresh_client_struct
 WritesProfile written (MessageProfile mechanism message true) = written ≡ started_struct (replicate 32 0)
 WritesProfile written (MessageProfile mechanism message false) = written ≡ fresh_client_struct
+WritesProfile written (PolicyProfile selection) = written ≡ fresh_client_struct
 
 -- the structs that a call writes for a side, by whether it accepts extended headers
 abbrev pub WritesSide : Bool → Struct → Side Profile → Type 0
@@ -141,6 +144,7 @@ ProfileIsReached login AnonymousProfile = (login.mechanism ≡ 2) × NamesNoIden
 ProfileIsReached login ExternalProfile = (login.mechanism ≡ 3) × NamesNoIdentity login.login
 ProfileIsReached login (MessageProfile mechanism message is_due) = (login.mechanism ≡ message_number mechanism)
     × (message ≡ login.login.username.now) × NamesNoIdentity login.login
+ProfileIsReached login (PolicyProfile selection) = ⊥
 
 -- the header with which a client begins
 abbrev pub OpensConnection : Result (List ℕ) Status → Type 0
