@@ -7,9 +7,8 @@ use anyhow::{Context, Result};
 use bytes::BytesMut;
 use fe2o3_sasl_negotiation::{
     CachedKeys, ChannelBinding, ChannelBindings, ChannelData, ChannelKind, ClientNegotiation,
-    ClientPolicy, ClientRole, ClientSecret, ConnectionSide, Endpoint, IterationLimits, Meter,
-    MultiRecordStore, Password, PolicyClient, PolicyLogin, SaslProfile, ScramClient, ScramVersion,
-    Server, ServerNegotiation, ServerOptions, ServerRole, Transport,
+    ClientPolicy, ClientSecret, IterationLimits, Meter, MultiRecordStore, Password, SaslProfile,
+    ScramClient, ScramVersion, Server, ServerNegotiation, ServerOptions, Transport,
 };
 use std::alloc::Global;
 use std::io::Write;
@@ -26,11 +25,12 @@ pub fn new_client(alloc: Global, user: &str, password: &str) -> Result<SaslProfi
 }
 
 /// A client that binds its TLS connection, by the strongest hash that the server offers.
-pub fn bound_login<'a>(
-    user: &'a str,
-    password: &'a str,
+pub fn bound_client(
+    alloc: Global,
+    user: &str,
+    password: &str,
     exported: &[u8; 32],
-) -> Result<PolicyLogin<'a>> {
+) -> Result<SaslProfile> {
     let channel = ChannelBinding {
         kind: ChannelKind::TlsExporter,
         cbind_data: ChannelData::new(exported)?,
@@ -40,13 +40,12 @@ pub fn bound_login<'a>(
         max_iterations: 100_000,
     };
     let policy = ClientPolicy::scram_from(ScramVersion::Sha256).with_iteration_limits(limits);
-    Ok(PolicyLogin {
-        username: user,
-        secret: ClientSecret::Password(Password::Typed(password)),
-        policy: policy.bind_channel(channel).must_bind(),
-        acts_for: None,
-        hostname: None,
-    })
+    let policy = policy.bind_channel(channel).must_bind();
+    let (user, secret) = (
+        user.to_string(alloc)?,
+        ClientSecret::Password(Password::Typed(password)),
+    );
+    Ok(SaslProfile::by_policy(alloc, user, secret, policy)?)
 }
 
 /// What a TLS connection brings to its server.
@@ -112,10 +111,10 @@ pub fn moved<'a>(
 }
 
 /// Carries bytes between a client and a server, three times each way, which is a login.
-fn exchange<T: RandomSource, C: Endpoint<ClientRole>>(
+fn exchange<T: RandomSource>(
     rt: &T,
     alloc: Global,
-    client: &mut ConnectionSide<C, ClientRole>,
+    client: &mut ClientNegotiation,
     server: &mut ServerNegotiation<Server<'_>>,
 ) -> Result<()> {
     let mut to_server = BytesMut::new(alloc);
@@ -216,12 +215,9 @@ fn bound_and_acting<T: RandomSource, W: Write>(
 ) -> Result<()> {
     let exported = fresh(rt)?;
     let mut server = new_side(alloc, users, options, bound_transport(&exported)?)?;
-    let login = PolicyLogin {
-        acts_for: Some("alice"),
-        ..bound_login("user", "pencil", &exported)?
-    };
-    let mut client = Box::new(alloc, PolicyClient::new(alloc, login))?;
-    exchange(rt, alloc, &mut *client, &mut server)?;
+    let identity = "alice".to_string(alloc)?;
+    let client = bound_client(alloc, "user", "pencil", &exported)?.acting_for(identity);
+    by_profile(rt, alloc, client.context("no identity")?, &mut server)?;
     let user = server.authenticated_user().context("no user")?;
     let identity = server.acts_for().context("no identity")?;
     writeln!(output, "{user} logged in for {identity}")?;

@@ -1,30 +1,23 @@
-//! Selects a mechanism that a client accepts of a server's offer (AMQP 1.0, part 5, section 5.3.3.2).
+//! Which mechanisms a client may select of a server's offer (AMQP 1.0, part 5, section 5.3.3.2).
 
-ghost use Rattle.std.specs.Prelude.{◌≡◌, ◌≢◌, ◌↔◌, true, false, Some, IfOk, IfErr, OnOk, MatchBool, MatchOption, List, ℕ, None, ◌&&◌, not, if◌then◌else◌, option_map, is_some};
+ghost use Rattle.std.specs.Prelude.{◌≡◌, ◌≢◌, ◌↔◌, true, false, Some, MatchBool, MatchOption, List, ℕ, None, ◌&&◌, not, if◌then◌else◌, option_map, is_some};
 ghost use Rattle.std.specs.List.{AllByRecursion, Contains};
 ghost use Rattle.fe2o3_scram.specs.ClientSecret.{IsOfVersion, secret_of, up_to, no_limit};
-ghost use Rattle.fe2o3_sasl_core.specs.ClientPolicy.{bound_channel, by_strength, policy_name, is_allowed, is_from, secret_for, scram_by, plain_by, profile_by, unbound_channel, CanTake, IsFirstTaken, SelectsProfile};
+ghost use Rattle.fe2o3_sasl_core.specs.ClientPolicy.{bound_channel, policy_name, is_allowed, is_from, secret_for, profile_by, unbound_channel, CanTake, IsFirstTaken};
 ghost use Rattle.fe2o3_sasl_core.specs.declared.client_policy.ClientPolicy.{ClientPolicy as PolicyOf};
 ghost use Rattle.fe2o3_sasl_core.specs.declared.client_policy.Mechanism.{Mechanism as MechanismOf};
-ghost use Rattle.fe2o3_sasl_core.specs.SaslProfile.{profile_of};
-ghost use Rattle.fe2o3_sasl_core.specs.declared.client_policy.ChoiceError.TheVariants.{OutOfMemory as OutOfMemoryError};
 
 pub mod laws;
 
-use crate::OutOfMemory;
 use crate::mechanism_names::{ANONYMOUS, EXTERNAL, PLAIN};
 use crate::offer::Offer;
-use crate::sasl_profile::SaslProfile;
 use fe2o3_scram::channel_binding::ChannelBinding;
-use fe2o3_scram::client_secret::{ClientSecret, ClientSecretError, IterationLimits};
+use fe2o3_scram::client_secret::{ClientSecret, IterationLimits};
 use fe2o3_scram::hmac::{
     SCRAM_SHA_1, SCRAM_SHA_1_PLUS, SCRAM_SHA_256, SCRAM_SHA_256_PLUS, SCRAM_SHA_512,
     SCRAM_SHA_512_PLUS, ScramVersion,
 };
-use fe2o3_scram::scram_client::ScramClient;
 use fe2o3_scram::scram_messages::ClientChannel;
-use std::alloc::{AllocError, AllocFailed, Global};
-use thiserror::Error;
 
 /// The mechanisms of clients.
 #[derive(Clone, Copy, Debug, PartialEq, Eq)]
@@ -58,7 +51,7 @@ pub enum Mechanism {
 }
 
 /// The mechanisms, the strongest first.
-const BY_STRENGTH: [Mechanism; 9] = [
+pub(crate) const BY_STRENGTH: [Mechanism; 9] = [
     Mechanism::ScramSha512Plus,
     Mechanism::ScramSha256Plus,
     Mechanism::ScramSha1Plus,
@@ -113,11 +106,11 @@ impl Mechanism {
 #[derive(Clone, Copy, Debug, PartialEq, Eq)]
 pub struct ClientPolicy {
     floor: ScramVersion,
-    limits: IterationLimits,
+    pub(crate) limits: IterationLimits,
     external: bool,
     plain: bool,
     anonymous: bool,
-    channel: Option<ChannelBinding>,
+    pub(crate) channel: Option<ChannelBinding>,
     must_bind: bool,
 }
 
@@ -247,37 +240,12 @@ fn is_from(floor: ScramVersion, version: ScramVersion) -> bool
     }
 }
 
-/// Why a client selects no mechanism.
-#[derive(Clone, Copy, Debug, PartialEq, Eq, Error)]
-pub enum ChoiceError {
-    /// The offer has no mechanism that the policy allows and the secret serves for.
-    #[error("No offered mechanism can be used")]
-    NoAcceptableMechanism,
-
-    /// An allocation failed.
-    #[error("Out of memory")]
-    OutOfMemory,
-}
-
-impl From<AllocError> for ChoiceError {
-    ghost from_gives = { λ _ error. error ≡ OutOfMemoryError };
-
-    fn from(_error: AllocError) -> Self {
-        ChoiceError::OutOfMemory
-    }
-}
-
-impl<T: Drop> From<AllocFailed<T>> for ChoiceError {
-    ghost from_gives = { λ _ error. error ≡ OutOfMemoryError };
-
-    fn from(_error: AllocFailed<T>) -> Self {
-        ChoiceError::OutOfMemory
-    }
-}
-
 /// Returns what the secret is for SCRAM of this version, if it serves for it.
 #[tactic(auto, using(crate::proofs::lemmas::machines::PolicyLemmas::keys))]
-fn secret_for<'a>(secret: &ClientSecret<'a>, version: ScramVersion) -> Option<ClientSecret<'a>>
+pub(crate) fn secret_for<'a>(
+    secret: &ClientSecret<'a>,
+    version: ScramVersion,
+) -> Option<ClientSecret<'a>>
     ensures secret { option_map secret_of result ≡ secret_for version (secret_of secret.now) }
     ensures version { MatchOption result (is_some (secret_for version (secret_of secret.now)) ≡ false)
         (λ secret. IsOfVersion version (secret_of secret)) }
@@ -326,7 +294,7 @@ fn can_take<O: Offer>(
 }
 
 /// Returns the first of the mechanisms that can be selected.
-fn first_taken<O: Offer>(
+pub(crate) fn first_taken<O: Offer>(
     mechanisms: &[Mechanism],
     offer: &O,
     secret: &ClientSecret<'_>,
@@ -345,7 +313,7 @@ fn first_taken<O: Offer>(
 }
 
 /// Returns what a client with this channel says of it in a mechanism without `-PLUS`.
-fn unbound_channel(channel: Option<ChannelBinding>) -> ClientChannel
+pub(crate) fn unbound_channel(channel: Option<ChannelBinding>) -> ClientChannel
     ensures { result ≡ unbound_channel channel }
 {
     match channel {
@@ -355,141 +323,11 @@ fn unbound_channel(channel: Option<ChannelBinding>) -> ClientChannel
 }
 
 /// Returns what a client with this channel says of it in a mechanism with `-PLUS`.
-fn bound_channel(channel: Option<ChannelBinding>) -> ClientChannel
+pub(crate) fn bound_channel(channel: Option<ChannelBinding>) -> ClientChannel
     ensures { result ≡ bound_channel channel }
 {
     match channel {
         Some(binding) => ClientChannel::Bound(binding),
         None => ClientChannel::Absent,
-    }
-}
-
-/// Returns the user's profile for SCRAM of this version, if the secret serves for it.
-fn scram_profile(
-    alloc: Global,
-    username: &str,
-    secret: &ClientSecret<'_>,
-    version: ScramVersion,
-    policy: ClientPolicy,
-    channel: ClientChannel,
-) -> Result<Option<SaslProfile>, OutOfMemory>
-    ensures { IfOk result (λ profile. option_map profile_of profile
-        ≡ scram_by policy channel username.now version (secret_for version (secret_of secret.now))) }
-{
-    let Some(secret) = secret_for(secret, version) else {
-        return Ok(None);
-    };
-    let username = String::from_str(alloc, username)?;
-    match ScramClient::with_secret(alloc, username, secret, version) {
-        Ok(client) => {
-            let client = client.with_min_iterations(policy.limits.min_iterations);
-            let client = client.with_iteration_limit(policy.limits.max_iterations);
-            Ok(Some(SaslProfile::scram_of(client.with_channel(channel))))
-        }
-        Err(ClientSecretError::OutOfMemory) => Err(OutOfMemory),
-        Err(ClientSecretError::VersionMismatch) => unreachable!(),
-    }
-}
-
-/// Returns the user's profile for PLAIN, if the secret has a password.
-fn plain_profile(
-    alloc: Global,
-    username: &str,
-    secret: &ClientSecret<'_>,
-) -> Result<Option<SaslProfile>, OutOfMemory>
-    ensures { IfOk result (λ profile. option_map profile_of profile ≡ plain_by username.now (secret_of secret.now)) }
-{
-    let password = match secret {
-        ClientSecret::Password(password) | ClientSecret::PasswordAndKeys { password, .. } => {
-            password.as_str()
-        }
-        ClientSecret::Keys(_) => return Ok(None),
-    };
-    Ok(Some(SaslProfile::plain(
-        String::from_str(alloc, username)?,
-        String::from_str(alloc, password)?,
-    )))
-}
-
-/// Returns the user's profile for the mechanism, if the secret serves for it.
-fn profile_by_mechanism(
-    alloc: Global,
-    username: &str,
-    secret: &ClientSecret<'_>,
-    policy: ClientPolicy,
-    mechanism: Mechanism,
-) -> Result<Option<SaslProfile>, OutOfMemory>
-    ensures { IfOk result (λ profile. option_map profile_of profile
-        ≡ profile_by policy username.now (secret_of secret.now) mechanism) }
-{
-    let (bound, unbound) = (
-        bound_channel(policy.channel),
-        unbound_channel(policy.channel),
-    );
-    match mechanism {
-        Mechanism::ScramSha512Plus => {
-            scram_profile(alloc, username, secret, ScramVersion::Sha512, policy, bound)
-        }
-        Mechanism::ScramSha256Plus => {
-            scram_profile(alloc, username, secret, ScramVersion::Sha256, policy, bound)
-        }
-        Mechanism::ScramSha1Plus => {
-            scram_profile(alloc, username, secret, ScramVersion::Sha1, policy, bound)
-        }
-        Mechanism::ScramSha512 => {
-            scram_profile(
-                alloc,
-                username,
-                secret,
-                ScramVersion::Sha512,
-                policy,
-                unbound,
-            )
-        }
-        Mechanism::ScramSha256 => {
-            scram_profile(
-                alloc,
-                username,
-                secret,
-                ScramVersion::Sha256,
-                policy,
-                unbound,
-            )
-        }
-        Mechanism::ScramSha1 => {
-            scram_profile(alloc, username, secret, ScramVersion::Sha1, policy, unbound)
-        }
-        Mechanism::External => Ok(Some(SaslProfile::External)),
-        Mechanism::Plain => plain_profile(alloc, username, secret),
-        Mechanism::Anonymous => Ok(Some(SaslProfile::Anonymous)),
-    }
-}
-
-/// Returns the profile for the strongest mechanism that is offered, that the policy allows and for which the secret
-/// serves. The order is SCRAM-SHA-512-PLUS, SCRAM-SHA-256-PLUS, SCRAM-SHA-1-PLUS, these three without `-PLUS`,
-/// EXTERNAL, PLAIN, ANONYMOUS. Keys serve for SCRAM of their own version; of a password with keys, other versions and
-/// PLAIN use the password. The profile has sent nothing. `laws::selected_channels` says what it does with a channel.
-///
-/// Errors: `NoAcceptableMechanism` if there is no such mechanism, and otherwise `OutOfMemory`.
-pub fn select_mechanism<O: Offer>(
-    alloc: Global,
-    offer: &O,
-    username: &str,
-    secret: &ClientSecret<'_>,
-    policy: ClientPolicy,
-) -> Result<SaslProfile, ChoiceError>
-    ensures ok { IfOk result (λ profile.
-        SelectsProfile policy username.now (secret_of secret.now) (O.names offer.now) (profile_of profile)) }
-    ensures err { IfErr result (λ error. error ≢ ChoiceError.OutOfMemory
-        → AllByRecursion (λ other. ¬ CanTake policy username.now (secret_of secret.now) (O.names offer.now) other) by_strength) }
-    ensures memory { (result ≡ Err ChoiceError.OutOfMemory)
-        → ¬ AllByRecursion (λ other. ¬ CanTake policy username.now (secret_of secret.now) (O.names offer.now) other) by_strength }
-{
-    let Some(mechanism) = first_taken(&BY_STRENGTH, offer, secret, policy) else {
-        return Err(ChoiceError::NoAcceptableMechanism);
-    };
-    match profile_by_mechanism(alloc, username, secret, policy, mechanism)? {
-        Some(profile) => Ok(profile),
-        None => unreachable!(),
     }
 }

@@ -23,7 +23,7 @@ pub mod whole_runs;
 
 pub use crate::any_mechanism::{AnyMechanism, HasMechanism, Selected};
 pub use crate::client_options::ClientOptions;
-pub use crate::client_policy::{ChoiceError, ClientPolicy, Mechanism, select_mechanism};
+pub use crate::client_policy::{ClientPolicy, Mechanism};
 pub use crate::events::{ClientReply, Event, EventError, ServerReply};
 pub use crate::login_attempts::{LoginAttempt, claimed_user};
 pub use crate::offer::Offer;
@@ -34,8 +34,8 @@ pub use crate::sasl_acceptor::{
     SaslServerFrame,
 };
 pub use crate::sasl_profile::{
-    Negotiation, PolicyLogin, ProfileError, SaslProfile, SaslScramSha1, SaslScramSha256,
-    SaslScramSha512, SingleMessage, UrlError,
+    ChoiceError, Negotiation, PolicyLogin, ProfileError, SaslProfile, SaslScramSha1,
+    SaslScramSha256, SaslScramSha512, SingleMessage, UrlError, select_mechanism,
 };
 pub use crate::server::Server;
 pub use crate::server::options::{

@@ -15,6 +15,7 @@ mod policy;
 mod saved;
 mod scram;
 mod scram_frames;
+mod selection;
 mod single_message;
 
 use crate::OutOfMemory;
@@ -32,6 +33,7 @@ pub(crate) use frames::outcome_of;
 pub use policy::PolicyLogin;
 pub use scram::{SaslScram, SaslScramSha1, SaslScramSha256, SaslScramSha512};
 use scram_frames::first_message;
+pub use selection::{ChoiceError, select_mechanism};
 pub use single_message::SingleMessage;
 use std::alloc::{AllocError, Global};
 use std::fmt;

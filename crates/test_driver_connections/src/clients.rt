@@ -4,8 +4,7 @@ use crate::events::{Side, answer_events};
 use crate::servers::take_restored;
 use fe2o3_sasl_negotiation::{
     ChannelBinding, ChannelData, ChannelKind, ClientNegotiation, ClientPolicy, ClientSecret,
-    Password, PolicyClient, PolicyLogin, SaslProfile, ScramClient, ScramVersion, Snapshot,
-    restored_client,
+    Password, SaslProfile, ScramClient, ScramVersion, Snapshot, restored_client,
 };
 use test_rows::{Row, call};
 
@@ -83,12 +82,6 @@ impl Side<()> for ClientNegotiation {
     }
 }
 
-impl Side<()> for PolicyClient<'_> {
-    fn wants_nonce(&self) -> bool {
-        self.wants_nonce()
-    }
-}
-
 /// Answers the lines of a paragraph by a client of a profile.
 pub fn answer_paragraph<'a>(row: &mut Row<'a>, lines: &'a str) {
     let Some((profile, hostname, limit)) = named_by(row) else {
@@ -124,14 +117,16 @@ pub fn answer_policy_paragraph<'a>(row: &mut Row<'a>, lines: &'a str) {
         return row.refuse("no policy");
     };
     let (identity, hostname) = (text_after(row, "for"), text_after(row, "hostname"));
-    let login = PolicyLogin {
-        username: &user,
-        secret: ClientSecret::Password(Password::Typed(&password)),
-        policy,
-        acts_for: identity.as_deref(),
-        hostname,
-    };
     let limit = frame_limit(row);
-    let mut side = PolicyClient::with_frame_limit(row.alloc, login, limit);
+    let secret = ClientSecret::Password(Password::Typed(&password));
+    let made = SaslProfile::by_policy(row.alloc, user, secret, policy).ok();
+    let profile = match (made, identity) {
+        (Some(profile), Some(identity)) => profile.acting_for(identity),
+        (made, _) => made,
+    };
+    let Some(profile) = profile else {
+        return row.refuse("no profile");
+    };
+    let mut side = ClientNegotiation::with_frame_limit(row.alloc, profile, hostname, limit);
     answer_events(row, &mut side, (), lines);
 }

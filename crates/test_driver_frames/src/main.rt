@@ -43,6 +43,7 @@ impl Answers for Driver {
             "from_url" => values::from_url(row),
             "select" => values::select(row),
             "keyed" => values::keyed(row),
+            "by_policy" => values::by_policy(row),
             "mechanism" => values::mechanism(row),
             "errors" => texts::errors(row),
             "shown" => texts::shown(row),

@@ -178,6 +178,20 @@ pub fn mechanism(row: &mut Row<'_>) {
     row.show(&Mechanism::of_name(name).map(|it| (it, it.name())));
 }
 
+/// Says the client by a policy from SCRAM-SHA-256 on, `USER PASSWORD`, or its copy.
+pub fn by_policy(row: &mut Row<'_>) {
+    let (alloc, is_copy) = (row.alloc, row.takes("copy"));
+    let (user, password) = (row.text(), row.text());
+    let secret = ClientSecret::Password(Password::Typed(&password));
+    let policy = ClientPolicy::scram_from(ScramVersion::Sha256);
+    let profile =
+        call!(row: "SaslProfile::by_policy" => SaslProfile::by_policy(alloc, user, secret, policy));
+    match &profile {
+        Ok(profile) if is_copy => show_call!(row: "SaslProfile::clone" => profile.clone()),
+        _ => row.show_made(&profile),
+    }
+}
+
 /// Says the client of SCRAM-SHA-256 with keys, `USER PASSWORD SALT COUNT`, or its copy.
 pub fn keyed(row: &mut Row<'_>) {
     let (alloc, is_copy) = (row.alloc, row.takes("copy"));

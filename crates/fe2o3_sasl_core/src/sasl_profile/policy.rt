@@ -8,8 +8,9 @@ ghost use Rattle.fe2o3_sasl_core.specs.Profiles.{PolicyProfile};
 ghost use Rattle.fe2o3_sasl_core.specs.SaslProfile.{profile_of, selection_of};
 
 use super::SaslProfile;
+use super::selection::{ChoiceError, select_mechanism};
 use crate::OutOfMemory;
-use crate::client_policy::{ChoiceError, ClientPolicy, select_mechanism};
+use crate::client_policy::ClientPolicy;
 use crate::offer::Offer;
 use fe2o3_scram::client_secret::{ClientSecret, OwnedSecret};
 use std::alloc::{AllocError, Global};

@@ -13,6 +13,9 @@ use Rattle.fe2o3_scram.specs.ScramClient.{ClientSide, ClientState, ReachesSaltIn
 use Rattle.fe2o3_sasl_core.specs.ClientHistory.{ClientAllocates}
 use Rattle.fe2o3_sasl_core.specs.Events.{Login}
 use Rattle.fe2o3_sasl_core.specs.Laws.{WantsAtServer}
+use Rattle.std.specs.List.{AllByRecursion}
+use Rattle.fe2o3_sasl_core.specs.ClientPolicy.{CanTake, by_strength}
+use Rattle.fe2o3_sasl_core.specs.declared.client_policy.Mechanism.{Mechanism}
 use Rattle.fe2o3_sasl_core.specs.Profiles.{Profile, ScramProfile, PlainProfile, AnonymousProfile, ExternalProfile, MessageProfile, PolicyProfile, Selection}
 use Rattle.fe2o3_sasl_core.specs.ProfileMachine.{FrameAllocates, NoneCanBeTaken, OfferAllocates, ViewAllocates, StepAllocates, ChallengeAllocates, IsChallengeDue, IsStarted, IsAnswered}
 use Rattle.fe2o3_sasl.specs.examples.MemoryExamples.{AcceptorsAskForNone, AskForNone, OwnedAskForNone, ServersWantNone, ClientsWantNone}
@@ -64,19 +67,12 @@ acceptors_ask_for_none = (
 
 -- nothing is selected of an empty offer
 none_taken : (selection : Selection) → NoneCanBeTaken selection []
-none_taken selection = (
-  λ can. no_name _ can.2,
-  (
-    λ can. no_name _ can.2,
-    (
-      λ can. no_name _ can.2,
-      (
-        λ can. no_name _ can.2,
-        (λ can. no_name _ can.2, (λ can. no_name _ can.2, (λ can. no_name _ can.2, (λ can. no_name _ can.2, (λ can. no_name _ can.2, tt))))),
-      ),
-    ),
-  ),
-)
+none_taken selection = go by_strength
+  where
+    go : (mechanisms : List Mechanism)
+        → AllByRecursion (λ mechanism. ¬ CanTake selection.policy selection.user selection.secret [] mechanism) mechanisms
+    go [] = tt
+    go (mechanism ∷ mechanisms) = (λ can. no_name _ can.2, go mechanisms)
 
 empty_offer : (profile : Profile) → ¬ OfferAllocates profile []
 empty_offer (PolicyProfile selection) asks = asks (none_taken selection)

@@ -14,7 +14,8 @@ pub returns-then-can_take : goal.returns-then-can_take
 returns-then-can_take g c user =
     let xs = c.args.mechanisms.now in
     let k = c.loop-mechanism.mechanism-index in
-    let can = CanTake c.args.policy user (secret_of c.args.secret.now) (g.O.Offer.names c.args.offer.now) (get_or xs k ScramSha512Plus) in (
+    let can = CanTake c.args.policy user (secret_of c.args.secret.now) (g.O.Offer.names c.args.offer.now)
+    (get_or xs k ScramSha512Plus) in (
       k,
       slice_get-get_or xs k ScramSha512Plus c.loop-mechanism-test.true,
       subst (λ (told : Bool). MatchBool told can (¬ can)) c.if-can_take.true (c.can_take.ensures user),
@@ -25,9 +26,10 @@ pub loop-mechanism-preserved : goal.loop-mechanism-preserved
 loop-mechanism-preserved g c user =
     let xs = c.args.mechanisms.now in
     let k = c.loop-mechanism.mechanism-index in
-    let can = CanTake c.args.policy user (secret_of c.args.secret.now) (g.O.Offer.names c.args.offer.now) (get_or xs k ScramSha512Plus) in
-    each_more (λ (other : Mechanism). ¬ CanTake c.args.policy user (secret_of c.args.secret.now) (g.O.Offer.names c.args.offer.now) other)
-    xs k ScramSha512Plus c.loop-mechanism-test.true (c.loop-mechanism.invariant user)
+    let can = CanTake c.args.policy user (secret_of c.args.secret.now) (g.O.Offer.names c.args.offer.now)
+    (get_or xs k ScramSha512Plus) in
+    each_more (λ (other : Mechanism). ¬ CanTake c.args.policy user (secret_of c.args.secret.now)
+    (g.O.Offer.names c.args.offer.now) other) xs k ScramSha512Plus c.loop-mechanism-test.true (c.loop-mechanism.invariant user)
     (subst (λ (told : Bool). MatchBool told can (¬ can)) c.if-can_take.false (c.can_take.ensures user))
 
 pub returns : goal.returns
@@ -36,5 +38,6 @@ returns g c user =
     let k = c.loop-mechanism.mechanism-index in
     subst
     (AllByRecursion
-    (λ (other : Mechanism). ¬ CanTake c.args.policy user (secret_of c.args.secret.now) (g.O.Offer.names c.args.offer.now) other))
+    (λ (other : Mechanism). ¬ CanTake c.args.policy user (secret_of c.args.secret.now) (g.O.Offer.names c.args.offer.now)
+    other))
     (take_all k xs (omega arith)) (c.loop-mechanism.invariant user)

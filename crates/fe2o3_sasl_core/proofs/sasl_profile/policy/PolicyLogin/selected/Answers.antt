@@ -5,7 +5,8 @@ use Rattle.fe2o3_sasl_core.proofs.sasl_profile.policy.PolicyLogin.selected.Goals
 
 pub returns-in_err-identity-in-Some-clause-err : goal.returns-in_err-identity-in-Some-clause-err
 returns-in_err-identity-in-Some-clause-err g c = on_err_where c.from_residual.result (chosen_of_some
-    (selection_of c.args.self.now) (g.O.Offer.names c.args.offer.now) (profile_of c.in-Ok.chosen) (rw c.deref.ensures at (rw c.lent-secret.ensures at c.in-Ok.ensures.ok)))
+    (selection_of c.args.self.now) (g.O.Offer.names c.args.offer.now) (profile_of c.in-Ok.chosen)
+    (rw c.deref.ensures at (rw c.lent-secret.ensures at c.in-Ok.ensures.ok)))
 
 pub returns-in_ok-identity-in-Some-clause-ok : goal.returns-in_ok-identity-in-Some-clause-ok
 returns-in_ok-identity-in-Some-clause-ok g c =
@@ -18,4 +19,5 @@ returns-in_ok-identity-in-Some-clause-ok g c =
 pub returns-in-None-clause-ok : goal.returns-in-None-clause-ok
 returns-in-None-clause-ok g c =
     selected_itself (selection_of c.args.self.now) (g.O.Offer.names c.args.offer.now) (profile_of c.in-Ok.chosen)
-    (rw c.deref.ensures at (rw c.lent-secret.ensures at c.in-Ok.ensures.ok)) (ap (option_map (λ name. string_bytes name)) c.in-None.is)
+    (rw c.deref.ensures at (rw c.lent-secret.ensures at c.in-Ok.ensures.ok))
+    (ap (option_map (λ name. string_bytes name)) c.in-None.is)
