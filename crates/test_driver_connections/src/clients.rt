@@ -30,10 +30,9 @@ pub fn frame_limit(row: &mut Row<'_>) -> usize {
 pub fn named_by(row: &mut Row<'_>) -> Option<(SaslProfile, Option<String>, usize)> {
     let (mechanism, user, password) = (row.word(), row.text_of_digits(), row.text_of_digits());
     let iterations = row.number();
-    let hostname = if row.takes("none") {
-        None
-    } else {
-        Some(row.text_of_digits())
+    let hostname = match row.takes("none") {
+        true => None,
+        false => Some(row.text_of_digits()),
     };
     let by_challenge = row.takes("by-challenge");
     let identity = text_after(row, "for");
@@ -117,7 +116,6 @@ pub fn answer_policy_paragraph<'a>(row: &mut Row<'a>, lines: &'a str) {
         return row.refuse("no policy");
     };
     let (identity, hostname) = (text_after(row, "for"), text_after(row, "hostname"));
-    let limit = frame_limit(row);
     let secret = ClientSecret::Password(Password::Typed(&password));
     let made = SaslProfile::by_policy(row.alloc, user, secret, policy).ok();
     let profile = match (made, identity) {
@@ -127,6 +125,7 @@ pub fn answer_policy_paragraph<'a>(row: &mut Row<'a>, lines: &'a str) {
     let Some(profile) = profile else {
         return row.refuse("no profile");
     };
+    let limit = frame_limit(row);
     let mut side = ClientNegotiation::with_frame_limit(row.alloc, profile, hostname, limit);
     answer_events(row, &mut side, (), lines);
 }
