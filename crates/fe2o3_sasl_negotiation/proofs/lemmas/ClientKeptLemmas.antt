@@ -12,6 +12,7 @@ use Rattle.fe2o3_sasl_core.specs.Profiles.{Profile, accepts_signature_by_challen
 use Rattle.fe2o3_sasl_core.specs.Runs.{ProfileSteps, ProfileGives, Replies as ProfileSays}
 use Rattle.fe2o3_sasl_core.specs.declared.sasl_profile.error.ProfileError.{ProfileError}
 use Rattle.fe2o3_sasl_core.proofs.lemmas.frames.SpellingLemmas.{one_spelling}
+use Rattle.fe2o3_sasl_core.proofs.lemmas.machines.OfferLemmas.{Viewed, offer_view}
 use Rattle.fe2o3_sasl_negotiation.specs.declared.framing.Step.{Step}
 use Rattle.fe2o3_sasl_negotiation.specs.declared.progress.CloseReason.TheVariants.{ProtocolHeaderMismatch, UnexpectedFrame, ReplyTooLarge, MalformedFrame, Refused, Mechanism as ProfileRefused}
 use Rattle.fe2o3_sasl_negotiation.specs.declared.progress.Expected.{Expected}
@@ -62,6 +63,16 @@ init_is_no_report : (code : SaslCode) (more : Option (List ℕ)) (body : Option 
 init_is_no_report code more None same = absurd (cc)
 init_is_no_report code more (Some body) same = absurd (cc)
 
+offer_is_no_report : (hostname : Option (List ℕ)) (profile moved next : Profile) (nonce : List ℕ)
+    (names : List (List ℕ)) (reply : Result SaslFrame ProfileError) (code : SaslCode) (more : Option (List ℕ))
+    → Viewed profile hostname nonce names reply moved → ProfileSays profile moved reply (Reported code more) next → ⊥
+offer_is_no_report hostname profile moved next nonce names reply code more (inl (chosen, begins, is, after)) says =
+    init_is_no_report code more _
+    (subst (λ (r : Result SaslFrame ProfileError). ProfileSays profile moved r (Reported code more) next) is says).0
+offer_is_no_report hostname profile moved next nonce names reply code more (inr (none, is, after)) says =
+    let apart = (subst (λ (r : Result SaslFrame ProfileError). ProfileSays profile moved r (Reported code more)
+    next) is says).0 in absurd (cc)
+
 no_report : (hostname : Option (List ℕ)) (profile next : Profile) (event : Given) (names : List (List ℕ))
     (code : SaslCode) (more : Option (List ℕ)) → SpellsBody event.body (Ok (frames.Mechanisms names))
     → ProfileSteps hostname profile event (Reported code more) next → ⊥
@@ -71,12 +82,8 @@ no_report hostname profile next event names code more spells (spelled, other, gi
   where
     go : ProfileGives hostname profile event (Ok (frames.Mechanisms names)) (Reported code more) next → ⊥
     go (inl (allocates, says, same)) = absurd (cc)
-    go (inr (reply, moved, inl (offered, is, after), says)) =
-        init_is_no_report code more _
-        (subst (λ (r : Result SaslFrame ProfileError). ProfileSays profile moved r (Reported code more) next) is says).0
-    go (inr (reply, moved, inr (other, is, after), says)) =
-        let apart = (subst (λ (r : Result SaslFrame ProfileError). ProfileSays profile moved r (Reported code more)
-        next) is says).0 in absurd (cc)
+    go (inr (reply, moved, answers, says)) = offer_is_no_report hostname profile moved next event.nonce names reply code more
+        (offer_view profile hostname event.nonce names reply moved answers) says
 
 -- so an outcome comes after the mechanisms
 after_mechanisms : (hostname : Option (List ℕ)) (turn : FrameKind) (profile next : Profile) (event : Given)

@@ -1,10 +1,9 @@
 -- What a call makes of the bytes that it is handed, whatever the machine is.
-use Rattle.std.proofs.Common.{◌≡◌, ℕ, ◌-◌, ◌<◌, ◌≤◌, List, [], ◌++◌, length, take, drop, refl, sym, ap, ◌∙◌, subst, inl, inr, arith, Result, Ok, Err, OnErr}
+use Rattle.std.proofs.Common.{◌≡◌, ℕ, ◌-◌, ◌<◌, ◌≤◌, List, [], ◌++◌, length, take, drop, refl, sym, ap, ◌∙◌, subst, arith, Result, Ok, Err, OnErr}
 use Rattle.std.proofs.lemmas.List.{append-nil, length-take-le, take-take, take_at}
-use Rattle.fe2o3_sasl_negotiation.specs.declared.framing.Arrived.TheVariants.{Part, Refused, Whole}
+use Rattle.fe2o3_sasl_negotiation.specs.declared.framing.Arrived.TheVariants.{Refused, Whole}
 use Rattle.fe2o3_sasl_negotiation.specs.declared.framing.Step.{Step}
 use Rattle.fe2o3_sasl_negotiation.specs.declared.progress.CloseReason.{CloseReason}
-use Rattle.fe2o3_sasl_negotiation.specs.declared.progress.CloseReason.TheVariants.{FrameSize}
 use Rattle.fe2o3_sasl_negotiation.specs.declared.progress.Expected.{Expected}
 use Rattle.fe2o3_sasl_negotiation.specs.declared.progress.Expected.TheVariants.{Header, Frame}
 use Rattle.fe2o3_sasl_negotiation.specs.declared.progress.FrameKind.{FrameKind}
@@ -43,76 +42,6 @@ whole_within (Frame turn) limit come whole = whole.1
 refused_four : (expected : Expected) (limit : ℕ) (come : List ℕ) → IsRefused expected limit come → 4 ≤ length come
 refused_four Header limit come refused = absurd refused
 refused_four (Frame turn) limit come refused = refused.0
-
-module _ {S : Type 0} (Answers : Expected → S → List ℕ → List ℕ → SideOutput → S → Type 0) (side : Side S) (bytes nonce : List ℕ)
-    (wanting : side.progress ≡ InProgress) where
-  -- what holds of a side that wants bytes
-  wants : (taken : ℕ) (sent : List ℕ) (next : Side S) → ReceivesAt InProgress Answers side bytes nonce taken sent next
-      → Receives Answers side bytes nonce taken sent next
-  wants taken sent next holds =
-      subst (λ (s : Progress). ReceivesAt s Answers side bytes nonce taken sent next) (sym wanting) holds
-
-  -- less than the whole is kept
-  pub part_is_kept : (kept : List ℕ) → TakesUnit side.expected side.limit (side.held ++ bytes) Part kept
-      → Receives Answers side bytes nonce (length bytes) [] (record side { held = kept })
-  part_is_kept kept takes = wants (length bytes) [] (record side { held = kept })
-      (inl (takes.0, (refl, refl, ap (λ (h : List ℕ). record side { held = h }) takes.1)))
-
-  -- a size is not allowed
-  pub size_is_refused : (kept left : List ℕ) (taken : ℕ) → TakesUnit side.expected side.limit (side.held ++ bytes) Refused kept
-      → taken ≡ length kept - length side.held → left ≡ []
-      → Receives Answers side bytes nonce taken []
-      (record { progress = Failed FrameSize; expected = side.expected; limit = side.limit; held = left; state = side.state })
-  size_is_refused kept left taken takes is empty =
-      wants taken []
-      (record { progress = Failed FrameSize; expected = side.expected; limit = side.limit; held = left; state = side.state })
-      (inr (inl (
-        takes.0,
-        (
-          is ∙ ap (λ n. n - length side.held) (ap length takes.1
-              ∙ length-take-le 4 (side.held ++ bytes) (refused_four side.expected side.limit (side.held ++ bytes) takes.0)),
-          refl,
-          ap (λ (h : List ℕ). record {
-            progress = Failed FrameSize;
-            expected = side.expected;
-            limit = side.limit;
-            held = h;
-            state = side.state;
-          }) empty,
-        ),
-      )))
-
-  -- a whole unit is answered
-  pub unit_is_answered : (kept left sent : List ℕ) (taken : ℕ) (step : Step) (state : S)
-      → TakesUnit side.expected side.limit (side.held ++ bytes) Whole kept
-      → Answers side.expected side.state nonce kept
-      (record { sent = sent; progress = step.progress; expected = step.expected }) state
-      → taken ≡ length kept - length side.held → left ≡ []
-      → Receives Answers side bytes nonce taken sent
-      (record { progress = step.progress; expected = step.expected; limit = side.limit; held = left; state = state })
-  unit_is_answered kept left sent taken step state takes answers is empty =
-      let come = side.held ++ bytes in
-      wants taken sent
-      (record { progress = step.progress; expected = step.expected; limit = side.limit; held = left; state = state })
-      (inr (inr (
-        record { sent = sent; progress = step.progress; expected = step.expected },
-        state,
-        takes.0,
-        subst (λ (u : List ℕ). Answers side.expected side.state nonce u
-            (record { sent = sent; progress = step.progress; expected = step.expected }) state) takes.1 answers,
-        (
-          is ∙ ap (λ n. n - length side.held) (ap length takes.1 ∙ length-take-le (unit_size side.expected come) come
-              (whole_within side.expected side.limit come takes.0)),
-          refl,
-          ap (λ (h : List ℕ). record {
-            progress = step.progress;
-            expected = step.expected;
-            limit = side.limit;
-            held = h;
-            state = state;
-          }) empty,
-        ),
-      )))
 
 -- a side at its end rests
 pub ended_rests : {S : Type 0} (Answers : Expected → S → List ℕ → List ℕ → SideOutput → S → Type 0) (side : Side S)
