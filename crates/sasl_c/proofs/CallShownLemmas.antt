@@ -63,11 +63,6 @@ no_user scram None acts_for zero shows = refl
 no_user scram (Some user) acts_for zero shows =
     let two : scram.state ≡ 2 = shows.0.0 in absurd (omega (arith, zero, two))
 
--- and none of another state a signature
-not_signed : (scram : ScramStruct) (user acts_for : Option (List ℕ)) → scram.state ≢ 4 → ShowsSigned scram user acts_for → ⊥
-not_signed scram None acts_for four shows = shows
-not_signed scram (Some user) acts_for four shows = four shows.0
-
 signed_state : (scram : ScramStruct) (user acts_for : Option (List ℕ)) → ShowsSigned scram user acts_for → scram.state ≡ 4
 signed_state scram None acts_for shows = absurd shows
 signed_state scram (Some user) acts_for shows = shows.0

@@ -70,10 +70,6 @@ module _ (settings : ServerSettings) (records : MultiRecords) (rights : Rights) 
   abbrev Both : ServerStage → ServerStage → ServerStage → (ServerStage → Type 0) → Type 0
   Both stage other next Answers = Answers next ⊎ (Answers stage × (next ≡ other))
 
-  rejects_both : (stage other next : ServerStage) (reply : SaslFrame) → StageRejects other reply next
-      → StageRejects stage reply stage × (next ≡ other)
-  rejects_both stage other next reply is = ((is.0, refl), is.1)
-
   asks_both : (does : Bool) (way : Way) (stage other next : ServerStage) (nonce : List ℕ) (reply : SaslFrame)
       → AsksForResponse does way other nonce reply next
       → Both stage other next (λ after. AsksForResponse does way stage nonce reply after)

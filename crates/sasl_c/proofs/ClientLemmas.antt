@@ -20,9 +20,7 @@ use Rattle.fe2o3_scram.specs.ServerFirstAnswers.{AnswersServerFirst}
 use Rattle.fe2o3_scram.specs.declared.client_secret.IterationLimits.{IterationLimits}
 use Rattle.fe2o3_scram.specs.Texts.{base64_text}
 use Rattle.fe2o3_scram.specs.declared.scram_messages.error.ScramErrorKind.{ScramErrorKind}
-use Rattle.fe2o3_scram.specs.declared.scram_messages.error.ScramErrorKind.TheVariants.{IllegalClientState, ServerSignatureMismatch, Utf8Error, OutOfMemory as NoMemory}
-use Rattle.fe2o3_scram.specs.ServerErrors.{NamesServerError}
-use Rattle.fe2o3_scram.specs.declared.scram_messages.server_error.ServerError.{ServerError}
+use Rattle.fe2o3_scram.specs.declared.scram_messages.error.ScramErrorKind.TheVariants.{IllegalClientState, Utf8Error, OutOfMemory as NoMemory}
 use Rattle.std.specs.Str.{IsUtf8}
 use Rattle.sasl_c.specs.declared.status.Status.{Status}
 use Rattle.sasl_c.specs.declared.status.Status.TheVariants as statuses
@@ -448,19 +446,6 @@ unverified login before text signature version header why status known is binds 
         ),
       ),
 )
-
--- the status of an error, where the message is a server error and where it is none
-pub server_error_status : (text : List ℕ) (why : ScramErrorKind) (error : ServerError) → why ≡ ServerSignatureMismatch
-    → NamesServerError text error → IsVerifyStatus text why statuses.ServerError
-server_error_status text why error same names =
-    carried (λ (kind : ScramErrorKind). IsVerifyStatus text kind statuses.ServerError) ServerSignatureMismatch why (sym same)
-    (inl (refl, (error, names)))
-
-pub mismatch_status : (text : List ℕ) (why : ScramErrorKind) (status : Status) → why ≡ ServerSignatureMismatch
-    → ((error : ServerError) → ¬ NamesServerError text error) → status ≡ client_status why → IsVerifyStatus text why status
-mismatch_status text why status same none gives =
-    carried (λ (kind : ScramErrorKind). IsVerifyStatus text kind status) ServerSignatureMismatch why (sym same)
-    (inr (gives ∙ ap client_status same, none))
 
 -- a client that waits for no signature
 not_waiting_in : (user : List ℕ) (before : Struct) (state : ClientState) (side : ClientSide) (text : List ℕ)

@@ -73,10 +73,6 @@ pub names_none : (name : List ℕ) → length name ≡ 0 → identity_named (Som
 names_none [] none = refl
 names_none (byte ∷ name) none = absurd (omega (arith, none))
 
-pub names_some : (name : List ℕ) → length name ≢ 0 → identity_named (Some name) ≡ Some name
-names_some [] some = absurd (some refl)
-names_some (byte ∷ name) some = refl
-
 pub ruleset headers = (has_header, no_identity, no_channel)
 
 -- ---- its version, its user, its identity and its channel

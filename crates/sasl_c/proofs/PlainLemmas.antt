@@ -152,14 +152,6 @@ pub no_user : (terms : PlainTerms) (records : List Struct) (message : List ℕ)
 no_user terms records message none (parts, shown, spells, taken, first, tested, may) = none parts spells
     (tt, taken.1, taken.2, taken.3)
 
-pub costs_nothing : (terms : PlainTerms) (records : List Struct) (message : List ℕ) (before : ℕ)
-    → ((parts : PlainParts) → SpellsPlain parts message → ¬ IsTaken true parts)
-    → VerifyingCosts terms records message before before
-costs_nothing terms records message before none = (
-  λ name other n (parts, spells, taken, called) first makes. absurd (none parts spells taken),
-  λ none. refl,
-)
-
 -- ---- the identity that a message asks for
 
 asked_some : (identity name : List ℕ) → identity_named (Some identity) ≡ Some name → name ≡ identity

@@ -1,12 +1,11 @@
 -- The structs of a client's side, and why there is none (AMQP 1.0, part 5, section 5.3.2).
-use Rattle.std.proofs.Common.{arith, refl, sym, ap, inl, inr, ◌∙◌, ◌≡◌, ◌≢◌, ◌≤◌, ◌<◌, ◌⊎◌, ℕ, List, [], ◌∷◌, length, IsTrue, true}
-use Rattle.std.specs.Prelude.{Bool, ◌||◌, is_some, Option, Some, None, false, replicate, IfSome, MatchOption, Ok, Err, nat_eq, if◌then◌else◌}
+use Rattle.std.proofs.Common.{arith, refl, sym, ap, inl, inr, ◌∙◌, ◌≡◌, ◌≢◌, ◌<◌, ℕ, List, [], ◌∷◌, length, IsTrue, true}
+use Rattle.std.specs.Prelude.{Bool, ◌||◌, is_some, Option, Some, None, false, IfSome, MatchOption, Ok, Err, nat_eq}
 use Rattle.std.specs.Str.{IsUtf8}
 use Rattle.fe2o3_scram.specs.Readings.{IsFirst, NoneHolds}
 use Rattle.fe2o3_scram.specs.ScramClient.{ClientSide, identity_named}
 use Rattle.fe2o3_sasl_core.specs.PlainWords.{ArePlainWords}
-use Rattle.fe2o3_scram.proofs.lemmas.texts.DecisionLemmas.{same_number_or}
-use Rattle.fe2o3_sasl_core.specs.Profiles.{Profile, ScramProfile, PlainProfile, AnonymousProfile, ExternalProfile, MessageProfile, PolicyProfile, MessageMechanism, AnonymousMessage, ExternalMessage, after_init, answers_empty_challenge, is_scram}
+use Rattle.fe2o3_sasl_core.specs.Profiles.{Profile, ScramProfile, AnonymousMessage, ExternalMessage}
 use Rattle.fe2o3_sasl_negotiation.specs.declared.snapshot.Snapshot.{Snapshot}
 use Rattle.fe2o3_sasl_negotiation.specs.declared.progress.Expected.{Expected}
 use Rattle.fe2o3_sasl_negotiation.specs.declared.progress.Expected.TheVariants.{Header, Frame}
@@ -23,10 +22,10 @@ use Rattle.sasl_c.specs.declared.sasl_client.SaslClient.{SaslClient as Struct}
 use Rattle.sasl_c.specs.declared.sasl_client.SaslLogin.{SaslLogin as Login}
 use Rattle.sasl_c.specs.declared.status.Status.{Status}
 use Rattle.sasl_c.specs.declared.status.Status.TheVariants as statuses
-use Rattle.sasl_c.specs.Client.{CanBeNamed, IsNoLogin, IsReached, IsState, WritesClient, fresh_client_struct, is_set, started_struct}
+use Rattle.sasl_c.specs.Client.{CanBeNamed, IsNoLogin, IsReached, IsState, WritesClient, is_set}
 use Rattle.sasl_c.specs.Plain.{word_tests}
 use Rattle.sasl_c.specs.Connection.{Keeps, KeepsNoPartOf, accepts_extended, expected_number, side_tests, connection_struct}
-use Rattle.sasl_c.specs.SaslClient.{ClientTakes, ProfileIsReached, HasNoHostname, NamesNoIdentity, CanSendWords, HasNoClientWords, IsClient, IsDueIn, IsPlainOf, message_number, message_tests, IsHostname, IsNoClient, IsNoProfile, IsProfile, client_word_tests, is_strict_plain, ReadsClient, ReceivesAsClient, WritesProfile, WritesSide}
+use Rattle.sasl_c.specs.SaslClient.{ClientTakes, ProfileIsReached, HasNoHostname, NamesNoIdentity, CanSendWords, HasNoClientWords, IsClient, IsPlainOf, message_tests, IsHostname, IsNoClient, IsNoProfile, IsProfile, client_word_tests, is_strict_plain, ReadsClient, ReceivesAsClient, WritesProfile, WritesSide}
 use Rattle.sasl_c.proofs.StatusLemmas.{carried}
 
 -- ---- structs
@@ -44,15 +43,6 @@ shows_scram login profile machine (Some scram) is comes held =
     carried (IsProfile login scram) (ScramProfile machine) profile (sym is)
     (stands.0, (stands.1.0, held machine.user stands.1.1))
 
-pub shows_other : (login : Login) (profile : Profile) (scram : ScramStruct) → is_scram profile ≡ false
-    → IsDueIn scram (answers_empty_challenge profile) → ProfileIsReached login profile → IsProfile login scram profile
-shows_other login (ScramProfile side) scram other due comes = absurd (cc)
-shows_other login (PlainProfile identity user password) scram other due comes = comes
-shows_other login AnonymousProfile scram other due comes = comes
-shows_other login ExternalProfile scram other due comes = comes
-shows_other login (MessageProfile mechanism message is_due) scram other due comes = (comes.0, comes.1, due, comes.2)
-shows_other login (PolicyProfile selection) scram other due comes = absurd comes
-
 -- the struct that is written for a profile
 pub writes_scram : (profile : Profile) (machine : ClientSide) (answer : Option ScramStruct)
     → profile ≡ ScramProfile machine → IfSome answer (λ client. WritesClient client machine.state)
@@ -60,26 +50,6 @@ pub writes_scram : (profile : Profile) (machine : ClientSide) (answer : Option S
 writes_scram profile machine None is held = held
 writes_scram profile machine (Some scram) is held =
     carried (WritesProfile scram) (ScramProfile machine) profile (sym is) held
-
-pub writes_other : (profile : Profile) (scram : ScramStruct) → is_scram profile ≡ false → scram ≡ fresh_client_struct
-    → answers_empty_challenge profile ≡ false → WritesProfile scram profile
-writes_other (ScramProfile side) scram other same due = absurd (cc)
-writes_other (PlainProfile identity user password) scram other same due = same
-writes_other AnonymousProfile scram other same due = same
-writes_other ExternalProfile scram other same due = same
-writes_other (MessageProfile mechanism message true) scram other same due = absurd (cc)
-writes_other (MessageProfile mechanism message false) scram other same due = same
-writes_other (PolicyProfile selection) scram other same due = same
-
-pub writes_due : (profile : Profile) (scram : ScramStruct) → scram ≡ started_struct (replicate 32 0)
-    → answers_empty_challenge profile ≡ true → WritesProfile scram profile
-writes_due (ScramProfile side) scram same due = absurd (cc)
-writes_due (PlainProfile identity user password) scram same due = absurd (cc)
-writes_due AnonymousProfile scram same due = absurd (cc)
-writes_due ExternalProfile scram same due = absurd (cc)
-writes_due (MessageProfile mechanism message true) scram same due = same
-writes_due (MessageProfile mechanism message false) scram same due = absurd (cc)
-writes_due (PolicyProfile selection) scram same due = absurd (cc)
 
 -- and those that are written for a side
 pub writes_side : (connection : Kept) (scram : ScramStruct) (accepts : Bool) (side : Side Profile) (kept : Snapshot)
@@ -106,12 +76,6 @@ shows_side login connection scram side kept same limit keeps is = (
   ),
   is,
 )
-
-pub never_more : (side : Side Profile) (kept : Snapshot) → side_of kept side.state ≡ side → length side.held ≤ 512
-    → 512 < length kept.held.now → ⊥
-never_more side kept same few more =
-    let held : length kept.held.now ≡ length side.held = ap (λ (s : Side Profile). length s.held) same in
-    absurd (omega (arith, held, few, more))
 
 -- the side that was taken up is that of the struct
 pub is_taken_up : (login : Login) (client : Struct) (kept : Snapshot) (profile : Profile) (side : Side Profile)
@@ -308,20 +272,6 @@ unfolding IsNoProfile
 no_mechanism login wide = inr (inr (inr (inr (wide, refl))))
 
 pub ruleset no_profiles = (no_scram, no_plain, no_anonymous, no_external, no_trace, no_identity, no_mechanism)
-
--- a profile of a single message, as the struct says whether its init was sent last
-pub message_begun : (login : Login) (scram : ScramStruct) (mechanism : MessageMechanism) (message : List ℕ)
-    (begun after : Profile) → login.mechanism ≡ message_number mechanism → message ≡ login.login.username.now
-    → NamesNoIdentity login.login → begun ≡ MessageProfile mechanism message false
-    → (scram.state ≡ 1 → after ≡ after_init begun (replicate 32 0))
-    → (scram.state ≢ 1 → after ≡ begun) → IsProfile login scram after
-message_begun login scram mechanism message begun after number same can is sent not_sent = go (same_number_or scram.state 1)
-  where
-    go : (scram.state ≡ 1) ⊎ (scram.state ≢ 1) → IsProfile login scram after
-    go (inl first) = carried (IsProfile login scram) (MessageProfile mechanism message true) after
-        (sym (sent first ∙ ap (λ (p : Profile). after_init p (replicate 32 0)) is)) (number, same, first, can)
-    go (inr other) = carried (IsProfile login scram) (MessageProfile mechanism message false) after
-        (sym (not_sent other ∙ is)) (number, same, other, can)
 
 -- what a call makes of bytes
 pub received : (login : Login) (bytes nonce : List ℕ) (before after : Struct) (accepts : Bool)

@@ -17,29 +17,6 @@ client_memory why other same = other (ap client_status same)
 pub server_memory : (why : ServerScramErrorKind) → server_status why ≢ OutOfMemory → why ≢ server.OutOfMemory
 server_memory why other same = other (ap server_status same)
 
--- a status of memory is that of a fault of memory
-pub client_is_memory : (why : ScramErrorKind) (status : Status) → status ≡ client_status why → status ≡ OutOfMemory
-    → why ≡ client.OutOfMemory
-client_is_memory client.Utf8Error status gives memory = absurd (cc)
-client_is_memory client.InsufficientParts status gives memory = absurd (cc)
-client_is_memory client.ExtensionNotSupported status gives memory = absurd (cc)
-client_is_memory client.NonceNotFound status gives memory = absurd (cc)
-client_is_memory client.ClientNonceMismatch status gives memory = absurd (cc)
-client_is_memory client.SaltNotFound status gives memory = absurd (cc)
-client_is_memory client.Base64DecodeError status gives memory = absurd (cc)
-client_is_memory client.IterationCountNotFound status gives memory = absurd (cc)
-client_is_memory client.IterationCountParseError status gives memory = absurd (cc)
-client_is_memory client.IterationCountTooSmall status gives memory = absurd (cc)
-client_is_memory client.IterationCountTooLarge status gives memory = absurd (cc)
-client_is_memory client.NormalizeError status gives memory = absurd (cc)
-client_is_memory client.StaleKeys status gives memory = absurd (cc)
-client_is_memory client.HmacErrorInvalidLength status gives memory = absurd (cc)
-client_is_memory client.XorLengthMismatch status gives memory = absurd (cc)
-client_is_memory client.IllegalClientState status gives memory = absurd (cc)
-client_is_memory client.ServerSignatureMismatch status gives memory = absurd (cc)
-client_is_memory client.MisplacedAttribute status gives memory = absurd (cc)
-client_is_memory client.OutOfMemory status gives memory = refl
-
 pub server_is_memory : (why : ServerScramErrorKind) (status : Status) → status ≡ server_status why
     → status ≡ OutOfMemory → why ≡ server.OutOfMemory
 server_is_memory server.Utf8Error status gives memory = absurd (cc)
@@ -78,10 +55,6 @@ asks_so P (Err status) held = λ memory. held
 pub on_err : {A E : Type 0} (P : Type 0) (answer : Result A E) → P → OnErr answer P
 on_err P (Ok x) held = tt
 on_err P (Err e) held = held
-
-pub on_err_so : {A E : Type 0} (P Q : Type 0) (answer : Result A E) → (P → Q) → OnErr answer P → OnErr answer Q
-on_err_so P Q (Ok x) says held = held
-on_err_so P Q (Err e) says held = says held
 
 -- what holds of one holds of its equal
 pub carried : {A : Type 0} (P : A → Type 0) (x y : A) → x ≡ y → P x → P y
