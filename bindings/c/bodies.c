@@ -238,7 +238,7 @@ static struct fe2o3_sasl_server_config config_of(const struct fe2o3_scram_record
 {
     struct fe2o3_sasl_server_config config = {offer_of(record->version) | FE2O3_OFFER_PLAIN | FE2O3_OFFER_ANONYMOUS
             | FE2O3_OFFER_EXTERNAL,
-        0, 4096, 1, TEXT("user"), record, 1, TEXT("peer"), {0}, 0, FE2O3_NONE};
+        0, 4096, 0, FE2O3_NONE, 1, TEXT("user"), record, 1, TEXT("peer"), {0}, 0, FE2O3_NONE};
     return config;
 }
 

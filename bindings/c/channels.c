@@ -67,8 +67,8 @@ static void begin(struct pair *pair, const struct hash *hash, uint32_t use, int 
     memset(pair, 0, sizeof *pair);
     pair->hash = hash;
     fe2o3_scram_record_make(hash->version, FE2O3_TYPED, TEXT("pencil"), salt, sizeof salt, 4096, &pair->record);
-    pair->config = (struct fe2o3_sasl_server_config){hash->offer, 0, 4096, 1, TEXT("user"), &pair->record, 1,
-        FE2O3_NONE, {0}, 0, FE2O3_NONE};
+    pair->config = (struct fe2o3_sasl_server_config){hash->offer, 0, 4096, 0, FE2O3_NONE, 1, TEXT("user"),
+        &pair->record, 1, FE2O3_NONE, {0}, 0, FE2O3_NONE};
     pair->config.channels.binds_channel = (uint32_t)server_binds;
     pair->config.channels.tls_exporter_len = 32;
     memset(pair->config.channels.tls_exporter, 's', 32);

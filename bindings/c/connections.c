@@ -111,8 +111,8 @@ static int serves_init(const struct fe2o3_sasl_server_config *config, uint32_t a
 static void servers(void)
 {
     struct fe2o3_scram_record record = {0};
-    struct fe2o3_sasl_server_config config = {FE2O3_OFFER_PLAIN, 0, 4096, 1, TEXT("user"), &record, 1, TEXT(""), {0}, 0,
-        FE2O3_NONE};
+    struct fe2o3_sasl_server_config config = {FE2O3_OFFER_PLAIN, 0, 4096, 0, FE2O3_NONE, 1, TEXT("user"), &record, 1,
+        TEXT(""), {0}, 0, FE2O3_NONE};
     fe2o3_scram_record_make(FE2O3_SHA_256, FE2O3_TYPED, TEXT("pencil"), salt, sizeof salt, 4096, &record);
     for (size_t at = 0; at < sizeof inits / sizeof *inits; at++) {
         told("a server that accepts extended headers", inits[at].what, serves_init(&config, 1, &inits[at]));
@@ -258,8 +258,8 @@ static int hears_twice(const struct fe2o3_sasl_login *login, struct fe2o3_sasl_c
 static void nonces(void)
 {
     struct fe2o3_scram_record record = {0};
-    struct fe2o3_sasl_server_config config = {FE2O3_OFFER_SCRAM_SHA_256, 0, 4096, 1, TEXT("user"), &record, 1,
-        FE2O3_NONE, {0}, 0, FE2O3_NONE};
+    struct fe2o3_sasl_server_config config = {FE2O3_OFFER_SCRAM_SHA_256, 0, 4096, 0, FE2O3_NONE, 1, TEXT("user"),
+        &record, 1, FE2O3_NONE, {0}, 0, FE2O3_NONE};
     struct fe2o3_sasl_login login = {FE2O3_SCRAM, FE2O3_NONE,
         {.version = FE2O3_SHA_256,
             .min_iterations = 4096,

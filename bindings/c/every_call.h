@@ -289,6 +289,9 @@ static void logins(uint32_t version)
                         : version == FE2O3_SHA_256 ? FE2O3_OFFER_SCRAM_SHA_256
                                                    : FE2O3_OFFER_SCRAM_SHA_512),
             .iterations = ITERATIONS,
+            .mock_salt_len = sizeof salt,
+            .mock_secret = mock_secret,
+            .mock_secret_len = sizeof mock_secret,
             .username = all.user.bytes,
             .records = &all.record,
             .records_count = 1,
@@ -296,7 +299,7 @@ static void logins(uint32_t version)
             .identities = FE2O3_NONE};
     for (uint32_t mechanism = FE2O3_SCRAM; mechanism <= FE2O3_EXTERNAL; mechanism++) {
         sasl = (struct fe2o3_sasl_login){mechanism, TEXT("host"), login};
-        config.records = &all.record;
+        config.records_count = 1;
         connections(&sasl, &config, FE2O3_AUTHENTICATED);
         if (mechanism > FE2O3_PLAIN)
             continue;
@@ -313,11 +316,11 @@ static void logins(uint32_t version)
         config.accept_authzid = 0;
         config.identities_len = 0;
         sasl.login = login;
-        config.records = &all.mock;
+        config.records_count = 0;
         connections(&sasl, &config, FE2O3_FAILED);
     }
     sasl = (struct fe2o3_sasl_login){FE2O3_SCRAM, TEXT("host"), by_keys};
-    config.records = &all.record;
+    config.records_count = 1;
     connections(&sasl, &config, FE2O3_AUTHENTICATED);
     config.records = &all.other;
     sasl.login = by_both;

@@ -272,7 +272,7 @@ enum fe2o3_rejection {
     FE2O3_REJECTION_NO_RECORD_FOR_HASH = 106,
     /* The user may not act for the identity that the client names, whatever its proof is (RFC 4422, section 2). */
     FE2O3_REJECTION_NO_RIGHT = 107,
-    /* The proof of SCRAM does not meet the record: the password is wrong, or the record is a mock record. */
+    /* The proof of SCRAM does not meet the record: the password is wrong, or you passed a mock record. */
     FE2O3_REJECTION_WRONG_PROOF = 108,
     /* No record has the password of the message of PLAIN, or none was passed. */
     FE2O3_REJECTION_WRONG_PASSWORD = 109,
@@ -376,7 +376,8 @@ enum fe2o3_status {
     FE2O3_NOT_UTF8 = 3,
     /* The version is none of enum fe2o3_scram_version. */
     FE2O3_NO_SUCH_VERSION = 4,
-    /* A text is longer than the array that holds it, or an identity to act for has more than 256 bytes. */
+    /* A text is longer than the array that holds it, an identity to act for has more than 256 bytes, or the salts of mock
+     * records have more than 64. */
     FE2O3_TOO_LONG = 5,
     /* The typed password is not printable ASCII. */
     FE2O3_NOT_PRINTABLE = 6,
@@ -651,7 +652,8 @@ uint32_t fe2o3_scram_record_from_fields(
     struct fe2o3_scram_record *kept);
 
 /* Computes a mock record for a name that the server does not know, or that has no record of this hash. The server then
- * answers unknown users like known ones. The login then fails at its proof.
+ * answers unknown users like known ones. The login then fails at its proof. It is for the calls over messages:
+ * `fe2o3_sasl_server_receive` makes mock records itself, by `mock_secret` of its configuration.
  *
  * `secret` is 32 random bytes, one value for all names, kept as long as the records. `salt_len`, at most 64, and
  * `iterations` are those of the server's other records. An iteration count of 0 is not rejected here.
@@ -1368,8 +1370,18 @@ struct fe2o3_sasl_server_config {
      * With FE2O3_STRICT SCRAM is strict, as by the field `strict` of struct fe2o3_scram_rules, and with
      * FE2O3_REJECT_MISPLACED as by its field `reject_misplaced`. */
     uint32_t flags;
-    /* The iteration count with which PLAIN hashes a password if no record can be read. */
+    /* The iteration count of mock records. PLAIN hashes the password of an unknown user as often. Pass the count of your
+     * store's records. */
     uint32_t iterations;
+    /* The length of the salts of mock records, in bytes, at most 64. Pass the length of your store's salts. Without a
+     * `mock_secret` it plays no part. */
+    uint32_t mock_salt_len;
+    /* The secret of mock authentication: at least 32 random bytes, one value for all names, kept as long as the records.
+     * With it SCRAM answers a name that has no record of its hash like any other, by a mock record. The login then fails at
+     * its proof. If empty, there is no mock authentication: SCRAM rejects the init of such a name at once, and a client can
+     * tell known users from unknown ones. */
+    const uint8_t *mock_secret;
+    size_t mock_secret_len;
     /* Whether `username`, `records` and `identities` are what your store has of the user whom the bytes claim. 0 is no,
      * any other value yes. If it is 0 and the bytes claim a user, `fe2o3_sasl_server_receive` returns
      * FE2O3_NEEDS_RECORDS. If they claim none, these fields play no part. */
@@ -1377,14 +1389,12 @@ struct fe2o3_sasl_server_config {
     /* The name of the user whose records these are, without escapes. */
     const uint8_t *username;
     size_t username_len;
-    /* The records of the user: one for each hash that is offered. For a hash of which the user has no record, pass a mock
-     * record (`fe2o3_scram_record_mock`), also for a known user who has records of other hashes only. SCRAM uses the
-     * first record of its hash. If there is none, it rejects the init at once, and a client can tell known users from
-     * unknown ones.
+    /* The records that your store has of the user, of any hashes, and none for an unknown user. SCRAM uses the first record
+     * of its hash. PLAIN tests the password against the first record that can be read.
      *
-     * PLAIN tests the password against the first record that can be read, so put mock records last. It then hashes the
-     * password of an unknown user with the hash, the salt length and the iteration count of the first mock record.
-     * If no record can be read, it hashes the password with SHA-256 and rejects the login. */
+     * If no record can be read, PLAIN hashes the password all the same, and rejects the login. It then uses the first of
+     * SHA-256, SHA-512 and SHA-1 by which SCRAM is offered, or SHA-256 if SCRAM is not offered. So let the records of each
+     * user begin with that hash. */
     const struct fe2o3_scram_record *records;
     size_t records_count;
     /* The name of the client that the transport has authenticated, for instance by a certificate. EXTERNAL accepts
@@ -1407,8 +1417,8 @@ struct fe2o3_sasl_server_config {
     size_t identities_len;
 };
 /* All zeros. */
-#define FE2O3_SASL_SERVER_CONFIG_INIT { 0, 0, 0, 0, NULL, 0, NULL, 0, NULL, 0, { 0, 0, { 0 }, 0, { 0 }, 0, { 0 } }, 0, \
-    NULL, 0 }
+#define FE2O3_SASL_SERVER_CONFIG_INIT { 0, 0, 0, 0, NULL, 0, 0, NULL, 0, NULL, 0, NULL, 0, { 0, 0, { 0 }, 0, { 0 }, 0, \
+    { 0 } }, 0, NULL, 0 }
 
 /* The server's side of a connection between calls. All zeros is a connection that has received nothing. */
 struct fe2o3_sasl_server {
@@ -1449,6 +1459,7 @@ struct fe2o3_sasl_server {
  * - FE2O3_NO_SUCH_CHOICE if `flags` is no sum of values of enum fe2o3_server_flag,
  * - FE2O3_NOT_UTF8 for `username`, `external_authcid` and `identities`,
  * - FE2O3_CHANNEL_DATA_LENGTH if the server binds channels, and data have more than 64 bytes,
+ * - FE2O3_TOO_LONG if `mock_secret` is not empty, and `mock_salt_len` is above 64,
  * - FE2O3_NO_SUCH_MECHANISM if nothing would be offered,
  * - FE2O3_INVALID_SNAPSHOT if no connection of a server has this struct,
  * - FE2O3_TOO_LONG if a name or a message does not fit into the struct. Close the connection then. */

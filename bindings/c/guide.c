@@ -81,7 +81,7 @@ struct store {
     uint8_t secret[32];
 };
 
-/* The user that a client claims to be, with a record for each hash that the server offers. */
+/* The user that a client claims to be, with the records that the store has of it. */
 struct user {
     uint8_t name[512];
     size_t len, count;
@@ -100,16 +100,13 @@ static void find(const struct store *store, struct user *user)
             user->count++;
 }
 
-/* Adds a mock record for each hash of which the user has none, also if it has one for the other hash. */
-static uint32_t add_mocks(const struct store *store, struct user *user)
+/* Makes the server answer a name without a record like one with a record. */
+static void mock_unknown_users(struct fe2o3_sasl_server_config *config, const struct store *store)
 {
-    uint32_t known = user->count == 0 ? 0 : user->records[0].version, status = FE2O3_OK;
-    size_t i;
-    for (i = 0; i < 2 && user->count < 2 && status == FE2O3_OK; i++)
-        if (hashes[i] != known)
-            status = fe2o3_scram_record_mock(hashes[i], store->secret, sizeof store->secret, user->name, user->len,
-                FE2O3_DEFAULT_SALT_LEN, FE2O3_DEFAULT_ITERATIONS, &user->records[user->count++]);
-    return status;
+    config->mock_secret = store->secret;
+    config->mock_secret_len = sizeof store->secret;
+    config->mock_salt_len = FE2O3_DEFAULT_SALT_LEN;
+    config->iterations = FE2O3_DEFAULT_ITERATIONS;
 }
 
 /* Says for whom the user may act besides itself: here `admin` for `alice` and `bob`. */
@@ -146,10 +143,11 @@ static void log_failure(uint32_t status, uint32_t rejection, const struct user *
     fputc('\n', stderr);
 }
 
-static struct fe2o3_sasl_server_config new_config(int is_tls)
+/* The store has to live as long as the configuration. */
+static struct fe2o3_sasl_server_config new_config(const struct store *store, int is_tls)
 {
     struct fe2o3_sasl_server_config config = FE2O3_SASL_SERVER_CONFIG_INIT;
-    config.iterations = FE2O3_DEFAULT_ITERATIONS;
+    mock_unknown_users(&config, store);
     config.mechanisms = FE2O3_OFFER_SCRAM_SHA_512 | FE2O3_OFFER_SCRAM_SHA_256;
     config.flags = FE2O3_REJECT_MISPLACED;
     if (is_tls)
@@ -158,22 +156,19 @@ static struct fe2o3_sasl_server_config new_config(int is_tls)
 }
 
 /* Passes what the store has of the user whom received bytes claim. The server has written the name. */
-static uint32_t look_up(const struct store *store, const uint8_t *name, size_t len, struct user *user,
+static void look_up(const struct store *store, const uint8_t *name, size_t len, struct user *user,
     struct fe2o3_sasl_server_config *config)
 {
-    uint32_t status;
     memset(user, 0, sizeof *user);
     memcpy(user->name, name, len);
     user->len = len;
     find(store, user);
-    status = add_mocks(store, user);
     config->looked_up = 1;
     config->username = user->name;
     config->username_len = user->len;
     config->records = user->records;
     config->records_count = user->count;
     set_rights(config, user);
-    return status;
 }
 
 /* Returns FE2O3_OK if a user has logged in. `server` and `in` begin as zeros. */
@@ -188,12 +183,12 @@ static uint32_t serve(int sock, struct fe2o3_sasl_server_config config, const st
         && getrandom(nonce, sizeof nonce, 0) == sizeof nonce) {
         status = fe2o3_sasl_server_receive(&config, server, in->bytes + in->at, in->len - in->at, nonce, &taken, out,
             sizeof out, &len);
-        if (status == FE2O3_NEEDS_RECORDS && look_up(store, out, len, &user, &config) == FE2O3_OK)
-            continue;
         config.looked_up = 0;
-        if (status != FE2O3_OK || !send_all(sock, out, len))
+        if (status == FE2O3_NEEDS_RECORDS)
+            look_up(store, out, len, &user, &config);
+        else if (status != FE2O3_OK || !send_all(sock, out, len))
             break;
-        in->at += taken;
+        in->at += status == FE2O3_OK ? taken : 0;
     }
     fe2o3_sasl_end_of_input(&server->connection);
     status = status == FE2O3_OK ? server->connection.why : status;

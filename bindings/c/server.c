@@ -23,8 +23,8 @@
 #include <time.h>
 #include <unistd.h>
 
-static const uint32_t versions[3] = {FE2O3_SHA_512, FE2O3_SHA_256, FE2O3_SHA_1};
-static const uint32_t hashes[3] = {FE2O3_OFFER_SCRAM_SHA_512, FE2O3_OFFER_SCRAM_SHA_256, FE2O3_OFFER_SCRAM_SHA_1};
+static const uint32_t versions[3] = {FE2O3_SHA_256, FE2O3_SHA_512, FE2O3_SHA_1};
+static const uint32_t hashes[3] = {FE2O3_OFFER_SCRAM_SHA_256, FE2O3_OFFER_SCRAM_SHA_512, FE2O3_OFFER_SCRAM_SHA_1};
 static uint32_t mechanisms, flags = FE2O3_REJECT_MISPLACED;
 static const char *peer = "", *identity = "";
 static uint32_t accept_authzid;
@@ -100,21 +100,14 @@ static uint32_t usual_mechanisms(void)
     return offer;
 }
 
-/* The records of a name, one for each hash: those of its lines, and after them a mock record for each hash that has no
- * line, also for a known name. Otherwise the server would reject a known name at once where it answers an unknown one by a
- * challenge, and so tell which names there are. PLAIN takes the first. */
-static void fetch(const uint8_t *name, size_t len, struct fe2o3_scram_record *records)
+/* The records of a name, those of its lines: at most one for each hash. Returns how many. PLAIN takes the first. */
+static size_t fetch(const uint8_t *name, size_t len, struct fe2o3_scram_record *records)
 {
-    int has[3];
     size_t i, line, count = 0;
-    for (i = 0; i < 3; i++) {
-        has[i] = fe2o3_scram_lines_find(users, users_len, name, len, versions[i], &line, &records[count]) == FE2O3_OK;
-        count += (size_t)has[i];
-    }
     for (i = 0; i < 3; i++)
-        if (!has[i])
-            fe2o3_scram_record_mock(versions[i], secret, sizeof secret, name, len, FE2O3_DEFAULT_SALT_LEN,
-                FE2O3_DEFAULT_ITERATIONS, &records[count++]);
+        if (fe2o3_scram_lines_find(users, users_len, name, len, versions[i], &line, &records[count]) == FE2O3_OK)
+            count++;
+    return count;
 }
 
 /* What a connection keeps that is secret: the messages of its client, of which that of PLAIN has the password, and the
@@ -131,9 +124,9 @@ static int64_t serve(int channel, struct fe2o3_sasl_server *server, struct secre
     uint8_t *came = keep->came, out[520], nonce[32] = {0}, name[512];
     size_t len = 0, at = 0, taken = 0, out_len = 0;
     while (server->connection.progress == FE2O3_IN_PROGRESS) {
-        struct fe2o3_sasl_server_config config = {mechanisms, flags, FE2O3_DEFAULT_ITERATIONS, 0, name, 0,
-            keep->records, 3, (const uint8_t *)peer, strlen(peer), {0}, accept_authzid, (const uint8_t *)identity,
-            strlen(identity) + 1};
+        struct fe2o3_sasl_server_config config = {mechanisms, flags, FE2O3_DEFAULT_ITERATIONS, FE2O3_DEFAULT_SALT_LEN,
+            secret, sizeof secret, 0, name, 0, keep->records, 0, (const uint8_t *)peer, strlen(peer), {0},
+            accept_authzid, (const uint8_t *)identity, strlen(identity) + 1};
         uint32_t status;
         memset(keep->records, 0, sizeof keep->records);
         if (at == len) {
@@ -149,7 +142,7 @@ static int64_t serve(int channel, struct fe2o3_sasl_server *server, struct secre
             fe2o3_sasl_server_receive(&config, server, came + at, len - at, nonce, &taken, out, sizeof out, &out_len);
         if (status == FE2O3_NEEDS_RECORDS) {
             memcpy(name, out, out_len);
-            fetch(name, out_len, keep->records);
+            config.records_count = fetch(name, out_len, keep->records);
             config.looked_up = 1;
             config.username_len = out_len;
             status = fe2o3_sasl_server_receive(&config, server, came + at, len - at, nonce, &taken, out, sizeof out,
@@ -184,8 +177,7 @@ static void hang_up(int channel)
     close(channel);
 }
 
-/* Logs why a login was rejected, by the header's name, or by the text of an error of a SCRAM message. A name without
- * lines has mock records (fetch), so its reason is a wrong proof. */
+/* Logs why a login was rejected, by the header's name, or by the text of an error of a SCRAM message. */
 static void log_rejection(uint32_t rejection)
 {
 #define NAMED(number) \

@@ -97,8 +97,8 @@ def by_peer(port, by, piece, late=False, unread=0):
 
 
 REFUSED = "not logged in: Connection: The login was rejected"
-#: What the log of server.c says of a wrong password.
-LOGGED = {"SCRAM-SHA-256": "rejected: FE2O3_REJECTION_WRONG_PROOF", "PLAIN": "rejected: FE2O3_REJECTION_WRONG_PASSWORD"}
+#: What the log of server.c says of a wrong password, and of an unknown user, by SCRAM-SHA-256 and by PLAIN.
+LOGGED = {"user": ("WRONG_PROOF", "WRONG_PASSWORD"), "nobody": ("UNKNOWN_USER", "WRONG_PASSWORD")}
 #: A name, a password, and what the server should say of them.
 WORDS = [
     *((name, word, f"logged in: {name}") for name, word in USERS.items()),
@@ -151,8 +151,8 @@ def to_the_server(client, server):
                 logged_in = by_peer(port, peer_of(mechanism, name, word), 4096, unread=unread)
                 said = program.stdout.readline().strip()
                 yield f"{mechanism} with unread bytes, {name}", (logged_in, said), (wanted != REFUSED, wanted)
-        refused = [word for _, word, wanted in WORDS if wanted == REFUSED]
-        wanted = [LOGGED[mechanism] for _ in refused for mechanism in LOGGED for _ in range(4)]
+        refused = [name for name, _, wanted in WORDS if wanted == REFUSED]
+        wanted = [f"rejected: FE2O3_REJECTION_{why}" for name in refused for why in LOGGED[name] for _ in range(4)]
         yield "the log", (program.stderr.read().splitlines(),), (wanted,)
 
 

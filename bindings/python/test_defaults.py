@@ -242,19 +242,20 @@ class MockRecords(unittest.TestCase):
             answers(side, plain := Plain(name, "pencil"))
             self.assertTrue(plain.logged_in)
 
-    def lent(self, mechanisms: int, name: str, **options: Any) -> tuple[int, list[tuple[int, int, int]]]:
-        """What a server lends to the library for an init of PLAIN: the iteration count, and the hash, salt length and count
-        of each record."""
+    def lent(self, name: str, **options: Any) -> tuple[int, int, int, list[int]]:
+        """What a server lends to the library for an init of PLAIN: the iteration count, the salt length and the length of
+        the secret of mock records, and the hash of each record."""
         found: list[Any] = []
         receive = LIBRARY.fe2o3_sasl_server_receive
 
         def seen(config: Any, *more: Any) -> int:
             records = [config.records[at] for at in range(config.records_count)]
             if config.looked_up:
-                found.append((config.iterations, [(one.version, one.salt_len, one.iterations) for one in records]))
+                form = (config.iterations, config.mock_salt_len, config.mock_secret_len)
+                found.append((*form, [one.version for one in records]))
             return int(receive(config, *more))
 
-        side = ServerConnection(self.store.records, mechanisms=mechanisms | Offer.PLAIN, **options)
+        side = ServerConnection(self.store.records, mechanisms=BOTH | Offer.PLAIN, **options)
         init, _ = ClientConnection.plain(name, "wrong").receive(side.receive(SASL_HEADER)[0])
         with mock.patch.object(LIBRARY, "fe2o3_sasl_server_receive", seen):
             side.receive(init)
@@ -262,19 +263,13 @@ class MockRecords(unittest.TestCase):
         self.assertEqual(len(found), 1)
         return found[0]
 
-    def test_plain(self) -> None:
-        """PLAIN takes the first record, and without one SHA-256 and the count of the configuration."""
-        mocks = [(hash, 16, 4096) for hash in (*ADDED, SHA_1)]
-        three = BOTH | Offer.SCRAM_SHA_1
-        self.assertEqual(self.lent(three, "nobody", mock=SECRET), (4096, mocks))
-        self.assertEqual(self.lent(three, "all", mock=SECRET), (4096, mocks))
-        self.assertEqual(self.lent(three, "other", mock=SECRET), (4096, [mocks[1], mocks[0], mocks[2]]))
-        self.assertEqual(
-            self.lent(BOTH, "nobody", mock=(SECRET, 20, 5000)), (5000, [(hash, 20, 5000) for hash in ADDED])
-        )
-        self.assertEqual(self.lent(0, "nobody", mock=(SECRET, 20, 5000)), (5000, []))
-        self.assertEqual(self.lent(BOTH, "nobody"), (4096, []))
-        self.assertEqual(self.lent(BOTH, "nobody", iterations=5000), (5000, []))
+    def test_what_is_lent(self) -> None:
+        """The library gets the records of the user, and the settings of mock records."""
+        self.assertEqual(self.lent("nobody", mock=SECRET), (4096, 16, len(SECRET), []))
+        self.assertEqual(self.lent("all", mock=SECRET), (4096, 16, len(SECRET), [*ADDED]))
+        self.assertEqual(self.lent("other", mock=(SECRET, 20, 5000)), (5000, 20, len(SECRET), [SHA_512]))
+        self.assertEqual(self.lent("nobody"), (4096, 0, 0, []))
+        self.assertEqual(self.lent("nobody", iterations=5000), (5000, 0, 0, []))
 
     def test_records_of_that_returns_mock_records(self) -> None:
         """Callers that return mock records get what they got before, with `mock` and without."""

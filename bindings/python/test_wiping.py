@@ -38,7 +38,7 @@ from fe2o3_sasl import (
     plain_verify,
     saslprep,
 )
-from peers import MECHANISMS, Secret, mac, mechanisms_frame
+from peers import MECHANISMS, Secret, mechanisms_frame
 
 SALT = b"a salt of bytes!"
 PASSWORD = "a rare p\u00e4ssword, \U0001f600"
@@ -353,15 +353,6 @@ class Calls(unittest.TestCase):
         # Those that `_lending` copies, and those of the configuration.
         self.assertTrue(seen.has(SECRET.stored_key))
         self.assertEqual(seen.count(SECRET.stored_key), 2)
-
-    def test_mock_records_of_a_connection(self) -> None:
-        with Seen() as seen:
-            side = ServerBodies(lambda name: [], mechanisms=Offer.SCRAM_SHA_256, mock=MOCK)
-            side.on_frame(ClientBodies(Client(SHA_256, "user", "pencil")).on_frame(side.offer()))
-        stored_key = mac(SHA_256, MOCK, b"StoredKey:user")
-        self.assertTrue(seen.has(stored_key))
-        self.assertEqual(seen.count(stored_key), 2)
-        self.assertEqual(seen.count(MOCK), 0)
 
     def test_what_a_call_writes(self) -> None:
         with Seen() as seen:

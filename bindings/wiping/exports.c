@@ -41,6 +41,7 @@ static struct fe2o3_sasl_login lent_sasl_login(const struct fe2o3_sasl_login *gi
 static struct fe2o3_sasl_server_config lent_sasl_server_config(const struct fe2o3_sasl_server_config *given)
 {
     struct fe2o3_sasl_server_config lent = *given;
+    lent.mock_secret = BYTES(lent.mock_secret, lent.mock_secret_len);
     lent.username = BYTES(lent.username, lent.username_len);
     lent.records = RECORDS(lent.records, lent.records_count);
     lent.external_authcid = BYTES(lent.external_authcid, lent.external_authcid_len);

@@ -272,7 +272,7 @@ enum fe2o3_rejection {
     FE2O3_REJECTION_NO_RECORD_FOR_HASH = 106,
     /* The user may not act for the identity that the client names, whatever its proof is (RFC 4422, section 2). */
     FE2O3_REJECTION_NO_RIGHT = 107,
-    /* The proof of SCRAM does not meet the record: the password is wrong, or the record is a mock record. */
+    /* The proof of SCRAM does not meet the record: the password is wrong, or you passed a mock record. */
     FE2O3_REJECTION_WRONG_PROOF = 108,
     /* No record has the password of the message of PLAIN, or none was passed. */
     FE2O3_REJECTION_WRONG_PASSWORD = 109,

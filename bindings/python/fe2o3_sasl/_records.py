@@ -25,7 +25,7 @@ from ._native import (
 )
 from ._numbers import DEFAULT_ITERATIONS, DEFAULT_SALT_LEN, Status
 from ._objects import _Stored
-from ._structs import _ScramRecordStruct
+from ._structs import _SaslServerConfigStruct, _ScramRecordStruct
 
 #: The settings of mock records: their secret, of 32 or more random bytes; or that secret, the salt length, at most 64, and
 #: the iteration count. The secret by itself is for records with DEFAULT_SALT_LEN and DEFAULT_ITERATIONS.
@@ -180,26 +180,31 @@ class Record(_Stored):
 class _Mock:
     """The settings of mock records, with a copy of their secret, which `wipe` reaches."""
 
-    __slots__ = ("_salt_len", "_secret", "iterations")
+    __slots__ = ("_iterations", "_salt_len", "_secret")
 
     def __init__(self, settings: MockSettings) -> None:
         form = settings if isinstance(settings, tuple) else (settings, DEFAULT_SALT_LEN, DEFAULT_ITERATIONS)
         secret, salt_len, iterations = form
-        self._salt_len, self.iterations = _number(salt_len), _number(iterations)
+        self._salt_len, self._iterations = _number(salt_len), _number(iterations)
         if memoryview(secret).nbytes < 32:
             raise ValueError("the secret has fewer than 32 bytes")
         if self._salt_len > 64:
             _done(Status.TOO_LONG)
-        if self.iterations == 0:
+        if self._iterations == 0:
             _done(Status.ZERO_ITERATIONS)
         self._secret = _hidden_bytes(secret)
 
     def record(self, version: int, name: bytes) -> _ScramRecordStruct:
         """Returns the mock record of a name, which the caller wipes."""
         struct, call = _ScramRecordStruct(), _library.fe2o3_scram_record_mock
-        secret, form = (self._secret, len(self._secret) - 1), (self._salt_len, self.iterations)
+        secret, form = (self._secret, len(self._secret) - 1), (self._salt_len, self._iterations)
         _done(call(version, *secret, name, len(name), *form, ctypes.byref(struct)))
         return struct
+
+    def lend(self, config: _SaslServerConfigStruct) -> None:
+        """Sets the fields of mock authentication. The struct then points to the secret."""
+        config.iterations, config.mock_salt_len = self._iterations, self._salt_len
+        config.mock_secret, config.mock_secret_len = ctypes.addressof(self._secret), len(self._secret) - 1
 
     def wipe(self) -> None:
         _wipe(self._secret)

@@ -31,7 +31,6 @@ from ._objects import _Guard
 from ._progress import _Connection
 from ._records import MockSettings, Record, _Mock
 from ._server import _channels_of, _identity_of, _joined
-from ._stores import _OFFERED
 from ._structs import _SaslServerConfigStruct, _SaslServerStruct, _ScramRecordStruct
 
 
@@ -92,7 +91,6 @@ class ServerConnection(_Connection):
         "_iterations",
         "_mechanisms",
         "_mock",
-        "_mock_rejection",
         "_records_of",
         "_struct",
     )
@@ -124,13 +122,13 @@ class ServerConnection(_Connection):
         With `mock` the answers do not show which names exist: a name gets a mock record for each offered hash for which
         `records_of` returns none, also the name of a known user. `mock` is a secret of 32 or more random bytes, one for
         all names, kept as long as the records. All records need DEFAULT_SALT_LEN and DEFAULT_ITERATIONS then; for
-        others pass `(secret, salt_len, iterations)`. PLAIN hashes the password of an unknown user by the first mock
-        record: that of SHA-256, or otherwise that of SHA-512. Let the records of each user begin with that hash too, as
-        `RecordStore.records` returns them.
+        others pass `(secret, salt_len, iterations)`. Without `mock` SCRAM rejects a name without a record at once, which
+        shows that there is none.
 
-        Without `mock` a name without a record is rejected at once, which shows that there is none. PLAIN hashes the
-        password of an unknown user with SHA-256 and `iterations`, by default DEFAULT_ITERATIONS. With `mock` the count
-        is that of the mock records, and `iterations` raises ValueError.
+        PLAIN hashes the password of an unknown user with the first of SHA-256, SHA-512 and SHA-1 by which SCRAM is offered,
+        or SHA-256 if SCRAM is not offered. Let the records of each user begin with that hash too, as `RecordStore.records`
+        returns them. The count is `iterations`, by default DEFAULT_ITERATIONS. With `mock` it is that of the mock records,
+        and `iterations` raises ValueError.
 
         EXTERNAL accepts `external_authcid`, the name that the transport has authenticated. If it is None or empty, EXTERNAL
         is not offered, and an init for it fails.
@@ -157,35 +155,18 @@ class ServerConnection(_Connection):
         self._channels = _channels_of(channels)
         self._attempt: Optional[LoginAttempt] = None
         self._mock = None if mock is None else _Mock(mock)
-        # Why the last call rejects a login whose record is a mock record; None if it is not.
-        self._mock_rejection: Optional[Rejection] = None
         self._lock = _Guard(self)
 
     def _secrets(self) -> Iterable[Any]:
         return [self._struct] if self._mock is None else [self._struct, self._mock._secret]
 
-    def _lacked(self, known: Iterable[_ScramRecordStruct]) -> list[int]:
-        """Returns the offered hashes of which these records have none."""
-        has = {record.version for record in known}
-        return [hash for hash, offer in _OFFERED.items() if self._mechanisms & offer and hash not in has]
-
     @contextlib.contextmanager
     def _config(self, name: Optional[str]) -> Iterator[_SaslServerConfigStruct]:
-        """Lends the configuration to the library, with copies of the records of this name, if there are any, and mock
-        records."""
+        """Lends the configuration to the library, with copies of the records of this name, if there are any."""
         known = b"" if name is None else _text(name)
         with contextlib.ExitStack() as stack:
             found = () if name is None else self._records_of(name)
             copies = [stack.enter_context(record._lending()) for record in found]
-            if self._mock is not None and name is not None:
-                lacked, reason = self._lacked(copies), Rejection.UNKNOWN_USER
-                if copies:
-                    reason = Rejection.NO_RECORD_FOR_HASH
-                # (the struct has the hash of the open challenge until the call rejects the login)
-                self._mock_rejection = reason if self._struct.scram.version in lacked else None
-                for hash in lacked:
-                    copies.append(self._mock.record(hash, known))
-                    stack.callback(_wipe, copies[-1])
             records = (_ScramRecordStruct * len(copies))(*copies)
             stack.callback(_wipe, records)
             accepts = self._identities_of is not None
@@ -193,10 +174,10 @@ class ServerConnection(_Connection):
                 self._identities_of(name) if self._identities_of is not None and name is not None else ()
             )
             self._alive()  # (`records_of` can wipe this side)
-            yield _SaslServerConfigStruct(
+            config = _SaslServerConfigStruct(
                 mechanisms=self._mechanisms,
                 flags=self._flags,
-                iterations=self._iterations if self._mock is None else self._mock.iterations,
+                iterations=self._iterations,
                 looked_up=name is not None,
                 username=known,
                 username_len=len(known),
@@ -209,6 +190,9 @@ class ServerConnection(_Connection):
                 identities=identities,
                 identities_len=len(identities),
             )
+            if self._mock is not None:
+                self._mock.lend(config)
+            yield config
 
     def receive(self, data: Bytes) -> tuple[bytes, bytes]:
         """Takes received bytes, and returns the bytes to send and the bytes that are left, like
@@ -278,8 +262,6 @@ class ServerConnection(_Connection):
         WRONG_PASSWORD."""
         with self._lock:
             number = int(self._struct.scram.rejection)
-            if self._mock_rejection is not None and number in (Rejection.WRONG_PROOF, Rejection.NO_RIGHT):
-                return self._mock_rejection
             # (a later library can have more reasons)
             return _REJECTIONS.get(number, Rejection.OTHER) if number else None
 

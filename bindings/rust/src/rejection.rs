@@ -53,9 +53,8 @@ pub enum Rejection {
 }
 
 impl Rejection {
-    /// Returns the reason with this number in the library, if it is one. Where the record is a mock record, `of_mock` is
-    /// its reason in place of a wrong proof or a missing right.
-    pub(crate) fn of(number: u32, of_mock: Option<Self>) -> Option<Self> {
+    /// Returns the reason with this number in the library, if it is one.
+    pub(crate) fn of(number: u32) -> Option<Self> {
         Some(match number {
             sys::REJECTION_NONE => return None,
             sys::REJECTION_MECHANISM_NOT_OFFERED => Self::MechanismNotOffered,
@@ -65,8 +64,8 @@ impl Rejection {
             sys::REJECTION_CHANNEL => Self::Channel,
             sys::REJECTION_UNKNOWN_USER => Self::UnknownUser,
             sys::REJECTION_NO_RECORD_FOR_HASH => Self::NoRecordForHash,
-            sys::REJECTION_NO_RIGHT => of_mock.unwrap_or(Self::NoRight),
-            sys::REJECTION_WRONG_PROOF => of_mock.unwrap_or(Self::WrongProof),
+            sys::REJECTION_NO_RIGHT => Self::NoRight,
+            sys::REJECTION_WRONG_PROOF => Self::WrongProof,
             sys::REJECTION_WRONG_PASSWORD => Self::WrongPassword,
             sys::REJECTION_OTHER_IDENTITY => Self::OtherIdentity,
             sys::REJECTION_UNEXPECTED_INIT => Self::UnexpectedInit,

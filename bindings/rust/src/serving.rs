@@ -8,7 +8,7 @@ use crate::frames::view_frame;
 use crate::peeks::{end_of_input, foreign_header, peek_body, wants_nonce};
 use crate::records::ScramRecord;
 use crate::server::{acts_for, authenticated_user, challenged_user, joined, MockSettings, NO_CHALLENGE};
-use crate::users::{NotFound, StoreError, UserRecords};
+use crate::users::{StoreError, UserRecords};
 use crate::{
     generate_nonce, sys, Channel, ConnectionError, Frame, LoginAttempt, Rejection, ScramVersion,
     DEFAULT_SCRAM_ITERATIONS,
@@ -36,7 +36,7 @@ fn structs(records: &[ScramRecord]) -> Vec<sys::ScramRecord> {
     records.iter().map(|record| record.0).collect()
 }
 
-/// The hashes of SCRAM, in the order of a user's records, of which PLAIN takes the first ([`ScramVersion::rank`]).
+/// The hashes of SCRAM.
 const HASHES: [ScramVersion; 3] = [ScramVersion::Sha256, ScramVersion::Sha512, ScramVersion::Sha1];
 
 /// Which password PLAIN tests for the received one. User names are compared as received.
@@ -85,22 +85,11 @@ pub struct PasswordServer<R: UserRecords + Clone> {
     accept_authzid: u32,
 }
 
-/// The records of a name: those of the store, and after them mock records. Also the identities that the user may act for,
-/// joined.
+/// What the store has of a name: its records, and the identities that the user may act for, joined.
 #[derive(Default)]
 pub(crate) struct FoundRecords {
-    pub(crate) all: Vec<sys::ScramRecord>,
-    own: usize,
+    pub(crate) records: Vec<sys::ScramRecord>,
     identities: Vec<u8>,
-}
-
-impl FoundRecords {
-    /// Returns why a login by the hash of this number is rejected, if the record for it is a mock record.
-    pub(crate) fn mock_rejection(&self, version: u32) -> Option<Rejection> {
-        let (own, mocks) = self.all.split_at(self.own);
-        let reason = if own.is_empty() { Rejection::UnknownUser } else { Rejection::NoRecordForHash };
-        mocks.iter().any(|record| record.version == version).then_some(reason)
-    }
 }
 
 /// A configuration for the library, whose pointers point to what is borrowed for `'a`.
@@ -150,8 +139,8 @@ impl<R: UserRecords + Clone> PasswordServer<R> {
     /// [`DEFAULT_SCRAM_ITERATIONS`](crate::DEFAULT_SCRAM_ITERATIONS), those of a file
     /// [`RecordStore::mock_form`](crate::RecordStore::mock_form).
     ///
-    /// PLAIN hashes the password of an unknown user by the first mock record: that of SHA-256, or otherwise that of
-    /// SHA-512. Let the records of each user begin with that hash too.
+    /// PLAIN hashes the password of an unknown user with the first of SHA-256, SHA-512 and SHA-1 by which SCRAM is offered,
+    /// or SHA-256 if SCRAM is not offered. Let the records of each user begin with that hash too.
     ///
     /// For the server's own log, [`ServerNegotiation::rejection`] says whether the user is unknown.
     pub fn mock_unknown_users(mut self, secret: [u8; 32], salt_len: usize, iterations: u32) -> Self {
@@ -233,21 +222,11 @@ impl<R: UserRecords + Clone> PasswordServer<R> {
         self.flag(sys::INITIAL_RESPONSE_BY_CHALLENGE, by_challenge)
     }
 
-    /// Returns the records of the claimed user, and after them a mock record for each other offered hash.
-    pub(crate) fn records(&self, name: Option<&str>) -> Result<FoundRecords, NotFound> {
+    /// Returns what the store has of the claimed user.
+    pub(crate) fn records(&self, name: Option<&str>) -> Result<FoundRecords, StoreError> {
         let Some(name) = name else { return Ok(FoundRecords::default()) };
-        let mut records = self.records.records(name)?;
-        let own = records.len();
-        let identities = self.identities_of(name)?;
-        if let Some(mock) = &self.mock {
-            for version in HASHES {
-                let is_offered = self.mechanisms & offer_of(version) != 0;
-                if is_offered && records.iter().all(|record| record.version() != version) {
-                    records.push(mock.record(version, name)?);
-                }
-            }
-        }
-        Ok(FoundRecords { all: structs(&records), own, identities })
+        let records = structs(&self.records.records(name)?);
+        Ok(FoundRecords { records, identities: self.identities_of(name)? })
     }
 
     /// Returns the identities that a user may act for, joined; none if the server accepts no identity.
@@ -266,10 +245,15 @@ impl<R: UserRecords + Clone> PasswordServer<R> {
         identities: &'a [u8],
     ) -> LentConfig<'a> {
         let username = name.unwrap_or_default();
+        let mock = self.mock.as_ref();
+        let secret = mock.map_or(&[][..], |mock| &mock.secret);
         let config = sys::SaslServerConfig {
             mechanisms: self.mechanisms,
             flags: self.flags,
-            iterations: self.mock.as_ref().map_or(DEFAULT_SCRAM_ITERATIONS, |mock| mock.iterations),
+            iterations: mock.map_or(DEFAULT_SCRAM_ITERATIONS, |mock| mock.iterations),
+            mock_salt_len: mock.map_or(0, |mock| u32::try_from(mock.salt_len).unwrap_or(u32::MAX)),
+            mock_secret: secret.as_ptr(),
+            mock_secret_len: secret.len(),
             looked_up: name.is_some().into(),
             username: username.as_ptr(),
             username_len: username.len(),
@@ -376,8 +360,7 @@ impl<R: UserRecords + Clone> ServerNegotiation<R> {
         loop {
             let found = match self.config.records(name.as_deref()) {
                 Ok(found) => found,
-                Err(NotFound::Store(why)) => return Ok(self.reject_for_now(bytes, why)),
-                Err(NotFound::Library(why)) => return Err(why),
+                Err(why) => return Ok(self.reject_for_now(bytes, why)),
             };
             match self.step(bytes, &nonce, name.as_deref(), &found)? {
                 Step::Answered(taken, sent) => return Ok((taken, sent)),
@@ -407,8 +390,7 @@ impl<R: UserRecords + Clone> ServerNegotiation<R> {
         name: Option<&str>,
         found: &FoundRecords,
     ) -> Result<Step, ConnectionError> {
-        let of_mock = found.mock_rejection(self.state.scram.version);
-        let lent = self.config.lend(name, &found.all, &found.identities);
+        let lent = self.config.lend(name, &found.records, &found.identities);
         let (mut out, mut len, mut taken) = (vec![0; SENT_MOST], 0, 0);
         // SAFETY: the configuration's pointers point to what `lent` borrows, and the bytes are a slice that lives
         // through the call; the state, the room, its length and the count are borrowed for writing, and so
@@ -431,7 +413,7 @@ impl<R: UserRecords + Clone> ServerNegotiation<R> {
             return Ok(Step::NeedsRecords(String::from_utf8_lossy(&out).into_owned()));
         }
         done(status).map_err(ConnectionError::of)?;
-        self.rejection = Rejection::of(self.state.scram.rejection, of_mock);
+        self.rejection = Rejection::of(self.state.scram.rejection);
         Ok(Step::Answered(taken, out))
     }
 
@@ -505,24 +487,23 @@ mod tests {
     use super::*;
     use crate::RecordStore;
 
-    /// What a server lends to the library for a name: the iteration count of the configuration, and the hash, the salt
-    /// length and the iteration count of each record. PLAIN takes the first.
-    fn lent(server: &PasswordServer<RecordStore>, name: &str) -> (u32, Vec<(u32, u32, u32)>) {
-        let records = server.records(Some(name)).map_err(ConnectionError::from).unwrap().all;
-        let forms = records.iter().map(|record| (record.version, record.salt_len, record.iterations)).collect();
-        (server.lend(Some(name), &records, &[]).config.iterations, forms)
+    /// What a server lends to the library for a name: the iteration count, the salt length and the length of the secret
+    /// of mock records, and the hash of each record.
+    fn lent(server: &PasswordServer<RecordStore>, name: &str) -> (u32, u32, usize, Vec<u32>) {
+        let records = server.records(Some(name)).unwrap().records;
+        let config = server.lend(Some(name), &records, &[]).config;
+        let versions = records.iter().map(|record| record.version).collect();
+        (config.iterations, config.mock_salt_len, config.mock_secret_len, versions)
     }
 
     #[test]
-    fn plain_of_an_unknown_user_is_that_of_the_mock_record() {
+    fn the_library_has_the_settings_of_mock_records() {
         let record = ScramRecord::from_password(ScramVersion::Sha512, "pencil", &[1; 20], 5000).unwrap();
         let store = RecordStore::parse_lines(&format!("user {record}\n")).unwrap();
         let server = PasswordServer::new(store).hashes(&HASHES).plain_under_tls(true);
-        assert_eq!(lent(&server, "nobody"), (4096, Vec::new()));
-        let mocking = server.clone().mock_unknown_users([3; 32], 20, 5000);
-        let forms = |versions: [u32; 3]| versions.map(|version| (version, 20, 5000)).to_vec();
-        assert_eq!(lent(&mocking, "nobody"), (5000, forms([256, 512, 1])));
-        assert_eq!(lent(&mocking, "user"), (5000, forms([512, 256, 1])));
-        assert_eq!(lent(&mocking.hashes(&[]), "nobody"), (5000, Vec::new()));
+        assert_eq!(lent(&server, "nobody"), (4096, 0, 0, Vec::new()));
+        let mocking = server.mock_unknown_users([3; 32], 20, 5000);
+        assert_eq!(lent(&mocking, "nobody"), (5000, 20, 32, Vec::new()));
+        assert_eq!(lent(&mocking, "user"), (5000, 20, 32, vec![512]));
     }
 }

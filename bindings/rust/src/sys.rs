@@ -15,7 +15,8 @@ pub const NOT_UTF8: u32 = 3;
 /// The version is none of the `scram_version` constants.
 pub const NO_SUCH_VERSION: u32 = 4;
 
-/// A text is longer than the array that holds it, or an identity to act for has more than 256 bytes.
+/// A text is longer than the array that holds it, an identity to act for has more than 256 bytes, or the salts of mock
+/// records have more than 64.
 pub const TOO_LONG: u32 = 5;
 
 /// The typed password is not printable ASCII.
@@ -494,7 +495,7 @@ pub const REJECTION_NO_RECORD_FOR_HASH: u32 = 106;
 /// 2).
 pub const REJECTION_NO_RIGHT: u32 = 107;
 
-/// `rejection`: The proof of SCRAM does not meet the record: the password is wrong, or the record is a mock record.
+/// `rejection`: The proof of SCRAM does not meet the record: the password is wrong, or you passed a mock record.
 pub const REJECTION_WRONG_PROOF: u32 = 108;
 
 /// `rejection`: No record has the password of the message of PLAIN, or none was passed.
@@ -869,8 +870,18 @@ pub struct SaslServerConfig {
     /// With STRICT SCRAM is strict, as by the field `strict` of struct fe2o3_scram_rules, and with REJECT_MISPLACED as
     /// by its field `reject_misplaced`.
     pub flags: u32,
-    /// The iteration count with which PLAIN hashes a password if no record can be read.
+    /// The iteration count of mock records. PLAIN hashes the password of an unknown user as often. Pass the count of
+    /// your store's records.
     pub iterations: u32,
+    /// The length of the salts of mock records, in bytes, at most 64. Pass the length of your store's salts. Without a
+    /// `mock_secret` it plays no part.
+    pub mock_salt_len: u32,
+    /// The secret of mock authentication: at least 32 random bytes, one value for all names, kept as long as the
+    /// records. With it SCRAM answers a name that has no record of its hash like any other, by a mock record. The login
+    /// then fails at its proof. If empty, there is no mock authentication: SCRAM rejects the init of such a name at
+    /// once, and a client can tell known users from unknown ones.
+    pub mock_secret: *const u8,
+    pub mock_secret_len: usize,
     /// Whether `username`, `records` and `identities` are what your store has of the user whom the bytes claim. 0 is
     /// no, any other value yes. If it is 0 and the bytes claim a user, `fe2o3_sasl_server_receive` returns
     /// NEEDS_RECORDS. If they claim none, these fields play no part.
@@ -878,14 +889,12 @@ pub struct SaslServerConfig {
     /// The name of the user whose records these are, without escapes.
     pub username: *const u8,
     pub username_len: usize,
-    /// The records of the user: one for each hash that is offered. For a hash of which the user has no record, pass a
-    /// mock record (`fe2o3_scram_record_mock`), also for a known user who has records of other hashes only. SCRAM uses
-    /// the first record of its hash. If there is none, it rejects the init at once, and a client can tell known users
-    /// from unknown ones.
+    /// The records that your store has of the user, of any hashes, and none for an unknown user. SCRAM uses the first
+    /// record of its hash. PLAIN tests the password against the first record that can be read.
     ///
-    /// PLAIN tests the password against the first record that can be read, so put mock records last. It then hashes the
-    /// password of an unknown user with the hash, the salt length and the iteration count of the first mock record. If
-    /// no record can be read, it hashes the password with SHA-256 and rejects the login.
+    /// If no record can be read, PLAIN hashes the password all the same, and rejects the login. It then uses the first
+    /// of SHA-256, SHA-512 and SHA-1 by which SCRAM is offered, or SHA-256 if SCRAM is not offered. So let the records
+    /// of each user begin with that hash.
     pub records: *const ScramRecord,
     pub records_count: usize,
     /// The name of the client that the transport has authenticated, for instance by a certificate. EXTERNAL accepts it.
@@ -1033,7 +1042,8 @@ extern "C" {
         kept: *mut ScramRecord) -> u32;
 
     /// Computes a mock record for a name that the server does not know, or that has no record of this hash. The server
-    /// then answers unknown users like known ones. The login then fails at its proof.
+    /// then answers unknown users like known ones. The login then fails at its proof. It is for the calls over
+    /// messages: `fe2o3_sasl_server_receive` makes mock records itself, by `mock_secret` of its configuration.
     ///
     /// `secret` is 32 random bytes, one value for all names, kept as long as the records. `salt_len`, at most 64, and
     /// `iterations` are those of the server's other records. An iteration count of 0 is not rejected here.
@@ -1497,6 +1507,7 @@ extern "C" {
     /// - NO_SUCH_CHOICE if `flags` is no sum of values of the `server_flag` constants,
     /// - NOT_UTF8 for `username`, `external_authcid` and `identities`,
     /// - CHANNEL_DATA_LENGTH if the server binds channels, and data have more than 64 bytes,
+    /// - TOO_LONG if `mock_secret` is not empty, and `mock_salt_len` is above 64,
     /// - NO_SUCH_MECHANISM if nothing would be offered,
     /// - INVALID_SNAPSHOT if no connection of a server has this struct,
     /// - TOO_LONG if a name or a message does not fit into the struct. Close the connection then.

@@ -1,6 +1,6 @@
 //! Where a server looks its users up.
 
-use crate::{ConnectionError, ScramRecord, ScramVersion, ServerScramErrorKind};
+use crate::{ScramRecord, ScramVersion, ServerScramErrorKind};
 use std::collections::HashMap;
 use std::error::Error;
 use std::fmt;
@@ -100,35 +100,5 @@ impl Error for StoreError {
 impl From<StoreError> for ServerScramErrorKind {
     fn from(_: StoreError) -> Self {
         ServerScramErrorKind::StoreUnavailable
-    }
-}
-
-/// Why there are no records for a call of the library.
-pub(crate) enum NotFound {
-    /// The store has failed.
-    Store(StoreError),
-
-    /// No mock record can be made.
-    Library(ConnectionError),
-}
-
-impl From<StoreError> for NotFound {
-    fn from(why: StoreError) -> Self {
-        NotFound::Store(why)
-    }
-}
-
-impl From<ServerScramErrorKind> for NotFound {
-    fn from(why: ServerScramErrorKind) -> Self {
-        NotFound::Library(ConnectionError::of(why.number()))
-    }
-}
-
-impl From<NotFound> for ConnectionError {
-    fn from(why: NotFound) -> Self {
-        match why {
-            NotFound::Store(_) => ConnectionError::RefusedSysTemp,
-            NotFound::Library(why) => why,
-        }
     }
 }

@@ -1,6 +1,6 @@
 -- The settings of a configuration are one, and those of two configurations of the same values differ by their user.
 use Rattle.std.proofs.Common.{arith, refl, sym, ap, subst, inl, inr, ◌∙◌, ◌≡◌, ◌+◌, ◌*◌, ◌∷◌, ℕ, List, []}
-use Rattle.std.specs.Prelude.{Bool, true, false, Option, Some, None}
+use Rattle.std.specs.Prelude.{Bool, true, false, Option, Some}
 use Rattle.fe2o3_scram.specs.ActingRights.{Rights}
 use Rattle.fe2o3_scram.specs.Credentials.{VersionedRecord, versioned}
 use Rattle.fe2o3_scram.specs.Mixed.{MultiRecords}
@@ -8,6 +8,7 @@ use Rattle.fe2o3_scram.specs.declared.hmac.ScramVersion.{ScramVersion}
 use Rattle.fe2o3_scram.specs.declared.channel_binding.ChannelBindings.{ChannelBindings}
 use Rattle.fe2o3_sasl_core.specs.MockChoices.{MockChoice}
 use Rattle.fe2o3_sasl_core.specs.Servers.{ServerSettings}
+use Rattle.fe2o3_sasl_core.specs.declared.server.options.Mechanisms.{Mechanisms}
 use Rattle.fe2o3_sasl_core.specs.declared.plain_server.passwords.PlainPasswords.{PlainPasswords}
 use Rattle.fe2o3_sasl_core.specs.declared.plain_server.passwords.PlainPasswords.TheVariants as forms
 use Rattle.sasl_c.specs.declared.records.ScramRecord.{ScramRecord as Kept}
@@ -17,7 +18,7 @@ use Rattle.sasl_c.specs.Acting.{rights_for}
 use Rattle.sasl_c.specs.Client.{is_set}
 use Rattle.sasl_c.specs.Records.{ShowsRecord, stored_of}
 use Rattle.sasl_c.specs.Rules.{channels_of}
-use Rattle.sasl_c.specs.SaslServer.{AreSettings, ShowRecords, one_where, passwords_number, flags_sum, mechanisms_sum, settings_for, version_of_first}
+use Rattle.sasl_c.specs.SaslServer.{AreSettings, ShowRecords, one_where, passwords_number, flags_sum, mechanisms_for, mechanisms_sum, mock_of, plain_version_for, settings_for}
 use Rattle.sasl_c.specs.ServerCalls.{OneConfiguration, SameUser}
 use Rattle.sasl_c.proofs.CallStageLemmas.{over}
 use Rattle.sasl_c.proofs.SaslServerLemmas.{one_number}
@@ -225,8 +226,9 @@ meant choice channels authzid mock count external records rights plain = record 
 }
 
 meant_so : (config : Config) (choice : Choice) (records : MultiRecords) → settings_for config choice records
-    ≡ meant choice (channels_of config.channels) (is_set config.accept_authzid) None config.iterations
-    config.external_authcid.now records (rights_for config.username.now config.identities.now) (version_of_first records)
+    ≡ meant choice (channels_of config.channels) (is_set config.accept_authzid) (mock_of config) config.iterations
+    config.external_authcid.now records (rights_for config.username.now config.identities.now)
+    (plain_version_for (mechanisms_for choice) records)
 unfolding meant
 meant_so config choice records = refl
 
@@ -243,16 +245,18 @@ pub over_base : (base config : Config) (settings other : ServerSettings) → One
     → AreSettings base settings → AreSettings config other
     → (records : MultiRecords) × (rights : Rights) × (plain : ScramVersion)
     × (ShowRecords config.username.now config.records.now records)
-    × (rights ≡ rights_for config.username.now config.identities.now) × (plain ≡ version_of_first records)
-    × (other ≡ over records rights None plain settings)
+    × (rights ≡ rights_for config.username.now config.identities.now)
+    × (plain ≡ plain_version_for settings.mechanisms records)
+    × (other ≡ over records rights (mock_of config) plain settings)
 over_base base config settings other one (choice, records, sum, shows, is) (choice', records', sum', shows', is') =
     let same : choice' ≡ choice = one_choice choice' choice (sum'.1 ∙ (one.flags ∙ sym sum.1))
     (sum'.0 ∙ (one.mechanisms ∙ sym sum.0)) in
     let rights = rights_for config.username.now config.identities.now in
-    let plain = version_of_first records' in
+    let plain = plain_version_for (mechanisms_for choice') records' in
+    let mock = mock_of config in
     let made = meant_so config choice' records' ∙ by same (channels_of config.channels) (channels_of base.channels)
     (is_set config.accept_authzid) (is_set base.accept_authzid) config.iterations base.iterations
-    config.external_authcid.now base.external_authcid.now rights plain one.channels (ap is_set one.authzid) one.iterations
+    config.external_authcid.now base.external_authcid.now mock rights plain one.channels (ap is_set one.authzid) one.iterations
     one.external in
     let meets = is ∙ meant_so base choice records in (
       records',
@@ -260,15 +264,17 @@ over_base base config settings other one (choice, records, sum, shows, is) (choi
       plain,
       shows',
       refl,
-      refl,
-      is' ∙ (made ∙ (sym (over_meant choice (channels_of base.channels) (is_set base.accept_authzid) None None base.iterations
-          base.external_authcid.now records' records rights _ plain _) ∙ sym (ap (over records' rights None plain) meets))),
+      ap (λ (c : Choice). plain_version_for (mechanisms_for c) records') same
+          ∙ ap (λ (m : Mechanisms). plain_version_for m records') (sym (ap (λ (s : ServerSettings). s.mechanisms) is)),
+      is' ∙ (made ∙ (sym (over_meant choice (channels_of base.channels) (is_set base.accept_authzid) mock (mock_of base)
+          base.iterations base.external_authcid.now records' records rights _ plain _)
+          ∙ sym (ap (over records' rights mock plain) meets))),
     )
   where
-    by : choice' ≡ choice → (c c' : Option ChannelBindings) (a a' : Bool) (n n' : ℕ) (e e' : List ℕ) (rights : Rights)
-        (plain : ScramVersion) → c ≡ c' → a ≡ a' → n ≡ n' → e ≡ e'
-        → meant choice' c a None n e records' rights plain ≡ meant choice c' a' None n' e' records' rights plain
-    by same c c' a a' n n' e e' rights plain channels authzid count external = cc
+    by : choice' ≡ choice → (c c' : Option ChannelBindings) (a a' : Bool) (n n' : ℕ) (e e' : List ℕ)
+        (mock : Option MockChoice) (rights : Rights) (plain : ScramVersion) → c ≡ c' → a ≡ a' → n ≡ n' → e ≡ e'
+        → meant choice' c a mock n e records' rights plain ≡ meant choice c' a' mock n' e' records' rights plain
+    by same c c' a a' n n' e e' mock rights plain channels authzid count external = cc
 
 -- and of the same values
 pub of_base : (base config : Config) (settings other : ServerSettings) → OneConfiguration base config
@@ -284,12 +290,16 @@ of_base base config settings other one user (choice, records, sum, shows, is) (c
     ∙ ap (rights_for base.username.now) user.identities in
     is' ∙ (meant_so config choice' records' ∙ (by same (channels_of config.channels) (channels_of base.channels)
     (is_set config.accept_authzid) (is_set base.accept_authzid) config.iterations base.iterations
-    config.external_authcid.now base.external_authcid.now (rights_for config.username.now config.identities.now)
-    (rights_for base.username.now base.identities.now) (version_of_first records') (version_of_first records) all one.channels
-    (ap is_set one.authzid) one.iterations one.external rights (ap version_of_first all)
+    config.external_authcid.now base.external_authcid.now (mock_of config) (mock_of base)
+    (rights_for config.username.now config.identities.now) (rights_for base.username.now base.identities.now)
+    (plain_version_for (mechanisms_for choice') records') (plain_version_for (mechanisms_for choice) records) all one.channels
+    (ap is_set one.authzid) one.iterations one.external one.mock rights
+    (ap (λ (c : Choice). plain_version_for (mechanisms_for c) records') same
+    ∙ ap (plain_version_for (mechanisms_for choice)) all)
     ∙ (sym (meant_so base choice records) ∙ sym is)))
   where
-    by : choice' ≡ choice → (c c' : Option ChannelBindings) (a a' : Bool) (n n' : ℕ) (e e' : List ℕ) (g g' : Rights)
-        (v v' : ScramVersion) → records' ≡ records → c ≡ c' → a ≡ a' → n ≡ n' → e ≡ e' → g ≡ g' → v ≡ v'
-        → meant choice' c a None n e records' g v ≡ meant choice c' a' None n' e' records g' v'
-    by same c c' a a' n n' e e' g g' v v' all channels authzid count external rights plain = cc
+    by : choice' ≡ choice → (c c' : Option ChannelBindings) (a a' : Bool) (n n' : ℕ) (e e' : List ℕ)
+        (m m' : Option MockChoice) (g g' : Rights) (v v' : ScramVersion) → records' ≡ records → c ≡ c' → a ≡ a' → n ≡ n'
+        → e ≡ e' → m ≡ m' → g ≡ g' → v ≡ v'
+        → meant choice' c a m n e records' g v ≡ meant choice c' a' m' n' e' records g' v'
+    by same c c' a a' n n' e e' m m' g g' v v' all channels authzid count external mock rights plain = cc

@@ -6,7 +6,7 @@ use Rattle.fe2o3_sasl_wire.specs.SaslFrames as frames
 use Rattle.fe2o3_sasl_wire.specs.SaslFrames.{SaslFrame}
 use Rattle.fe2o3_scram.specs.ActingRights.{Rights, may_act}
 use Rattle.fe2o3_scram.specs.ChannelBinding.{is_required, mechanism_of}
-use Rattle.fe2o3_scram.specs.Credentials.{record_at}
+use Rattle.fe2o3_scram.specs.Credentials.{Record, VersionedRecord, record_at}
 use Rattle.fe2o3_scram.specs.Mixed.{MultiRecords, provider_for}
 use Rattle.fe2o3_scram.specs.MockSettings.{mock_record, stored_or}
 use Rattle.fe2o3_scram.specs.Passwords.{PasswordText}
@@ -18,6 +18,7 @@ use Rattle.fe2o3_sasl_core.specs.MockChoices.{MockChoice, mock_for}
 use Rattle.fe2o3_sasl_core.specs.PlainServer.{IsTaken, MeetsUser, PlainParts, SpellsPlain, TestedPassword}
 use Rattle.fe2o3_sasl_core.specs.SavedServers.{IsRestored, exchange_now, kept_stage, or_no_record, record_now, restored_stage}
 use Rattle.fe2o3_sasl_core.specs.Servers.{ExchangeOpen, NotStarted, ResponseAsked, ServerAt, ServerSettings, ServerStage, asked_among, has_hash, is_asked_by, is_offered_by, offer_order, provider_by, rules_by, way_name}
+use Rattle.fe2o3_sasl_core.specs.declared.server.options.Mechanisms.{Mechanisms}
 use Rattle.fe2o3_sasl_core.specs.declared.server.ways.Way.{Way}
 use Rattle.fe2o3_sasl_core.specs.declared.server.ways.Way.TheVariants as ways
 use Rattle.fe2o3_sasl_core.proofs.lemmas.machines.ClaimLemmas.{claims_what_servers_read}
@@ -37,7 +38,7 @@ use Rattle.sasl_c.specs.Acting.{rights_for}
 use Rattle.sasl_c.specs.Connection.{IsSideOf, Keeps, accepts_extended}
 use Rattle.sasl_c.specs.Peeks.{AnySide}
 use Rattle.sasl_c.specs.Rejections.{Logged}
-use Rattle.sasl_c.specs.SaslServer.{FrameNames, IsServer, Named, ShowRecords, ShowsSide, read_by, version_of_first}
+use Rattle.sasl_c.specs.SaslServer.{FrameNames, IsServer, Named, ShowRecords, ShowsSide, mock_of, plain_version_for, read_by}
 use Rattle.sasl_c.specs.Server.{ShowsStage}
 use Rattle.sasl_c.specs.ServerCalls.{AreStoreSettings, CallsWithOneStoreConnect, CarriesText, CompletesPlain, HasStoredUser, OneConfiguration, RecordsOfOneStore, StoredUsersAreHad, server_with}
 use Rattle.sasl_c.proofs.CallLemmas.{IsAlike, IsOfSide, calls_connect, goes_on, is_first, restores_of, same_side, settings_of, shows_going, stored_now}
@@ -77,9 +78,10 @@ plus_of true settings version is =
     (both_true (has_hash settings.mechanisms version) (not true || is_some settings.rules.channels) is).1
 plus_of false settings version is = refl
 
-module _ (settings : ServerSettings) (records : MultiRecords) (rights : Rights) (plain : ScramVersion) where
+module _ (settings : ServerSettings) (records : MultiRecords) (rights : Rights) (mock : Option MockChoice)
+    (plain : ScramVersion) where
   abbrev passed : ServerSettings
-  passed = over records rights None plain settings
+  passed = over records rights mock plain settings
 
   -- both settings have the same of this user, for the texts that are said
   record Agrees (Says : List ℕ → Type 0) (user : List ℕ) : Type 0 where
@@ -92,7 +94,7 @@ module _ (settings : ServerSettings) (records : MultiRecords) (rights : Rights) 
     may : (acts_for : Option (List ℕ)) → may_act rights user acts_for ≡ may_act settings.rights user acts_for
 
   abbrev Init : Way → Option (List ℕ) → Type 0
-  Init way response = InitAlike settings records rights None plain way response
+  Init way response = InitAlike settings records rights mock plain way response
 
   init_alike : (Says : List ℕ → Type 0) (way : Way) (name text : List ℕ) → Says text → name ≡ way_name way
       → is_offered_by settings way ≡ true → ((user : List ℕ) → ClaimsUser name text user → Agrees Says user)
@@ -172,7 +174,7 @@ module _ (settings : ServerSettings) (records : MultiRecords) (rights : Rights) 
       → IsRestored settings stage → IsRestored passed other → ShowsStage scram (kept_stage stage)
       → ((user : List ℕ) → FrameNames scram turns.Response (frames.Response text) user
       → Agrees (CarriesText (frames.Response text)) user)
-      → ResponseAlike settings records rights None plain stage other text
+      → ResponseAlike settings records rights mock plain stage other text
   response_alike scram (ResponseAsked way nonce) other text looks was is shows names =
       init_alike (CarriesText (frames.Response text)) way (way_name way) text refl refl (offered way nonce was)
       (λ user claims. names user (inr (way, nonce, shows, claims)))
@@ -200,7 +202,7 @@ module _ (settings : ServerSettings) (records : MultiRecords) (rights : Rights) 
       → IsInTurn turn frame → Looks stage other → IsRestored settings stage → IsRestored passed other
       → ShowsStage scram (kept_stage stage) → ((user : List ℕ) → FrameNames scram turn frame user
       → Agrees (CarriesText frame) user)
-      → FrameAlike settings records rights None plain stage other frame
+      → FrameAlike settings records rights mock plain stage other frame
   frame_alike scram turns.Init stage other (frames.Init name response hostname) in_turn looks was is shows names =
       λ way asks. let offers = asked_offers settings name way offer_order asks in
       response_init (CarriesText (frames.Init name response hostname)) way name response
@@ -288,8 +290,8 @@ agrees_so : (Says : List ℕ → Type 0) (settings : ServerSettings) (before : S
     (user : List ℕ) (records : MultiRecords) (rights : Rights) (plain : ScramVersion)
     → ((text : List ℕ) (parts : PlainParts) → Says text → SpellsPlain parts text → CompletesPlain before bytes parts)
     → ShowRecords config.username.now config.records.now records
-    → rights ≡ rights_for config.username.now config.identities.now → plain ≡ version_of_first records
-    → HasStoredUser settings before bytes config user → Agrees settings records rights plain Says user
+    → rights ≡ rights_for config.username.now config.identities.now → plain ≡ plain_version_for settings.mechanisms records
+    → HasStoredUser settings before bytes config user → Agrees settings records rights (mock_of config) plain Says user
 agrees_so Says settings before bytes config user records rights plain done shows right first has = record {
   scram = λ version plus offers. has.scram records version plus shows offers;
   plain_meets = λ text parts password says spells offers tested.
@@ -301,10 +303,10 @@ agrees_so Says settings before bytes config user records rights plain done shows
 }
 
 -- settings with a store's
-over_store : (own settings : ServerSettings) (records : MultiRecords) (rights : Rights) (plain : ScramVersion)
-    → settings ≡ over settings.records settings.rights settings.mock settings.plain_version own
-    → over records rights None plain own ≡ over records rights None plain settings
-over_store own settings records rights plain same = sym (ap (over records rights None plain) same)
+over_store : (own settings : ServerSettings) (records : MultiRecords) (rights : Rights) (mock : Option MockChoice)
+    (plain : ScramVersion) → settings ≡ over settings.records settings.rights settings.mock settings.plain_version own
+    → over records rights mock plain own ≡ over records rights mock plain settings
+over_store own settings records rights mock plain same = sym (ap (over records rights mock plain) same)
 
 one_store : (base : Config) (settings : ServerSettings) → AreStoreSettings base settings → (accepts : Bool) (config : Config)
     (before : Struct) (bytes : List ℕ) (side : Side ServerAt) (other : Side Logged)
@@ -314,18 +316,19 @@ one_store : (base : Config) (settings : ServerSettings) → AreStoreSettings bas
 one_store base settings (own, are, same) accepts config before bytes side other passes of is wants =
     let meant = over_base base config own other.state.server.settings passes.0 are
     (settings_of accepts settings config before other is wants) in
-    let now = meant.6 ∙ over_store own settings meant.0 meant.1 meant.2 same in
+    let now = meant.6 ∙ over_store own settings meant.0 meant.1 (mock_of config) meant.2 same in
+    let hash = meant.5 ∙ ap (λ (s : ServerSettings). plain_version_for s.mechanisms meant.0) (sym same) in
     let one = same_side accepts settings config before side other of is wants in
     let going = goes_on accepts settings before side other one wants in
     let has = of.goes going in
     let restores = restores_of accepts settings config before other is wants in
-    let again = restored_so (over meant.0 meant.1 None meant.2 settings) other.state.server.stage restores.0
+    let again = restored_so (over meant.0 meant.1 (mock_of config) meant.2 settings) other.state.server.stage restores.0
     (restores.2 ∙ ap (λ (s : ServerSettings). restored_stage s restores.0) now) in
     let keeps = keeps_of config before other is in
     let shown = shows_going before.scram side.progress (kept_stage side.state.stage) going of.stands.login in (
       meant.0,
       meant.1,
-      None,
+      mock_of config,
       meant.2,
       now,
       λ looks turn frame due whole spells in_turn.
@@ -333,10 +336,11 @@ one_store base settings (own, are, same) accepts config before bytes side other 
           (subst (λ (b : Bool). SpellsBody (drop 4 (unit_read b other.expected
           (take (unit_size other.expected (other.held ++ bytes)) (other.held ++ bytes)))) (Ok frame))
           (sym of.stands.extended) spells) in
-          frame_alike settings meant.0 meant.1 meant.2 before.scram turn side.state.stage other.state.server.stage frame in_turn
+          frame_alike settings meant.0 meant.1 (mock_of config) meant.2 before.scram turn side.state.stage
+          other.state.server.stage frame in_turn
           looks has.2 again shown (λ user names. agrees_so (CarriesText frame) settings before bytes config user meant.0 meant.1
           meant.2 (λ text parts says parted. plain_by before bytes text turn frame parts done says parted) meant.3 meant.4
-          meant.5 (passes.1 user (named_by before bytes user turn frame done names))),
+          hash (passes.1 user (named_by before bytes user turn frame done names))),
     )
 
 pub calls_with_one_store : CallsWithOneStoreConnect
@@ -351,35 +355,53 @@ calls_with_one_store base settings before last calls stream sent rest are is ove
 
 -- ---- a user whom the store has
 
-stored_without : (settings : ServerSettings) (version : ScramVersion) (plus : Bool) (user : List ℕ) → settings.mock ≡ None
-    → record_at (provider_for version settings.records).records user ≡ (provider_by settings version plus).records user
-stored_without settings version plus user none = sym (ap (λ (mock : Option MockChoice).
-    stored_or (option_map (λ m. mock_record m user) (option_map (mock_for version) mock))
-    (record_at (provider_for version settings.records).records user)) none)
+stored_with : (settings : ServerSettings) (mock : Option MockChoice) (records : MultiRecords) (version : ScramVersion)
+    (plus : Bool) (user : List ℕ) → settings.mock ≡ mock
+    → record_at (provider_for version records).records user ≡ record_at (provider_for version settings.records).records user
+    → (provider_by (record settings { records = records; mock = mock }) version plus).records user
+    ≡ (provider_by settings version plus).records user
+stored_with settings mock records version plus user one same =
+    let made = λ (m : Option MockChoice). option_map (λ m. mock_record m user) (option_map (mock_for version) m) in
+    ap (stored_or (made mock)) same
+    ∙ ap (λ (m : Option MockChoice). stored_or (made m) (record_at (provider_for version settings.records).records user))
+    (sym one)
+
+-- the first record is of this hash
+abbrev BeginsWith : ScramVersion → MultiRecords → Type 0
+BeginsWith hash records = (first : List ℕ × VersionedRecord) (others : MultiRecords) → records ≡ first ∷ others
+    → first.1.version ≡ hash
+
+-- where no record is, no password meets one
+meets_by : (mechanisms : Mechanisms) (hash : ScramVersion) (records stored : MultiRecords) (user : List ℕ)
+    (password : PasswordText) → BeginsWith hash records
+    → record_at (provider_for hash records).records user ≡ record_at (provider_for hash stored).records user
+    → MeetsUser (provider_for (plain_version_for mechanisms records) records) user password
+    ↔ MeetsUser (provider_for hash stored) user password
+meets_by mechanisms hash [] stored user password begins same =
+    ((λ meets. no_record meets.0 meets.1), λ meets. no_record meets.0 (same ∙ meets.1))
+  where
+    no_record : {A : Type 0} (stored : Record) → None ≡ Some stored → A
+    no_record stored wrong = absurd (cc)
+meets_by mechanisms hash (first ∷ others) stored user password begins same =
+    subst (λ (v : ScramVersion). MeetsUser (provider_for v (first ∷ others)) user password
+    ↔ MeetsUser (provider_for hash stored) user password) (sym (begins first others refl)) (
+      (λ meets. (meets.0, sym same ∙ meets.1, meets.2)),
+      λ meets. (meets.0, same ∙ meets.1, meets.2),
+    )
 
 pub stored_users_are_had : StoredUsersAreHad
-stored_users_are_had settings server bytes config user records none named shows alike first may = record {
+stored_users_are_had settings server bytes config user records mock named shows alike begins may = record {
   username = named;
-  scram = λ others version plus has offers. ap (λ (r : MultiRecords). record_at (provider_for version r).records user)
-      (one others has) ∙ (alike version ∙ stored_without settings version plus user none);
-  plain = λ others parts password has offers done tested. let hash = ap version_of_first (one others has) ∙ first in
-      let same = ap (λ (r : MultiRecords). record_at (provider_for settings.plain_version r).records user) (one others has)
-      ∙ alike settings.plain_version in
-      meets_alike others (version_of_first others) password hash same;
+  scram = λ others version plus has offers. let one = one_of others has in
+      stored_with settings (mock_of config) others version plus user mock
+      (ap (λ (r : MultiRecords). record_at (provider_for version r).records user) one ∙ alike version);
+  plain = λ others parts password has offers done tested. let one = one_of others has in
+      subst (λ (r : MultiRecords). MeetsUser (provider_for (plain_version_for settings.mechanisms r) r) user password
+      ↔ MeetsUser (provider_for settings.plain_version settings.records) user password) (sym one)
+      (meets_by settings.mechanisms settings.plain_version records settings.records user password begins
+      (alike settings.plain_version));
   rights = may;
 }
   where
-    one : (others : MultiRecords) → ShowRecords config.username.now config.records.now others → others ≡ records
-    one others has = one_records config.username.now config.records.now others records has shows
-
-    meets_alike : (others : MultiRecords) (version : ScramVersion) (password : PasswordText)
-        → version ≡ settings.plain_version
-        → record_at (provider_for settings.plain_version others).records user
-        ≡ record_at (provider_for settings.plain_version settings.records).records user
-        → MeetsUser (provider_for version others) user password
-        ↔ MeetsUser (provider_for settings.plain_version settings.records) user password
-    meets_alike others version password hash same = subst (λ (v : ScramVersion). MeetsUser (provider_for v others) user password
-        ↔ MeetsUser (provider_for settings.plain_version settings.records) user password) (sym hash) (
-          (λ meets. (meets.0, sym same ∙ meets.1, meets.2)),
-          λ meets. (meets.0, same ∙ meets.1, meets.2),
-        )
+    one_of : (others : MultiRecords) → ShowRecords config.username.now config.records.now others → others ≡ records
+    one_of others has = one_records config.username.now config.records.now others records has shows

@@ -10,6 +10,7 @@ use Rattle.fe2o3_scram.specs.Mixed.{MultiRecords}
 use Rattle.fe2o3_scram.specs.Readings.{IsFirst, NoneHolds}
 use Rattle.fe2o3_sasl_core.specs.SavedServers.{KeptStage, kept_stage}
 use Rattle.fe2o3_sasl_core.specs.Servers.{NotStarted, ServerAt, offers_any, settings_with}
+use Rattle.fe2o3_sasl_core.specs.declared.server.options.Mechanisms.{Mechanisms}
 use Rattle.fe2o3_sasl_core.specs.declared.plain_server.passwords.PlainPasswords.{PlainPasswords}
 use Rattle.fe2o3_sasl_core.specs.declared.plain_server.passwords.PlainPasswords.TheVariants as forms
 use Rattle.fe2o3_sasl_negotiation.specs.Sides.{ServerConnectionSide, extended_in}
@@ -27,7 +28,7 @@ use Rattle.sasl_c.specs.declared.status.Status.TheVariants as statuses
 use Rattle.sasl_c.specs.Records.{ShowsRecord, SpellsStruct}
 use Rattle.sasl_c.specs.Rejections.{Logged, state_of}
 use Rattle.sasl_c.specs.Rules.{HasLongData}
-use Rattle.sasl_c.specs.SaslServer.{AddsRecord, AreSettings, HasNoServerWords, HasNone, IsChoice, IsNoConfig, IsPrepared, IsServer, RestoresStage, ServerIsReached, ShowRecords, ShowsBy, ShowsNext, ShowsProgress, ShowsSide, ShowsState, choice_tests, config_tests, flags_sum, mechanisms_sum, version_of_first, one_where, passwords_number, side_in, side_struct, state_struct, struct_by}
+use Rattle.sasl_c.specs.SaslServer.{AddsRecord, AreSettings, HasLongSalt, HasNoServerWords, HasNone, IsChoice, IsNoConfig, IsPrepared, IsServer, RestoresStage, ServerIsReached, ShowRecords, ShowsBy, ShowsNext, ShowsProgress, ShowsSide, ShowsState, choice_tests, config_tests, flags_sum, mechanisms_sum, one_where, passwords_number, plain_version_for, side_in, side_struct, state_struct, struct_by}
 use Rattle.sasl_c.specs.Server.{ShowsStage, fresh_server_struct}
 use Rattle.sasl_c.specs.Status.{version_number}
 use Rattle.sasl_c.proofs.ExchangeLemmas.{keeps_nothing}
@@ -273,11 +274,12 @@ skips user kept more records none (inl (shown, rest, is, then, same)) = absurd (
 skips user kept more records none (inr (other, then)) = then
 
 -- the first that shows one has its hash
-pub first_shown : (user : List ℕ) (kept : Kept) (more : List Kept) (records : MultiRecords) (shown : VersionedRecord)
-    → ShowsRecord kept shown → ShowRecords user (kept ∷ more) records → shown.version ≡ version_of_first records
-first_shown user kept more records shown is (inl (other, rest, shows, then, same)) =
-    one_number shown.version other.version (is.0 ∙ sym shows.0) ∙ sym (ap version_of_first same)
-first_shown user kept more records shown is (inr (none, then)) = absurd (none shown is)
+pub first_shown : (mechanisms : Mechanisms) (user : List ℕ) (kept : Kept) (more : List Kept) (records : MultiRecords)
+    (shown : VersionedRecord) → ShowsRecord kept shown → ShowRecords user (kept ∷ more) records
+    → shown.version ≡ plain_version_for mechanisms records
+first_shown mechanisms user kept more records shown is (inl (other, rest, shows, then, same)) =
+    one_number shown.version other.version (is.0 ∙ sym shows.0) ∙ sym (ap (plain_version_for mechanisms) same)
+first_shown mechanisms user kept more records shown is (inr (none, then)) = absurd (none shown is)
 
 -- the records so far, of the structs before those that are left
 abbrev pub ShowSoFar : List ℕ → List Kept → List Kept → MultiRecords → Type 0
@@ -312,7 +314,7 @@ pub ruleset store = (so_far_none, so_far_more, so_far_all)
 abbrev word_tests_of : Config → List (Status × Type 0)
 word_tests_of config = (statuses.NotUtf8, ¬ IsUtf8 config.username.now)
     ∷ (statuses.NotUtf8, ¬ IsUtf8 config.external_authcid.now) ∷ (statuses.NotUtf8, ¬ IsUtf8 config.identities.now)
-    ∷ (statuses.ChannelDataLength, HasLongData config.channels) ∷ []
+    ∷ (statuses.ChannelDataLength, HasLongData config.channels) ∷ (statuses.TooLong, HasLongSalt config) ∷ []
 
 -- why there is none
 pub no_choice : (config : Config) (status : Status) → IsFirst (choice_tests config.mechanisms config.flags) status
@@ -345,11 +347,20 @@ no_channels config choice sum name peer words long = inl (later config choice st
   inr ((λ wrong. wrong peer), inr ((λ wrong. wrong words), inl (long, refl))),
 )))
 
+pub no_salts : (config : Config) (choice : Choice) → IsChoice config.mechanisms config.flags choice
+    → IsUtf8 config.username.now → IsUtf8 config.external_authcid.now → IsUtf8 config.identities.now
+    → ¬ HasLongData config.channels → HasLongSalt config → IsNoConfig config statuses.TooLong
+unfolding IsNoConfig
+no_salts config choice sum name peer words short long = inl (later config choice statuses.TooLong sum (inr (
+  (λ wrong. wrong name),
+  inr ((λ wrong. wrong peer), inr ((λ wrong. wrong words), inr (short, inl (long, refl)))),
+)))
+
 pub no_offer : (config : Config) (prepared : Prepared) → IsPrepared config prepared → NoneHolds (config_tests config)
     → offers_any (settings_with prepared.records prepared.options prepared.transport) ≡ false
     → IsNoConfig config statuses.NoSuchMechanism
 unfolding IsNoConfig
-no_offer config prepared (are, unmocked) none nothing = inr (
+no_offer config prepared are none nothing = inr (
   none,
   refl,
   (settings_with prepared.records prepared.options prepared.transport, are, nothing),
@@ -357,13 +368,16 @@ no_offer config prepared (are, unmocked) none nothing = inr (
 
 pub no_test : (config : Config) (choice : Choice) → IsChoice config.mechanisms config.flags choice
     → IsUtf8 config.username.now → IsUtf8 config.external_authcid.now → IsUtf8 config.identities.now
-    → ¬ HasLongData config.channels → NoneHolds (config_tests config)
-no_test config choice sum name peer words short = (
+    → ¬ HasLongData config.channels → ¬ HasLongSalt config → NoneHolds (config_tests config)
+no_test config choice sum name peer words short salts = (
   (λ none. none choice sum.0),
-  ((λ none. none choice sum.1), ((λ wrong. wrong name), ((λ wrong. wrong peer), ((λ wrong. wrong words), (short, tt))))),
+  (
+    (λ none. none choice sum.1),
+    ((λ wrong. wrong name), ((λ wrong. wrong peer), ((λ wrong. wrong words), (short, (salts, tt))))),
+  ),
 )
 
-pub ruleset prepared = (no_choice, no_words, no_channels, no_test)
+pub ruleset prepared = (no_choice, no_words, no_channels, no_salts, no_test)
 
 -- ---- the structs of a side
 

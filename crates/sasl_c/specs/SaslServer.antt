@@ -1,17 +1,18 @@
 -- The server's side of a connection that is kept in structs of C between its calls (AMQP 1.0, part 5, section 5.3.2).
-use Rattle.std.specs.Prelude.{◌≡◌, ◌≢◌, ◌<◌, ◌⊎◌, ◌+◌, ℕ, Bool, true, false, Option, Some, None, List, [], ◌∷◌, ◌++◌, length, Result, Ok, Err}
+use Rattle.std.specs.Prelude.{◌≡◌, ◌≢◌, ◌<◌, ◌⊎◌, ◌+◌, ℕ, Bool, true, false, if◌then◌else◌, Option, Some, None, List, [], ◌∷◌, ◌++◌, length, Result, Ok, Err}
 use Rattle.std.specs.Str.{IsUtf8}
 use Rattle.fe2o3_sasl_wire.specs.declared.sasl_frames.error.Error.{Error}
 use Rattle.fe2o3_sasl_wire.specs.SaslFrames.{SaslFrame}
 use Rattle.fe2o3_sasl_wire.specs.SaslFrames as frames
 use Rattle.fe2o3_scram.specs.declared.hmac.ScramVersion.{ScramVersion}
 use Rattle.fe2o3_scram.specs.Credentials.{VersionedRecord}
-use Rattle.fe2o3_scram.specs.declared.hmac.ScramVersion.TheVariants.{Sha256}
+use Rattle.fe2o3_scram.specs.declared.hmac.ScramVersion.TheVariants.{Sha1, Sha256, Sha512}
 use Rattle.fe2o3_scram.specs.Mixed.{MultiRecords}
 use Rattle.fe2o3_scram.specs.Readings.{IsFirst, NoneHolds}
 use Rattle.fe2o3_scram.specs.ServerFirst.{ServerChallenge}
 use Rattle.fe2o3_sasl_core.specs.Bodies.{SpellsBody}
 use Rattle.fe2o3_sasl_core.specs.LoginAttempts.{ClaimAllocates, ClaimIn, ClaimsUser}
+use Rattle.fe2o3_sasl_core.specs.MockChoices.{MockChoice}
 use Rattle.fe2o3_sasl_core.specs.declared.server.options.ExtraChallenges.{ExtraChallenges}
 use Rattle.fe2o3_sasl_core.specs.SavedServers.{KeptStage, kept_stage, restored_stage}
 use Rattle.fe2o3_sasl_core.specs.Servers.{ServerAt, ServerSettings, offers_any, settings_with, way_name}
@@ -121,10 +122,29 @@ AddsRecord user kept before after =
 abbrev pub HasRecords : Config → MultiRecords → Type 0
 HasRecords config records = ShowRecords config.username.now config.records.now records
 
--- the hash of the first record, by which PLAIN tests a password; where there is none, SHA-256
-abbrev pub version_of_first : MultiRecords → ScramVersion
-version_of_first [] = Sha256
-version_of_first (user ∷ users) = user.1.version
+-- the hash by which PLAIN hashes the password of a user without records: the first of SHA-256, SHA-512 and SHA-1 by which SCRAM
+-- is offered, or otherwise SHA-256
+abbrev pub version_of_unknown : Mechanisms → ScramVersion
+version_of_unknown mechanisms = if mechanisms.scram_sha_256 then Sha256 else (if mechanisms.scram_sha_512 then Sha512
+    else (if mechanisms.scram_sha_1 then Sha1 else Sha256))
+
+-- and that of a user with these records: the hash of the first one
+abbrev pub plain_version_for : Mechanisms → MultiRecords → ScramVersion
+plain_version_for mechanisms [] = version_of_unknown mechanisms
+plain_version_for mechanisms (user ∷ users) = user.1.version
+
+-- mock authentication by this secret, with salts of this length and this iteration count. By the empty secret there is none
+abbrev pub mock_by : List ℕ → ℕ → ℕ → Option MockChoice
+mock_by [] salt_len count = None
+mock_by (byte ∷ secret) salt_len count = Some (record { secret = byte ∷ secret; salt_len = salt_len; count = count })
+
+-- and that of a configuration
+abbrev pub mock_of : Config → Option MockChoice
+mock_of config = mock_by config.mock_secret.now config.mock_salt_len config.iterations
+
+-- the salts of its mock records are longer than a digest of SHA-512
+abbrev pub HasLongSalt : Config → Type 0
+HasLongSalt config = (config.mock_secret.now ≢ []) × (64 < config.mock_salt_len)
 
 -- the settings of the library's server. PLAIN is offered if the configuration says so
 abbrev pub settings_for : Config → Choice → MultiRecords → ServerSettings
@@ -139,8 +159,8 @@ settings_for config choice records = record {
     accept_authzid = is_set config.accept_authzid;
   };
   rights = rights_for config.username.now config.identities.now;
-  mock = None;
-  plain_version = version_of_first records;
+  mock = mock_of config;
+  plain_version = plain_version_for (mechanisms_for choice) records;
   plain_count = Some config.iterations;
   plain_passwords = choice.passwords;
   extra = extra_for choice;
@@ -234,7 +254,7 @@ config_tests config = (statuses.NoSuchMechanism, (choice : Choice) → mechanism
     ∷ (statuses.NoSuchChoice, (choice : Choice) → flags_sum choice ≢ config.flags)
     ∷ (statuses.NotUtf8, ¬ IsUtf8 config.username.now) ∷ (statuses.NotUtf8, ¬ IsUtf8 config.external_authcid.now)
     ∷ (statuses.NotUtf8, ¬ IsUtf8 config.identities.now)
-    ∷ (statuses.ChannelDataLength, HasLongData config.channels) ∷ []
+    ∷ (statuses.ChannelDataLength, HasLongData config.channels) ∷ (statuses.TooLong, HasLongSalt config) ∷ []
 
 -- why a configuration has no server: a test that holds, or a server that would offer nothing, in place of which ANONYMOUS were
 -- offered (part 5, section 5.3.3.1)
@@ -345,12 +365,12 @@ NotNamed server bytes status = IsFirst (side_tests server.connection) status
 abbrev pub side_in : ServerConnectionSide LoggedServer → Side Logged
 side_in server = server_side state_of server
 
--- the options are those of a configuration with this choice, where PLAIN tests passwords against the records of this hash, and
--- this user may act for these identities
-abbrev pub HasOptions : Config → Choice → ScramVersion → List ℕ → List ℕ → ServerOptions → Type 0
-HasOptions config choice version user identities options = options ≡ record {
+-- the options are those of a configuration with this choice, where PLAIN tests passwords against the records of this hash,
+-- unknown users have these mock records, and this user may act for these identities
+abbrev pub HasOptions : Config → Choice → ScramVersion → Option MockChoice → List ℕ → List ℕ → ServerOptions → Type 0
+HasOptions config choice version mock user identities options = options ≡ record {
   mechanisms = mechanisms_for choice;
-  mock = None;
+  mock = mock;
   rights = rights_for user identities;
   accept_authzid = is_set config.accept_authzid;
   strict = choice.strict;
@@ -362,7 +382,6 @@ HasOptions config choice version user identities options = options ≡ record {
   extra_challenges = extra_for choice;
 }
 
--- what a server borrows is that of a configuration, and has no mock records: these are passed as records
+-- what a server borrows is that of a configuration
 abbrev pub IsPrepared : Config → Prepared → Type 0
-IsPrepared config prepared = let settings = settings_with prepared.records prepared.options prepared.transport in
-    AreSettings config settings × (settings.mock ≡ None)
+IsPrepared config prepared = AreSettings config (settings_with prepared.records prepared.options prepared.transport)

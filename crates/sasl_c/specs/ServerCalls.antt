@@ -4,7 +4,7 @@ use Rattle.std.specs.Prelude.{◌≡◌, ◌≢◌, ◌⊎◌, ◌↔◌, ◌++�
 use Rattle.fe2o3_sasl_wire.specs.SaslFrames as frames
 use Rattle.fe2o3_sasl_wire.specs.SaslFrames.{SaslFrame}
 use Rattle.fe2o3_scram.specs.ActingRights.{may_act}
-use Rattle.fe2o3_scram.specs.Credentials.{record_at}
+use Rattle.fe2o3_scram.specs.Credentials.{VersionedRecord, record_at}
 use Rattle.fe2o3_scram.specs.Mixed.{MultiRecords, provider_for}
 use Rattle.fe2o3_scram.specs.Passwords.{PasswordText}
 use Rattle.fe2o3_scram.specs.declared.hmac.ScramVersion.{ScramVersion}
@@ -23,7 +23,7 @@ use Rattle.sasl_c.specs.Acting.{rights_for}
 use Rattle.sasl_c.specs.Connection.{IsSideOf, Keeps, accepts_extended}
 use Rattle.sasl_c.specs.Peeks.{AnySide}
 use Rattle.sasl_c.specs.Rules.{channels_of}
-use Rattle.sasl_c.specs.SaslServer.{AreSettings, HasRecords, IsServer, Named, Received, ServerTakes, ShowsProgress, read_by, version_of_first}
+use Rattle.sasl_c.specs.SaslServer.{AreSettings, HasRecords, IsServer, Named, Received, ServerTakes, ShowsProgress, mock_of, plain_version_for, read_by}
 use Rattle.sasl_c.specs.Server.{fresh_server_struct}
 use Rattle.sasl_c.specs.ServerReceive.{NeedsNoRecords, ReceivesOrAsks}
 use Rattle.sasl_c.specs.Status.{AnswersText, Room, with_written}
@@ -123,6 +123,7 @@ pub record OneConfiguration (base config : Config) : Type 0 where
   pub mechanisms : config.mechanisms ≡ base.mechanisms
   pub flags : config.flags ≡ base.flags
   pub iterations : config.iterations ≡ base.iterations
+  pub mock : mock_of config ≡ mock_of base
   pub external : config.external_authcid.now ≡ base.external_authcid.now
   pub channels : channels_of config.channels ≡ channels_of base.channels
   pub authzid : config.accept_authzid ≡ base.accept_authzid
@@ -157,19 +158,20 @@ CompletesPlain server bytes parts = (side : AnySide) × (turn : FrameKind) × (b
     × ((frame : SaslFrame) × (text : List ℕ) × SpellsBody (read_by server body) (Ok frame) × CarriesText frame text
     × SpellsPlain parts text)
 
--- a configuration has what the store of these settings has of this user: its name; for each hash that is offered the record by
--- which SCRAM answers it, which for an unknown user may be a mock record; its rights; and, where PLAIN is offered, records that
--- the password of a message meets exactly if it meets the store's. So no such password meets the mock record of an unknown user
+-- a configuration has what the store of these settings has of this user: its name; for each hash that is offered, as a record or
+-- as its own mock record, the one by which SCRAM answers the user; its rights; and, where PLAIN is offered, records that the
+-- password of a message meets exactly if it meets the store's. So no such password meets a mock record that is passed as a record
 pub record HasStoredUser (settings : ServerSettings) (server : Struct) (bytes : List ℕ) (config : Config) (user : List ℕ)
     : Type 0 where
   pub username : config.username.now ≡ user
   pub scram : (records : MultiRecords) (version : ScramVersion) (plus : Bool) → HasRecords config records
       → is_offered_by settings (ways.Scram version plus) ≡ true
-      → record_at (provider_for version records).records user ≡ (provider_by settings version plus).records user
+      → (provider_by (record settings { records = records; mock = mock_of config }) version plus).records user
+      ≡ (provider_by settings version plus).records user
   pub plain : (records : MultiRecords) (parts : PlainParts) (password : PasswordText) → HasRecords config records
       → is_offered_by settings ways.Plain ≡ true → CompletesPlain server bytes parts
       → TestedPassword settings.plain_passwords parts.password password
-      → MeetsUser (provider_for (version_of_first records) records) user password
+      → MeetsUser (provider_for (plain_version_for settings.mechanisms records) records) user password
       ↔ MeetsUser (provider_for settings.plain_version settings.records) user password
   pub rights : (acts_for : Option (List ℕ)) → may_act (rights_for user config.identities.now) user acts_for
       ≡ may_act settings.rights user acts_for
@@ -211,13 +213,15 @@ CallsWithOneStoreConnect = (base : Config) (settings : ServerSettings) (before l
     → CallsOverStruct (PassesOneStore base settings) before calls stream sent last rest
     → AreOneConnection settings before calls stream sent last rest
 
--- a configuration has what a store without mock records has of a user: its first record for each hash, which is first of all one
--- of the hash by which PLAIN tests passwords, and its rights
+-- a configuration has what a store with its mock records has of a user: its first record for each hash, of which the first of
+-- all, if there is one, is of the hash by which PLAIN tests passwords; and its rights
 abbrev pub StoredUsersAreHad : Type 0
 StoredUsersAreHad = (settings : ServerSettings) (server : Struct) (bytes : List ℕ) (config : Config) (user : List ℕ)
-    (records : MultiRecords) → settings.mock ≡ None → config.username.now ≡ user → HasRecords config records
+    (records : MultiRecords) → settings.mock ≡ mock_of config → config.username.now ≡ user → HasRecords config records
     → ((version : ScramVersion) → record_at (provider_for version records).records user
-    ≡ record_at (provider_for version settings.records).records user) → version_of_first records ≡ settings.plain_version
+    ≡ record_at (provider_for version settings.records).records user)
+    → ((first : List ℕ × VersionedRecord) (others : MultiRecords) → records ≡ first ∷ others
+    → first.1.version ≡ settings.plain_version)
     → ((acts_for : Option (List ℕ)) → may_act (rights_for user config.identities.now) user acts_for
     ≡ may_act settings.rights user acts_for)
     → HasStoredUser settings server bytes config user

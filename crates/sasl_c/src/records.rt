@@ -254,7 +254,8 @@ fn compute_mock(
 }
 
 /// Computes a mock record for a name that the server does not know, or that has no record of this hash. The server then
-/// answers unknown users like known ones. The login then fails at its proof.
+/// answers unknown users like known ones. The login then fails at its proof. It is for the calls over messages:
+/// `fe2o3_sasl_server_receive` makes mock records itself, by `mock_secret` of its configuration.
 ///
 /// `secret` is 32 random bytes, one value for all names, kept as long as the records. `salt_len`, at most 64, and
 /// `iterations` are those of the server's other records. An iteration count of 0 is not rejected here.

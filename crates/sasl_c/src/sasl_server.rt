@@ -10,7 +10,7 @@ ghost use Rattle.fe2o3_sasl_negotiation.specs.Snapshot.{IsServerKept, side_of};
 ghost use Rattle.fe2o3_sasl_negotiation.specs.Sides.{ServerConnectionSide, extended_in, server_side};
 ghost use Rattle.sasl_c.specs.Rejections.{state_of};
 ghost use Rattle.sasl_c.specs.Rules.{channels_of};
-ghost use Rattle.sasl_c.specs.SaslServer.{AddsRecord, AreSettings, HasNoServerWords, HasNone, IsChoice, IsNoConfig, IsPrepared, NotReceived, Received, RestoresStage, HasOptions, ServerTakes, ShowRecords, ShowsBy, choice_tests, config_tests, extra_for, mechanisms_for, settings_for, struct_by, version_of_first};
+ghost use Rattle.sasl_c.specs.SaslServer.{AddsRecord, AreSettings, HasNoServerWords, HasLongSalt, HasNone, IsChoice, IsNoConfig, IsPrepared, NotReceived, Received, RestoresStage, HasOptions, ServerTakes, ShowRecords, ShowsBy, choice_tests, config_tests, extra_for, mechanisms_for, mock_of, plain_version_for, settings_for, struct_by, version_of_unknown};
 ghost use Rattle.sasl_c.specs.Connection.{side_tests};
 ghost use Rattle.sasl_c.specs.Status.{AsksWhere};
 ghost use Rattle.sasl_c.specs.declared.status.Status.TheVariants.{OutOfMemory as StatusOutOfMemory, InvalidSnapshot as StatusInvalidSnapshot, TooLong as StatusTooLong};
@@ -26,8 +26,8 @@ use crate::shows::Shows;
 use crate::status::{Status, text};
 use bytes::BytesMut;
 use fe2o3_sasl_core::{
-    AuthenticatedUser, ExtraChallenges, Mechanisms, PlainPasswords, Server, ServerOptions,
-    Transport,
+    AuthenticatedUser, ExtraChallenges, Mechanisms, MockAuthentication, PlainPasswords, Server,
+    ServerOptions, Transport,
 };
 use fe2o3_sasl_negotiation::{RestoreError, ServerNegotiation, Snapshot};
 use fe2o3_scram::{Meter, MultiRecordStore, ScramVersion};
@@ -50,8 +50,19 @@ pub struct SaslServerConfig<'a> {
     /// FE2O3_REJECT_MISPLACED as by its field `reject_misplaced`.
     pub flags: u32,
 
-    /// The iteration count with which PLAIN hashes a password if no record can be read.
+    /// The iteration count of mock records. PLAIN hashes the password of an unknown user as often. Pass the count of your
+    /// store's records.
     pub iterations: u32,
+
+    /// The length of the salts of mock records, in bytes, at most 64. Pass the length of your store's salts. Without a
+    /// `mock_secret` it plays no part.
+    pub mock_salt_len: u32,
+
+    /// The secret of mock authentication: at least 32 random bytes, one value for all names, kept as long as the records.
+    /// With it SCRAM answers a name that has no record of its hash like any other, by a mock record. The login then fails at
+    /// its proof. If empty, there is no mock authentication: SCRAM rejects the init of such a name at once, and a client can
+    /// tell known users from unknown ones.
+    pub mock_secret: &'a [u8],
 
     /// Whether `username`, `records` and `identities` are what your store has of the user whom the bytes claim. 0 is no,
     /// any other value yes. If it is 0 and the bytes claim a user, `fe2o3_sasl_server_receive` returns
@@ -61,14 +72,12 @@ pub struct SaslServerConfig<'a> {
     /// The name of the user whose records these are, without escapes.
     pub username: &'a [u8],
 
-    /// The records of the user: one for each hash that is offered. For a hash of which the user has no record, pass a mock
-    /// record (`fe2o3_scram_record_mock`), also for a known user who has records of other hashes only. SCRAM uses the
-    /// first record of its hash. If there is none, it rejects the init at once, and a client can tell known users from
-    /// unknown ones.
+    /// The records that your store has of the user, of any hashes, and none for an unknown user. SCRAM uses the first record
+    /// of its hash. PLAIN tests the password against the first record that can be read.
     ///
-    /// PLAIN tests the password against the first record that can be read, so put mock records last. It then hashes the
-    /// password of an unknown user with the hash, the salt length and the iteration count of the first mock record.
-    /// If no record can be read, it hashes the password with SHA-256 and rejects the login.
+    /// If no record can be read, PLAIN hashes the password all the same, and rejects the login. It then uses the first of
+    /// SHA-256, SHA-512 and SHA-1 by which SCRAM is offered, or SHA-256 if SCRAM is not offered. So let the records of each
+    /// user begin with that hash.
     pub records: &'a [ScramRecord],
 
     /// The name of the client that the transport has authenticated, for instance by a certificate. EXTERNAL accepts
@@ -190,6 +199,21 @@ impl Choice {
         }
     }
 
+    /// The hash by which PLAIN hashes the password of an unknown user.
+    fn version_of_unknown(self) -> ScramVersion
+        ensures { result ≡ version_of_unknown (mechanisms_for self) }
+    {
+        if self.sha_256 {
+            ScramVersion::Sha256
+        } else if self.sha_512 {
+            ScramVersion::Sha512
+        } else if self.sha_1 {
+            ScramVersion::Sha1
+        } else {
+            ScramVersion::Sha256
+        }
+    }
+
     /// The mechanisms.
     fn mechanisms(self) -> Mechanisms
         ensures { result ≡ mechanisms_for self }
@@ -221,8 +245,8 @@ impl Prepared<'_> {
         Server::new(&self.records, &self.options, self.transport).offers_any()
     }
 
-    /// The server that continues what the struct of SCRAM keeps of a login. It has no mock records, so that no HMAC value is
-    /// made. `OutOfMemory` is the only error.
+    /// The server that continues what the struct of SCRAM keeps of a login. The mock record of an open challenge's user is
+    /// recomputed, by three HMAC values. `OutOfMemory` is the only error.
     fn restored(&self, alloc: Global, scram: &ScramServer) -> Result<LoggedServer<'_>, Status>
         ensures settings { IfOk result (λ made. (sasl_server made.server).settings
             ≡ settings_with self.now.records self.now.options self.now.transport) }
@@ -278,33 +302,63 @@ impl SaslServerConfig<'_> {
         Ok(store)
     }
 
-    /// The hash of the first record that can be read, or SHA-256 if there is none.
+    /// The hash by which PLAIN hashes a password: that of the first record that can be read, or otherwise that of an unknown
+    /// user.
     #[tactic(auto, using(crate::proofs::SaslServerLemmas::first))]
-    fn first_version(&self) -> ScramVersion
+    fn plain_version(&self, choice: Choice) -> ScramVersion
         ensures { (user : List ℕ) (records : MultiRecords) → ShowRecords user self.now.records.now records
-            → result ≡ version_of_first records }
+            → result ≡ plain_version_for (mechanisms_for choice) records }
     {
         for kept in self.records {
             if let Ok((version, _)) = kept.lent() {
                 return version;
             }
         }
-        ScramVersion::Sha256
+        choice.version_of_unknown()
     }
 
-    /// The options of a server with this choice, this hash of PLAIN's records and these rights.
+    /// Tests the length of the mock records' salts.
+    fn tests_salt(&self) -> Result<(), Status>
+        ensures { MatchResult result (λ _. ¬ HasLongSalt self.now)
+            (λ status. (status ≡ StatusTooLong) × HasLongSalt self.now) }
+    {
+        if !self.mock_secret.is_empty() && self.mock_salt_len > 64 {
+            return Err(Status::TooLong);
+        }
+        Ok(())
+    }
+
+    /// The settings of mock authentication, if there is a secret. `OutOfMemory` is the only error.
+    fn mock(&self, alloc: Global) -> Result<Option<MockAuthentication>, Status>
+        requires { ¬ HasLongSalt self.now }
+        ensures ok { IfOk result (λ mock. mock ≡ mock_of self.now) }
+        ensures err { IfErr result (λ status. status ≡ StatusOutOfMemory) }
+    {
+        if self.mock_secret.is_empty() {
+            return Ok(None);
+        }
+        let secret = self.mock_secret.to_vec(alloc)?;
+        match MockAuthentication::new(secret, self.mock_salt_len as usize, self.iterations) {
+            Ok(mock) => Ok(Some(mock)),
+            Err(_) => Err(Status::TooLong),
+        }
+    }
+
+    /// The options of a server with this choice, this hash of PLAIN's records, these mock records and these rights.
     fn options(
         &self,
         alloc: Global,
         choice: Choice,
         version: ScramVersion,
+        mock: Option<MockAuthentication>,
         identities: &str,
         username: &str,
     ) -> Result<ServerOptions, Status>
-        ensures ok { IfOk result (λ options. HasOptions self.now choice version username.now identities.now options) }
+        ensures ok { IfOk result (λ options. HasOptions self.now choice version mock username.now identities.now options) }
         ensures err { IfErr result (λ status. status ≡ StatusOutOfMemory) }
     {
         let mut options = ServerOptions::new(alloc, choice.mechanisms());
+        options.mock = mock;
         options.rights = acting_rights(alloc, username, identities)?;
         options.accept_authzid = is_set(self.accept_authzid);
         options.strict = choice.strict;
@@ -367,12 +421,20 @@ impl SaslServerConfig<'_> {
             Ok(channels) => channels,
             Err(status) => return Err(status),
         };
+        match self.tests_salt() {
+            Ok(()) => (),
+            Err(status) => return Err(status),
+        }
         let records = match self.store(alloc, username) {
             Ok(records) => records,
             Err(status) => return Err(status),
         };
-        let version = self.first_version();
-        let options = match self.options(alloc, choice, version, identities, username) {
+        let version = self.plain_version(choice);
+        let mock = match self.mock(alloc) {
+            Ok(mock) => mock,
+            Err(status) => return Err(status),
+        };
+        let options = match self.options(alloc, choice, version, mock, identities, username) {
             Ok(options) => options,
             Err(status) => return Err(status),
         };

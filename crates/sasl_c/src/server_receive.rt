@@ -148,6 +148,7 @@ fn receive(
 /// - FE2O3_NO_SUCH_CHOICE if `flags` is no sum of values of enum fe2o3_server_flag,
 /// - FE2O3_NOT_UTF8 for `username`, `external_authcid` and `identities`,
 /// - FE2O3_CHANNEL_DATA_LENGTH if the server binds channels, and data have more than 64 bytes,
+/// - FE2O3_TOO_LONG if `mock_secret` is not empty, and `mock_salt_len` is above 64,
 /// - FE2O3_NO_SUCH_MECHANISM if nothing would be offered,
 /// - FE2O3_INVALID_SNAPSHOT if no connection of a server has this struct,
 /// - FE2O3_TOO_LONG if a name or a message does not fit into the struct. Close the connection then.

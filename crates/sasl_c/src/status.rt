@@ -23,7 +23,8 @@ pub enum Status {
     /// The version is none of enum fe2o3_scram_version.
     NoSuchVersion,
 
-    /// A text is longer than the array that holds it, or an identity to act for has more than 256 bytes.
+    /// A text is longer than the array that holds it, an identity to act for has more than 256 bytes, or the salts of mock
+    /// records have more than 64.
     TooLong,
 
     /// The typed password is not printable ASCII.

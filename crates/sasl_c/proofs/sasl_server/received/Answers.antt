@@ -18,7 +18,7 @@ pub returns-clause-err : goal.returns-clause-err
 returns-clause-err c = λ other. unanswered c.args.config.now c.args.bytes.now c.args.nonce.now
     c.args.server.now c.in-Ok.kept (state_of c.in-Ok-restored.acceptor) c.in-Ok.ensures.kept
     c.in-Ok.ensures.wanting.0 c.in-Ok.ensures.wanting.1 c.in-Ok.ensures.extended (
-      carried (AreSettings c.args.config.now) _ _ (sym c.in-Ok-restored.ensures.settings) c.in-Ok-prepared.ensures.ok.0,
+      carried (AreSettings c.args.config.now) _ _ (sym c.in-Ok-restored.ensures.settings) c.in-Ok-prepared.ensures.ok,
       c.in-Ok-restored.ensures.stage,
     )
     c.in-Err-taken.status c.in-Ok.ensures.mock (c.in-Err-taken.ensures.err other)
@@ -27,7 +27,7 @@ pub returns-in-Ok-taken-clause-ok : goal.returns-in-Ok-taken-clause-ok
 returns-in-Ok-taken-clause-ok c = answered c.args.config.now c.args.bytes.now c.args.nonce.now c.args.server.now
     c.in-Ok.kept (state_of c.in-Ok-restored.acceptor) c.in-Ok.ensures.kept c.in-Ok.ensures.wanting.0
     c.in-Ok.ensures.wanting.1 c.in-Ok.ensures.extended (
-      carried (AreSettings c.args.config.now) _ _ (sym c.in-Ok-restored.ensures.settings) c.in-Ok-prepared.ensures.ok.0,
+      carried (AreSettings c.args.config.now) _ _ (sym c.in-Ok-restored.ensures.settings) c.in-Ok-prepared.ensures.ok,
       c.in-Ok-restored.ensures.stage,
     )
     c.in-Ok-taken.made.next c.in-Ok-taken.made.taken c.in-Ok-taken.made.sent.items c.in-Ok-taken.ensures.ok
@@ -36,7 +36,7 @@ pub returns-in-Ok-taken-clause-fits : goal.returns-in-Ok-taken-clause-fits
 returns-in-Ok-taken-clause-fits c = short_answer c.args.config.now c.args.bytes.now c.args.nonce.now c.args.server.now
     c.in-Ok.kept (state_of c.in-Ok-restored.acceptor) c.in-Ok.ensures.kept c.in-Ok.ensures.wanting.0
     c.in-Ok.ensures.wanting.1 c.in-Ok.ensures.extended (
-      carried (AreSettings c.args.config.now) _ _ (sym c.in-Ok-restored.ensures.settings) c.in-Ok-prepared.ensures.ok.0,
+      carried (AreSettings c.args.config.now) _ _ (sym c.in-Ok-restored.ensures.settings) c.in-Ok-prepared.ensures.ok,
       c.in-Ok-restored.ensures.stage,
     )
     c.in-Ok-taken.made.next c.in-Ok-taken.made.taken c.in-Ok-taken.made.sent.items c.in-Ok-taken.ensures.ok
