@@ -1,6 +1,6 @@
 -- The structs of a client's side, and why there is none (AMQP 1.0, part 5, section 5.3.2).
 use Rattle.std.proofs.Common.{arith, refl, sym, ap, inl, inr, ◌∙◌, ◌≡◌, ◌≢◌, ◌<◌, ℕ, List, [], ◌∷◌, length, IsTrue, true}
-use Rattle.std.specs.Prelude.{Bool, ◌||◌, is_some, Option, Some, None, false, IfSome, MatchOption, Ok, Err, nat_eq}
+use Rattle.std.specs.Prelude.{Bool, ◌||◌, is_some, Option, Some, None, false, IfSome, MatchOption, Ok, Err, nat_eq, if◌then◌else◌}
 use Rattle.std.specs.Str.{IsUtf8}
 use Rattle.fe2o3_scram.specs.Readings.{IsFirst, NoneHolds}
 use Rattle.fe2o3_scram.specs.ScramClient.{ClientSide, identity_named}
