@@ -131,7 +131,7 @@ abbrev pub channels_size : ℕ
 channels_size = 4 * word + 3 * 64
 
 abbrev pub config_size : ℕ
-config_size = (3 * word + 4) + slice + slice + slice + channels_size + (word + 4) + slice
+config_size = 4 * word + slice + (word + 4) + slice + slice + slice + channels_size + (word + 4) + slice
 
 abbrev pub rules_size : ℕ
 rules_size = 2 * word + channels_size + 2 * word + slice
