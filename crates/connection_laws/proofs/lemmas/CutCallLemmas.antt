@@ -165,7 +165,7 @@ module _ {S : Type 0} (Answers : Expected → S → List ℕ → List ℕ → Si
   none_longer first second (inl ended) waits longer = ended (waits longer)
   none_longer first second (inr nothing) waits longer = omega (arith, longer, ap length nothing)
 
-  pub calls_end_equally : IsBytes stream → (first second : CallsOver Answers (fresh limit state) stream)
+  calls_end_equally : IsBytes stream → (first second : CallsOver Answers (fresh limit state) stream)
       → HaveOneNonceEach (pieces first) (pieces second) stream → HaveOneResult first second
   calls_end_equally are_bytes first second nonces = record {
     same_rest = λ same. calls_have_same_rests are_bytes first second same nonces;

@@ -90,7 +90,7 @@ module _ (limit : ℕ) (small : limit < 2 ^ 32) where
       let eight : 8 ≤ length body + 4 = fits.0 in omega (arith, four, long, eight)
 
   -- it leaves the side in one way
-  pub one_left_over : (turn : FrameKind) (tail : List ℕ) (progress other : Progress) → LeftOver turn limit tail progress
+  one_left_over : (turn : FrameKind) (tail : List ℕ) (progress other : Progress) → LeftOver turn limit tail progress
       → LeftOver turn limit tail other → progress ≡ other
   one_left_over turn tail progress other (inl part) (inl too) = part.1 ∙ sym too.1
   one_left_over turn tail progress other (inl part) (inr (inl size)) =

@@ -1,263 +1,260 @@
--- What a client that has selected no profile has taken, one call after the other.
-use Rattle.std.proofs.Common.{◌≡◌, ◌≢◌, ℕ, ◌+◌, ◌-◌, ◌<◌, ◌≤◌, Option, Some, None, List, [], ◌++◌, length, take, drop, refl, sym, ◌∙◌, ap, subst, inl, inr, arith, append_assoc, Result, Ok, Err}
-use Rattle.std.proofs.lemmas.List.{append-nil, length-append, length-take-le, take_all, take-append-drop, drop_at}
-use Rattle.std.proofs.Math.Seq.{take-append-add}
+-- What a client by a policy has taken, unit by unit.
+use Rattle.std.proofs.Common.{◌≡◌, ◌≢◌, ◌⊎◌, ℕ, ◌+◌, false, Option, List, [], ◌∷◌, ◌++◌, length, take, drop, refl, sym, ◌∙◌, ap, subst, inl, inr, arith, Result, Ok}
+use Rattle.std.proofs.lemmas.List.{append-nil, length-take-le, take-append-drop}
 use Rattle.fe2o3_sasl_wire.specs.SaslFrames as frames
-use Rattle.fe2o3_sasl_wire.specs.SaslFrames.{SaslFrame, IsBytes}
-use Rattle.fe2o3_sasl_wire.proofs.lemmas.reading.StepLemmas.{IsBytes-take, IsBytes-drop}
+use Rattle.fe2o3_sasl_wire.specs.SaslFrames.{SaslFrame}
 use Rattle.fe2o3_sasl_wire.specs.declared.sasl_frames.error.Error.{Error}
 use Rattle.fe2o3_sasl_core.specs.Bodies.{SpellsBody}
-use Rattle.fe2o3_sasl_core.specs.Profiles.{Profile}
-use Rattle.fe2o3_sasl_core.proofs.lemmas.frames.SpellingLemmas.{one_spelled_frame}
-use Rattle.fe2o3_sasl_negotiation.specs.ClientNegotiation.{ClientOpens}
+use Rattle.fe2o3_sasl_core.specs.Events.{Given}
+use Rattle.fe2o3_sasl_core.specs.ProfileMachine.{IsSelected}
+use Rattle.fe2o3_sasl_core.specs.Profiles.{PolicyProfile, Profile, Selection, after_init}
+use Rattle.fe2o3_sasl_core.specs.private.Writing.{is_by_policy}
+use Rattle.fe2o3_sasl_negotiation.specs.ClientNegotiation.{ClientSideAnswers}
 use Rattle.fe2o3_sasl_negotiation.specs.Connections.{LeftOver, Unanswered, fresh}
-use Rattle.fe2o3_sasl_negotiation.specs.Framing.{Fits, IsPart, IsRefused, IsWhole, framed, sasl_header, size_of}
-use Rattle.fe2o3_sasl_negotiation.specs.Negotiations.{IsInTurn, ReceivesAt, Side, SideOutput, closes}
-use Rattle.fe2o3_sasl_negotiation.specs.PolicyClient.{PolicyReceives, PolicySideAnswers, Selection, SelectsFor}
+use Rattle.fe2o3_sasl_negotiation.specs.Framing.{Fits, IsWhole, framed, sasl_header, size_of}
+use Rattle.fe2o3_sasl_negotiation.specs.Laws.{Negotiates}
+use Rattle.fe2o3_sasl_negotiation.specs.Negotiations.{Ends, Receives, Side, SideOutput}
 use Rattle.fe2o3_sasl_negotiation.specs.declared.progress.CloseReason.{CloseReason}
-use Rattle.fe2o3_sasl_negotiation.specs.declared.progress.CloseReason.TheVariants.{FrameSize, MalformedFrame, ProtocolHeaderMismatch, UnexpectedFrame}
+use Rattle.fe2o3_sasl_negotiation.specs.declared.progress.CloseReason.TheVariants.{FrameSize, ProtocolHeaderMismatch}
 use Rattle.fe2o3_sasl_negotiation.specs.declared.progress.Expected.TheVariants.{Frame}
 use Rattle.fe2o3_sasl_negotiation.specs.declared.progress.FrameKind.TheVariants as turns
-use Rattle.fe2o3_sasl_negotiation.specs.declared.progress.Progress.{Progress}
-use Rattle.fe2o3_sasl_negotiation.specs.declared.progress.Progress.TheVariants.{Failed, InProgress}
-use Rattle.fe2o3_sasl_negotiation.proofs.lemmas.ConnectionLemmas.{failed_is_not_in_progress, rests_there}
-use Rattle.fe2o3_sasl_negotiation.proofs.lemmas.CutLemmas.{nothing_is_part}
-use Rattle.fe2o3_sasl_negotiation.proofs.lemmas.FramingLemmas.{part_is_shorter, refused_is_short, size_of-append}
-use Rattle.fe2o3_sasl_negotiation.proofs.lemmas.PieceLemmas.{is_framed}
+use Rattle.fe2o3_sasl_negotiation.specs.declared.progress.Progress.TheVariants.{Authenticated, Failed, InProgress}
+use Rattle.fe2o3_sasl_negotiation.proofs.lemmas.ConnectionLemmas.{authenticated_is_not_in_progress, closed_is_not_logged_in, failed_is_not_in_progress, first_body}
 use Rattle.fe2o3_sasl_negotiation.proofs.lemmas.PolicyLawLemmas.{waiting}
-use Rattle.connection_laws.specs.PolicyClients.{IsUnselected}
-use Rattle.connection_laws.proofs.lemmas.PolicyCallLemmas.{ended_rests, offered}
+use Rattle.fe2o3_sasl_negotiation.proofs.lemmas.SelectedProfileLemmas.{selected_ordinary}
+use Rattle.fe2o3_sasl_negotiation.proofs.lemmas.UnitLemmas.{length-framed}
+use Rattle.connection_laws.specs.PolicyClients.{IsChosen, IsUnselected, SelectsNoneOf}
+use Rattle.connection_laws.proofs.lemmas.PolicyOfferLemmas.{Selects, Silent, policy_replies}
+use Rattle.connection_laws.proofs.lemmas.ProfileKindLemmas.{call_kind, chosen_like}
 
--- the bytes after a front of bytes are bytes
-pub bytes_after : (front more : List ℕ) → IsBytes (front ++ more) → IsBytes more
-bytes_after front more are = subst (λ (l : List ℕ). IsBytes l) (drop_at front more (length front) refl)
-    (IsBytes-drop (length front) (front ++ more) are)
+-- ---- a client of a selected profile
 
--- the front of some bytes, after others
-take_past : (front more : List ℕ) (k n : ℕ) → n ≡ length front + k → front ++ take k more ≡ take n (front ++ more)
-take_past front more k n is = sym (ap (λ m. take m (front ++ more)) is ∙ take-append-add front more k)
+pub ordinary_chosen : (profile : Profile) → is_by_policy profile ≡ false → IsChosen profile
+ordinary_chosen (PolicyProfile selection) of = absurd (cc)
+ordinary_chosen profile of = tt
 
--- what has arrived of the first frame, and the bytes of a call that complete it
-module _ (limit : ℕ) (tail bytes : List ℕ) (k : ℕ) (part : IsPart (Frame turns.Mechanisms) limit tail)
-    (are_bytes : IsBytes (tail ++ bytes)) (whole : IsWhole (Frame turns.Mechanisms) limit (tail ++ bytes))
-    (taken : k ≡ size_of (tail ++ bytes) - length tail) where
-  abbrev unit : List ℕ
-  unit = take (size_of (tail ++ bytes)) (tail ++ bytes)
+begun_chosen : (profile : Profile) (nonce : List ℕ) → IsChosen profile → IsChosen (after_init profile nonce)
+begun_chosen (PolicyProfile selection) nonce chosen = absurd chosen
+begun_chosen profile nonce chosen = tt
 
-  abbrev pub first_body : List ℕ
-  first_body = drop 4 unit
+units_chosen : (hostname : Option (List ℕ)) (nonces : List (List ℕ)) (side last : Side Profile) (bytes sent : List ℕ)
+    → IsChosen side.state → Negotiates (ClientSideAnswers hostname) side nonces bytes sent last → IsChosen last.state
+units_chosen hostname [] side last bytes sent chosen (nothing, inl stops) =
+    subst (λ (s : Side Profile). IsChosen s.state) (sym stops.2) chosen
+units_chosen hostname [] side last bytes sent chosen (nothing, inr stops) =
+    subst (λ (s : Side Profile). IsChosen s.state) (sym stops.2) chosen
+units_chosen hostname (nonce ∷ nonces) side last bytes sent chosen (k, first, next, later, wants, no_part, receives, more, all) =
+    units_chosen hostname nonces next last (drop k bytes) later (chosen_like side.state next.state
+    (call_kind hostname side next bytes nonce first k chosen receives) chosen) more
 
-  count : length unit ≡ size_of (tail ++ bytes)
-  count = length-take-le (size_of (tail ++ bytes)) (tail ++ bytes) whole.1
+-- ---- a client that has ended
 
-  eight : 8 ≤ size_of (tail ++ bytes)
-  eight = whole.0.0
+module _ (hostname : Option (List ℕ)) where
+  -- it takes and sends nothing
+  ended_units : (nonces : List (List ℕ)) (side last : Side Profile) (bytes sent : List ℕ) → side.progress ≢ InProgress
+      → Negotiates (ClientSideAnswers hostname) side nonces bytes sent last
+      → (bytes ≡ []) × (sent ≡ []) × (last ≡ side)
+  ended_units [] side last bytes sent ended (nothing, inl stops) = absurd (ended stops.0)
+  ended_units [] side last bytes sent ended (nothing, inr stops) = (stops.1, nothing, stops.2)
+  ended_units (nonce ∷ nonces) side last bytes sent ended (k, first, next, later, wants, no_part, receives, more, all) =
+      absurd (ended wants)
 
-  come : tail ++ take k bytes ≡ unit
-  come = let few : length tail < size_of (tail ++ bytes) =
-      part_is_shorter (Frame turns.Mechanisms) limit tail bytes part whole in
-      take_past tail bytes k (size_of (tail ++ bytes)) (omega (arith, few, taken))
+  -- a side that has closed after n bytes
+  record Closed (why : CloseReason) (n : ℕ) (bytes sent : List ℕ) (next last : Side Profile) : Type 0 where
+    pub all : bytes ≡ take n bytes
+    pub silent : sent ≡ []
+    pub progress : last.progress ≡ Failed why
+    pub state : last.state ≡ next.state
 
-  size : size_of unit ≡ size_of (tail ++ bytes)
-  size = let n = count in let e = eight in
-      sym (size_of-append unit (drop (size_of (tail ++ bytes)) (tail ++ bytes)) (omega (arith, n, e)))
-      ∙ ap size_of (take-append-drop (size_of (tail ++ bytes)) (tail ++ bytes))
+  closed : (why : CloseReason) (n k : ℕ) (nonces : List (List ℕ)) (next last : Side Profile) (bytes sent first later : List ℕ)
+      → k ≡ n → first ≡ [] → next.progress ≡ Failed why
+      → Negotiates (ClientSideAnswers hostname) next nonces (drop k bytes) later last → sent ≡ first ++ later
+      → Closed why n bytes sent next last
+  closed why n k nonces next last bytes sent first later count nothing is more all =
+      let (left, none, same) = ended_units nonces next last (drop k bytes) later
+      (λ goes. failed_is_not_in_progress why (sym is ∙ goes)) more in record {
+        all = sym (take-append-drop k bytes) ∙ (ap (λ l. take k bytes ++ l) left
+            ∙ (append-nil (take k bytes) ∙ ap (λ m. take m bytes) count));
+        silent = all ∙ (ap (λ l. l ++ later) nothing ∙ none);
+        progress = ap (λ (s : Side Profile). s.progress) same ∙ is;
+        state = ap (λ (s : Side Profile). s.state) same;
+      }
 
-  pub first_frame : tail ++ take k bytes ≡ framed (drop 4 (take (size_of (tail ++ bytes)) (tail ++ bytes)))
-  first_frame = let n = count in let e = eight in
-      come ∙ is_framed limit unit (IsBytes-take (size_of (tail ++ bytes)) (tail ++ bytes) are_bytes) (count ∙ sym size)
-      (omega (arith, n, e))
+module _ (hostname : Option (List ℕ)) (selection : Selection) (limit : ℕ) where
+  -- the first frame that was taken is an offer, from which the client has selected this profile
+  pub record Offered (taken : List ℕ) (last : Side Profile) : Type 0 where
+    pub tail : List ℕ
+    pub carried : taken ≡ sasl_header ++ tail
+    pub whole : IsWhole (Frame turns.Mechanisms) limit tail
+    pub names : List (List ℕ)
+    pub profile : Profile
+    pub spells : SpellsBody (first_body tail) (Ok (frames.Mechanisms names))
+    pub selected : IsSelected selection names profile
+    pub chosen : IsChosen last.state
 
-  pub first_fits : Fits limit (length (drop 4 (take (size_of (tail ++ bytes)) (tail ++ bytes))) + 4)
-  first_fits = let n = count in let e = eight in
-      let four : length (take 4 unit) ≡ 4 = length-take-le 4 unit (omega (arith, n, e)) in
-      let all : length (take 4 unit ++ drop 4 unit) ≡ length (take 4 unit) + length (drop 4 unit) =
-      length-append (take 4 unit) (drop 4 unit) in
-      let same : length (take 4 unit ++ drop 4 unit) ≡ length unit = ap length (take-append-drop 4 unit) in
-      let body_count : length (drop 4 unit) + 4 ≡ size_of (tail ++ bytes) = omega (arith, four, all, same, n) in
-      subst (λ (m : ℕ). Fits limit m) (sym body_count) whole.0
+  -- the first frame after the header is its size and its body
+  abbrev pub IsFramed : List ℕ → Type 0
+  IsFramed taken = (tail : List ℕ) → taken ≡ sasl_header ++ tail → IsWhole (Frame turns.Mechanisms) limit tail
+      → take (size_of tail) tail ≡ framed (first_body tail)
 
--- a size that is not allowed
-refused_size : (limit : ℕ) (tail bytes : List ℕ) (k : ℕ) → IsPart (Frame turns.Mechanisms) limit tail
-    → IsRefused (Frame turns.Mechanisms) limit (tail ++ bytes) → k ≡ 4 - length tail
-    → (length (tail ++ take k bytes) ≡ 4) × ¬ Fits limit (size_of (tail ++ take k bytes))
-refused_size limit tail bytes k part refused taken =
-    let few : length tail < 4 = refused_is_short (Frame turns.Mechanisms) limit tail bytes part refused in
-    let four : length (take 4 (tail ++ bytes)) ≡ 4 = length-take-le 4 (tail ++ bytes) refused.0 in
-    let size : size_of (take 4 (tail ++ bytes)) ≡ size_of (tail ++ bytes) =
-    sym (size_of-append (take 4 (tail ++ bytes)) (drop 4 (tail ++ bytes)) (omega (arith, four)))
-    ∙ ap size_of (take-append-drop 4 (tail ++ bytes)) in
-    let come : tail ++ take k bytes ≡ take 4 (tail ++ bytes) =
-    take_past tail bytes k 4 (omega (arith, few, taken)) in (
-      ap length come ∙ four,
-      λ (fits : Fits limit (size_of (tail ++ take k bytes))).
-          refused.1 (subst (λ (n : ℕ). Fits limit n) (ap size_of come ∙ size) fits),
+  -- what a client by the policy has taken and sent
+  abbrev pub PolicyEnds : List ℕ → List ℕ → Side Profile → Type 0
+  PolicyEnds taken sent last = ((sent ≡ []) × (last.progress ≢ Authenticated)
+      × IsUnselected selection hostname limit taken last) ⊎ Offered taken last
+
+  -- its body has an allowed size
+  pub body_fits : (tail : List ℕ) → IsWhole (Frame turns.Mechanisms) limit tail
+      → take (size_of tail) tail ≡ framed (first_body tail) → Fits limit (length (first_body tail) + 4)
+  body_fits tail whole is = subst (Fits limit) (sym (length-take-le (size_of tail) tail whole.1)
+      ∙ (ap length is ∙ length-framed (first_body tail))) whole.0
+
+  -- ---- after the header
+
+  module _ (taken tail : List ℕ) (carried : taken ≡ sasl_header ++ tail) (framed_so : IsFramed taken) where
+    -- no offer was read, and the client has closed
+    no_offer : (why : CloseReason) (n : ℕ) (sent : List ℕ) (next last : Side Profile) → Closed hostname why n tail sent next last
+        → next.state ≡ PolicyProfile selection → LeftOver turns.Mechanisms limit tail (Failed why) → PolicyEnds taken sent last
+    no_offer why n sent next last ends kept left = inl (
+      ends.silent,
+      (λ logged. closed_is_not_logged_in why (sym ends.progress ∙ logged)),
+      inr (inr (inl (record {
+        tail = tail;
+        carried = carried;
+        left = subst (LeftOver turns.Mechanisms limit tail) (sym ends.progress) left;
+        state = ends.state ∙ kept;
+        waits = λ going. absurd (failed_is_not_in_progress why (sym ends.progress ∙ going));
+      }))),
     )
 
-module _ (selection : Selection) (limit : ℕ) (next : Side (Option Profile)) (bytes nonce first : List ℕ) (k : ℕ) where
-  abbrev Answers : List ℕ → List ℕ → Side (Option Profile) → Type 0
-  Answers taken sent side = IsUnselected selection limit taken side
-
-  abbrev Is : List ℕ → Type 0
-  Is taken = IsUnselected selection limit taken next
-
-  abbrev progress_is : (other : Side (Option Profile)) → next ≡ other → next.progress ≡ other.progress
-  progress_is other is = ap (λ (n : Side (Option Profile)). n.progress) is
-
-  abbrev state_is : (other : Side (Option Profile)) → next ≡ other → next.state ≡ other.state
-  state_is other is = ap (λ (n : Side (Option Profile)). n.state) is
-
-  -- ---- after a part of a header
-
-  header_more : (taken : List ℕ) → length taken < 8
-      → ReceivesAt InProgress (PolicySideAnswers selection) (record (fresh limit None) { held = taken }) bytes nonce k first
-      next → Is (taken ++ take k bytes)
-  header_more taken few (inl (part, (all, s, is))) =
-      let whole : take k bytes ≡ bytes = take_all k bytes (omega (arith, all)) in
-      subst (λ (l : List ℕ). Is (taken ++ l)) (sym whole) (inl (part, refl, is))
-  header_more taken few (inr (inl (refused, ends))) = absurd refused
-  header_more taken few (inr (inr (answer, moved, whole, (opens, same), (t, s, is)))) = go opens
-    where
-      come : taken ++ take k bytes ≡ take 8 (taken ++ bytes)
-      come = take_past taken bytes k 8 (omega (arith, few, t))
-
-      go : ClientOpens (take 8 (taken ++ bytes)) answer → Is (taken ++ take k bytes)
-      go (inl (other, closed)) = inr (inl (
-        ap length come ∙ length-take-le 8 (taken ++ bytes) whole,
-        (λ header. other (sym come ∙ header)),
-        progress_is _ is ∙ ap (λ (a : SideOutput). a.progress) closed
-            ∙ ap (λ (h : List ℕ). Failed (ProtocolHeaderMismatch h)) (sym come),
-        state_is _ is ∙ same,
-      ))
-      go (inr (header, opens)) = inr (inr (inl (record {
-        tail = [];
-        carried = come ∙ (header ∙ sym (append-nil sasl_header));
-        left = inl (
-          nothing_is_part (Frame turns.Mechanisms) limit,
-          progress_is _ is ∙ ap (λ (a : SideOutput). a.progress) opens,
-        );
-        state = state_is _ is ∙ same;
-        waits = λ _. is ∙ (λ i. record {
-          progress = (opens i).progress;
-          expected = (opens i).expected;
-          limit = limit;
-          held = [];
-          state = same i;
-        });
-      })))
-
-  -- ---- after a part of a frame
-
-  list_more : (taken tail : List ℕ) → taken ≡ sasl_header ++ tail → IsPart (Frame turns.Mechanisms) limit tail
-      → IsBytes (tail ++ bytes) → next.state ≡ None
-      → ReceivesAt InProgress (PolicySideAnswers selection) (waiting limit tail None) bytes nonce k first next
-      → Is (taken ++ take k bytes)
-  list_more taken tail carried part are_bytes none receives = go receives
-    where
-      carries : taken ++ take k bytes ≡ sasl_header ++ (tail ++ take k bytes)
-      carries = ap (λ l. l ++ take k bytes) carried ∙ append_assoc sasl_header tail (take k bytes)
-
-      ended : (why : CloseReason) → LeftOver turns.Mechanisms limit (tail ++ take k bytes) (Failed why)
-          → next.progress ≡ Failed why → Is (taken ++ take k bytes)
-      ended why left closed = inr (inr (inl (record {
-        tail = tail ++ take k bytes;
-        carried = carries;
-        left = subst (λ (p : Progress). LeftOver turns.Mechanisms limit (tail ++ take k bytes) p) (sym closed) left;
-        state = none;
-        waits = λ going. absurd (failed_is_not_in_progress why (sym closed ∙ going));
-      })))
-
-      not_answered : (spelled : Result SaslFrame Error) (why : CloseReason) (answer : SideOutput)
-          → IsWhole (Frame turns.Mechanisms) limit (tail ++ bytes) → k ≡ size_of (tail ++ bytes) - length tail
-          → SpellsBody (drop 4 (take (size_of (tail ++ bytes)) (tail ++ bytes))) spelled
-          → Unanswered turns.Mechanisms spelled why → answer ≡ closes why (Frame turns.Mechanisms)
-          → next.progress ≡ answer.progress → Is (taken ++ take k bytes)
-      not_answered spelled why answer whole t spells unanswered closed at = ended why (inr (inr (
-        drop 4 (take (size_of (tail ++ bytes)) (tail ++ bytes)),
-        spelled,
-        why,
-        first_frame limit tail bytes k part are_bytes whole t,
-        first_fits limit tail bytes k part are_bytes whole t,
-        spells,
-        unanswered,
-        refl,
-      ))) (at ∙ ap (λ (a : SideOutput). a.progress) closed)
-
-      go : ReceivesAt InProgress (PolicySideAnswers selection) (waiting limit tail None) bytes nonce k first next
-          → Is (taken ++ take k bytes)
-      go (inl (more, (all, s, is))) =
-          let same : bytes ≡ take k bytes = sym (take_all k bytes (omega (arith, all))) in
+    list_ends : (nonces : List (List ℕ)) (sent : List ℕ) (last : Side Profile)
+        → Negotiates (ClientSideAnswers hostname) (waiting limit [] (PolicyProfile selection)) nonces tail sent last
+        → PolicyEnds taken sent last
+    list_ends [] sent last (nothing, inr (ended, none, is)) = absurd (ended refl)
+    list_ends [] sent last (nothing, inl (going, part, is)) =
+        let progress = ap (λ (s : Side Profile). s.progress) is in inl (
+          nothing,
+          (λ logged. authenticated_is_not_in_progress (sym logged ∙ progress)),
           inr (inr (inl (record {
-            tail = tail ++ take k bytes;
-            carried = carries;
-            left = inl (
-              subst (λ (l : List ℕ). IsPart (Frame turns.Mechanisms) limit (tail ++ l)) same more,
-              progress_is _ is,
-            );
-            state = none;
-            waits = λ _. is ∙ ap (λ (l : List ℕ). waiting limit (tail ++ l) None) same;
-          })))
-      go (inr (inl (refused, (t, s, is)))) =
-          let (four, not) = refused_size limit tail bytes k part refused t in
-          ended FrameSize (inr (inl (four, not, refl))) (progress_is _ is)
-      go (inr (inr (answer, state, whole, (Err fault, spells, (closed, same)), (t, s, is)))) =
-          not_answered (Err fault) (MalformedFrame fault) answer whole t spells refl closed (progress_is _ is)
-      go (inr (inr (answer, state, whole, (Ok frame, spells, inl (out, closed, same)), (t, s, is)))) =
-          not_answered (Ok frame) UnexpectedFrame answer whole t spells (out, refl) closed (progress_is _ is)
-      go (inr (inr (answer, state, whole, (Ok frame, spells, inr (in_turn, (other, spelt, selects))), (t, s, is)))) =
-          chosen other spelt selects
-          (subst (λ (f : SaslFrame). IsInTurn turns.Mechanisms f)
-          (one_spelled_frame (drop 4 (take (size_of (tail ++ bytes)) (tail ++ bytes))) frame other spells spelt) in_turn)
-        where
-          chosen : (f : SaslFrame) → SpellsBody (offered (tail ++ bytes) nonce).body (Ok f)
-              → SelectsFor selection turns.Mechanisms (offered (tail ++ bytes) nonce) f answer state → IsInTurn turns.Mechanisms f
-              → Is (taken ++ take k bytes)
-          chosen (frames.Mechanisms names) spelt (inl (unselected, closed, same)) turn = inr (inr (inr (record {
-            names = names;
-            body = drop 4 (take (size_of (tail ++ bytes)) (tail ++ bytes));
-            fits = first_fits limit tail bytes k part are_bytes whole t;
-            spells = spelt;
-            carried = carries ∙ ap (λ l. sasl_header ++ l) (first_frame limit tail bytes k part are_bytes whole t);
-            none = unselected;
-            closed = progress_is _ is ∙ ap (λ (a : SideOutput). a.progress) closed;
-            state = none;
-          })))
-          chosen (frames.Mechanisms names) spelt (inr (profile, moved, selected, replies, same)) turn =
-              let both : None ≡ Some moved = sym none ∙ (state_is _ is ∙ same) in absurd (cc)
-          chosen (frames.Init mechanism response hostname) spelt selects turn = absurd turn
-          chosen (frames.Challenge text) spelt selects turn = absurd turn
-          chosen (frames.Response text) spelt selects turn = absurd turn
-          chosen (frames.Outcome code more) spelt selects turn = absurd turn
+            tail = tail;
+            carried = carried;
+            left = inl (part, progress);
+            state = ap (λ (s : Side Profile). s.state) is;
+            waits = λ _. is;
+          }))),
+        )
+    list_ends (nonce ∷ nonces) sent last (k, first, next, later, wants, no_part, receives, more, all) = go receives
+      where
+        event : Given
+        event = record { body = first_body tail; nonce = nonce }
 
-  -- ---- a call
+        by : (answer : SideOutput) (after : Profile) → IsWhole (Frame turns.Mechanisms) limit tail
+            → Ends (waiting limit [] (PolicyProfile selection)) (size_of tail) answer after k first next
+            → Silent hostname selection event answer after ⊎ Selects hostname selection event answer after
+            → PolicyEnds taken sent last
+        by answer after whole done (inr selects) = inr (record {
+          tail = tail;
+          carried = carried;
+          whole = whole;
+          names = selects.names;
+          profile = selects.profile;
+          spells = selects.spells;
+          selected = selects.selected;
+          chosen = units_chosen hostname nonces next last (drop k tail) later
+              (subst IsChosen (sym (ap (λ (n : Side Profile). n.state) done.2 ∙ selects.begun))
+              (begun_chosen selects.profile nonce (ordinary_chosen selects.profile
+              (selected_ordinary selection selects.names selects.profile selects.selected).0))) more;
+        })
+        by answer after whole done (inl (why, shut, kept, what)) = answered what
+          where
+            ends : Closed hostname why (size_of tail) tail sent next last
+            ends = let count = done.0 in
+                closed hostname why (size_of tail) k nonces next last tail sent first later (omega (arith, count))
+                (done.1 ∙ ap (λ (a : SideOutput). a.sent) shut)
+                (ap (λ (n : Side Profile). n.progress) done.2 ∙ ap (λ (a : SideOutput). a.progress) shut) more all
 
-  rests : (taken : List ℕ) (side : Side (Option Profile)) → IsUnselected selection limit taken side
-      → side.progress ≢ InProgress → PolicyReceives selection side bytes nonce k first next → Is (taken ++ take k bytes)
-  rests taken side is ended receives = rests_there Answers taken [] bytes first k side next is
-      (ended_rests (PolicySideAnswers selection) side.progress side next bytes nonce first k ended receives)
+            one : take (size_of tail) tail ≡ framed (first_body tail)
+            one = framed_so tail carried whole
 
-  pub unselected_more : (taken : List ℕ) (side : Side (Option Profile)) → IsUnselected selection limit taken side
-      → IsBytes (taken ++ bytes) → next.state ≡ None → PolicyReceives selection side bytes nonce k first next
-      → IsUnselected selection limit (taken ++ take k bytes) next
-  unselected_more taken side (inl (few, nothing, same)) are_bytes none receives =
-      header_more taken few
-      (subst (λ (s : Side (Option Profile)). PolicyReceives selection s bytes nonce k first next) same receives)
-  unselected_more taken side (inr (inl other)) are_bytes none receives =
-      rests taken side (inr (inl other))
-      (λ going. failed_is_not_in_progress (ProtocolHeaderMismatch taken) (sym other.2 ∙ going)) receives
-  unselected_more taken side (inr (inr (inr closed))) are_bytes none receives =
-      rests taken side (inr (inr (inr closed)))
-      (λ going. failed_is_not_in_progress _ (sym closed.closed ∙ going)) receives
-  unselected_more taken side (inr (inr (inl unread))) are_bytes none receives = go unread.left
+            state : next.state ≡ PolicyProfile selection
+            state = ap (λ (n : Side Profile). n.state) done.2 ∙ kept
+
+            fits : Fits limit (length (first_body tail) + 4)
+            fits = body_fits tail whole one
+
+            answered : ((spelled : Result SaslFrame Error) × SpellsBody (first_body tail) spelled
+                × Unanswered turns.Mechanisms spelled why)
+                ⊎ ((names : List (List ℕ)) × SpellsBody (first_body tail) (Ok (frames.Mechanisms names))
+                × SelectsNoneOf selection hostname names (Failed why)) → PolicyEnds taken sent last
+            answered (inl (spelled, spells, unanswered)) = no_offer why (size_of tail) sent next last ends state
+                (inr (inr (first_body tail, spelled, why, ends.all ∙ one, fits, spells, unanswered, refl)))
+            answered (inr (names, spells, none)) = inl (
+              ends.silent,
+              (λ logged. closed_is_not_logged_in why (sym ends.progress ∙ logged)),
+              inr (inr (inr (record {
+                names = names;
+                body = first_body tail;
+                fits = fits;
+                spells = spells;
+                carried = carried ∙ ap (λ l. sasl_header ++ l) (ends.all ∙ one);
+                closed = subst (SelectsNoneOf selection hostname names) (sym ends.progress) none;
+                state = ends.state ∙ state;
+              }))),
+            )
+
+        go : Receives (ClientSideAnswers hostname) (waiting limit [] (PolicyProfile selection)) tail nonce k first next
+            → PolicyEnds taken sent last
+        go (inl (part, waits)) = absurd (no_part part)
+        go (inr (inl (refused, (t, s, is)))) =
+            let ends = closed hostname FrameSize 4 k nonces next last tail sent first later t s
+            (ap (λ (n : Side Profile). n.progress) is) more all in
+            no_offer FrameSize 4 sent next last ends (ap (λ (n : Side Profile). n.state) is)
+            (inr (inl (ap length ends.all ∙ length-take-le 4 tail refused.0, refused.1, refl)))
+        go (inr (inr (answer, after, whole, replies, done))) =
+            by answer after whole done (policy_replies hostname selection event answer after replies)
+
+  -- ---- from the first byte
+
+  pub policy_ends : (nonces : List (List ℕ)) (taken sent : List ℕ) (last : Side Profile) → IsFramed taken
+      → Negotiates (ClientSideAnswers hostname) (fresh limit (PolicyProfile selection)) nonces taken sent last
+      → PolicyEnds taken sent last
+  policy_ends [] taken sent last framed_so (nothing, inr (ended, none, is)) = absurd (ended refl)
+  policy_ends [] taken sent last framed_so (nothing, inl (going, part, is)) = inl (
+    nothing,
+    (λ logged. authenticated_is_not_in_progress (sym logged ∙ ap (λ (s : Side Profile). s.progress) is)),
+    inl (part, refl, is),
+  )
+  policy_ends (nonce ∷ nonces) taken sent last framed_so (k, first, next, later, wants, no_part, receives, more, all) =
+      go receives
     where
-      go : LeftOver turns.Mechanisms limit unread.tail side.progress → IsUnselected selection limit (taken ++ take k bytes) next
-      go (inl (part, going)) = list_more taken unread.tail unread.carried part
-          (bytes_after sasl_header (unread.tail ++ bytes)
-          (subst (λ (l : List ℕ). IsBytes l)
-          (ap (λ l. l ++ bytes) unread.carried ∙ append_assoc sasl_header unread.tail bytes) are_bytes))
-          none (subst (λ (s : Side (Option Profile)). PolicyReceives selection s bytes nonce k first next) (unread.waits going)
-          receives)
-      go (inr (inl size)) = rests taken side (inr (inr (inl unread)))
-          (λ going. failed_is_not_in_progress FrameSize (sym size.2 ∙ going)) receives
-      go (inr (inr frame)) = rests taken side (inr (inr (inl unread)))
-          (λ going. failed_is_not_in_progress frame.2 (sym frame.7 ∙ going)) receives
+      go : Receives (ClientSideAnswers hostname) (fresh limit (PolicyProfile selection)) taken nonce k first next
+          → PolicyEnds taken sent last
+      go (inl (part, waits)) = absurd (no_part part)
+      go (inr (inl (refused, ends))) = absurd refused
+      go (inr (inr (answer, after, whole, (inl (other, shut), same), (t, s, is)))) =
+          let why = ProtocolHeaderMismatch (take 8 taken) in
+          let ends = closed hostname why 8 k nonces next last taken sent first later t
+          (s ∙ ap (λ (a : SideOutput). a.sent) shut)
+          (ap (λ (n : Side Profile). n.progress) is ∙ ap (λ (a : SideOutput). a.progress) shut) more all in inl (
+            ends.silent,
+            (λ logged. closed_is_not_logged_in why (sym ends.progress ∙ logged)),
+            inr (inl (
+              ap length ends.all ∙ length-take-le 8 taken whole,
+              (λ header. other (sym ends.all ∙ header)),
+              ends.progress ∙ ap (λ (h : List ℕ). Failed (ProtocolHeaderMismatch h)) (sym ends.all),
+              ends.state ∙ (ap (λ (n : Side Profile). n.state) is ∙ same),
+            )),
+          )
+      go (inr (inr (answer, after, whole, (inr (header, opens), same), (t, s, is)))) =
+          let opened : next ≡ waiting limit [] (PolicyProfile selection) = is ∙ (λ i. record {
+            progress = (opens i).progress;
+            expected = (opens i).expected;
+            limit = limit;
+            held = [];
+            state = same i;
+          }) in
+          subst (λ (l : List ℕ). PolicyEnds taken l last)
+          (sym (all ∙ ap (λ l. l ++ later) (s ∙ ap (λ (a : SideOutput). a.sent) opens)))
+          (list_ends taken (drop 8 taken) (sym (take-append-drop 8 taken) ∙ ap (λ l. l ++ drop 8 taken) header) framed_so
+          nonces later last (subst (λ (n : ℕ). Negotiates (ClientSideAnswers hostname)
+          (waiting limit [] (PolicyProfile selection)) nonces (drop n taken) later last) t
+          (subst (λ (n : Side Profile). Negotiates (ClientSideAnswers hostname) n nonces (drop k taken) later last) opened more)))

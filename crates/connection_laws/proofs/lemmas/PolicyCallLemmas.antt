@@ -1,234 +1,261 @@
--- One call of a client that selects its mechanism from the server's offer, before it has selected one.
-use Rattle.std.proofs.Common.{◌≡◌, ◌≢◌, ◌⊎◌, ℕ, ◌-◌, Option, Some, None, List, [], ◌++◌, length, take, drop, refl, sym, ◌∙◌, ap, subst, inl, inr, Ok, Err}
-use Rattle.fe2o3_sasl_wire.specs.SaslFrames as frames
-use Rattle.fe2o3_sasl_wire.specs.SaslFrames.{SaslFrame}
-use Rattle.fe2o3_sasl_core.specs.Bodies.{SpellsBody}
+-- Calls of a client before it has answered an offer: they do not depend on its profile.
+use Rattle.std.proofs.Common.{◌≡◌, ◌≢◌, ◌⊎◌, ℕ, ◌≤◌, Option, List, [], ◌∷◌, ◌++◌, length, take, drop, refl, sym, ◌∙◌, ap, subst, inl, inr, arith, append_assoc}
+use Rattle.std.proofs.lemmas.List.{append-nil, length-take, take-take, take_all, take-append-drop, take-append-le, drop_at}
+use Rattle.bytes.proofs.Ranges.{take-append_past}
 use Rattle.fe2o3_sasl_core.specs.Events.{Given}
 use Rattle.fe2o3_sasl_core.specs.Profiles.{Profile}
-use Rattle.fe2o3_sasl_negotiation.specs.ClientNegotiation.{ClientReceives}
-use Rattle.fe2o3_sasl_negotiation.specs.Framing.{size_of, IsWhole}
-use Rattle.fe2o3_sasl_negotiation.specs.Negotiations.{ReceivesAt, Rests, Side, SideOutput}
-use Rattle.fe2o3_sasl_negotiation.specs.PolicyClient.{IsSelected, PolicyReceives, PolicySideAnswers, Selection, SelectsFor}
+use Rattle.fe2o3_sasl_negotiation.specs.ClientNegotiation.{ClientReceives, ClientReplies, ClientSideAnswers}
+use Rattle.fe2o3_sasl_negotiation.specs.Connections.{fresh}
+use Rattle.fe2o3_sasl_negotiation.specs.Framing.{IsPart, IsWhole, sasl_header, size_of, unit_size}
+use Rattle.fe2o3_sasl_negotiation.specs.Laws.{Call, Calls}
+use Rattle.fe2o3_sasl_negotiation.specs.Negotiations.{Ends, ReceivesAt, Side, SideOutput}
 use Rattle.fe2o3_sasl_negotiation.specs.PolicyLaws.{side_in_state}
-use Rattle.fe2o3_sasl_negotiation.specs.declared.progress.CloseReason.{CloseReason}
+use Rattle.fe2o3_sasl_negotiation.specs.declared.progress.CloseReason.TheVariants.{FrameSize, ProtocolHeaderMismatch}
 use Rattle.fe2o3_sasl_negotiation.specs.declared.progress.Expected.{Expected}
 use Rattle.fe2o3_sasl_negotiation.specs.declared.progress.Expected.TheVariants.{Header, Frame}
 use Rattle.fe2o3_sasl_negotiation.specs.declared.progress.FrameKind.TheVariants as turns
 use Rattle.fe2o3_sasl_negotiation.specs.declared.progress.Progress.{Progress}
 use Rattle.fe2o3_sasl_negotiation.specs.declared.progress.Progress.TheVariants.{Authenticated, Failed, InProgress}
-use Rattle.fe2o3_sasl_negotiation.proofs.lemmas.ConnectionLemmas.{failed_is_not_in_progress}
-use Rattle.fe2o3_sasl_negotiation.proofs.lemmas.PolicyLawLemmas.{sent_is, waiting}
+use Rattle.fe2o3_sasl_negotiation.proofs.lemmas.ConnectionLemmas.{authenticated_is_not_in_progress, failed_is_not_in_progress, first_body}
+use Rattle.fe2o3_sasl_negotiation.proofs.lemmas.CutLemmas.{nothing_is_part}
+use Rattle.fe2o3_sasl_negotiation.proofs.lemmas.FramingLemmas.{size_of-append}
+use Rattle.fe2o3_sasl_negotiation.proofs.lemmas.KindLemmas.{closes_waits_not}
+use Rattle.connection_laws.proofs.lemmas.PolicyOfferLemmas.{Alike, AnswersAlike}
+use Rattle.connection_laws.proofs.lemmas.RestLemmas.{taken_within}
 
--- a side at its end rests
-pub ended_rests : {S : Type 0} (Answers : Expected → S → List ℕ → List ℕ → SideOutput → S → Type 0) (progress : Progress)
-    (side next : Side S) (bytes nonce sent : List ℕ) (taken : ℕ) → progress ≢ InProgress
-    → ReceivesAt progress Answers side bytes nonce taken sent next → Rests side taken sent next
-ended_rests Answers InProgress side next bytes nonce sent taken ended receives = absurd (ended refl)
-ended_rests Answers Authenticated side next bytes nonce sent taken ended receives = receives
-ended_rests Answers (Failed why) side next bytes nonce sent taken ended receives = receives
+-- this is expected after these bytes: the header, or the list of mechanisms
+abbrev AwaitsAfter : List ℕ → Expected → Type 0
+AwaitsAfter front expected = ((front ≡ []) × (expected ≡ Header))
+    ⊎ ((front ≡ sasl_header) × (expected ≡ Frame turns.Mechanisms))
 
--- the client has selected no profile; while it waits, the header or the list of mechanisms is expected
-abbrev pub Early : Side (Option Profile) → Type 0
-Early side = (side.state ≡ None)
-    × (side.progress ≡ InProgress → (side.expected ≡ Header) ⊎ (side.expected ≡ Frame turns.Mechanisms))
+-- a side that goes on waits for the header or for the list of mechanisms, of which it holds what has arrived
+abbrev pub Early : List ℕ → Side Profile → Type 0
+Early taken side = side.progress ≡ InProgress → (front : List ℕ) × (taken ≡ front ++ side.held)
+    × IsPart side.expected side.limit side.held × AwaitsAfter front side.expected
 
--- the event of the frame with which these bytes begin
-abbrev pub offered : List ℕ → List ℕ → Given
-offered come nonce = record { body = drop 4 (take (size_of come) come); nonce = nonce }
+pub fresh_early : (limit : ℕ) (profile : Profile) → Early [] (fresh limit profile)
+fresh_early limit profile = λ _. ([], refl, nothing_is_part Header limit, inl (refl, refl))
 
-module _ (selection : Selection) (next : Side (Option Profile)) (bytes nonce sent : List ℕ) (taken : ℕ) where
-  -- a call that selects nothing sends nothing, and does what it does to a client of any profile, or the side has ended
-  abbrev pub Stays : Side (Option Profile) → Type 0
-  Stays side = (sent ≡ []) × Early next
-      × (((profile : Profile) → ClientReceives selection.hostname (side_in_state side profile) bytes nonce taken sent
-      (side_in_state next profile)) ⊎ (next.progress ≢ InProgress))
+-- the first frame does not depend on what follows it
+pub first_in : (limit : ℕ) (come more : List ℕ) → IsWhole (Frame turns.Mechanisms) limit come
+    → first_body (come ++ more) ≡ first_body come
+first_in limit come more whole =
+    let eight : 8 ≤ size_of come = whole.0.0 in
+    let within : size_of come ≤ length come = whole.1 in
+    ap (λ n. drop 4 (take n (come ++ more))) (size_of-append come more (omega (arith, eight, within)))
+    ∙ ap (drop 4) (take-append-le (size_of come) come more within)
 
-  -- a call that completes an offer does what it does to a client of the selected profile
-  pub record Takes (side : Side (Option Profile)) : Type 0 where
-    pub names : List (List ℕ)
-    pub profile : Profile
-    pub moved : Profile
-    pub going : side.progress ≡ InProgress
-    pub expects : side.expected ≡ Frame turns.Mechanisms
-    pub whole : IsWhole (Frame turns.Mechanisms) side.limit (side.held ++ bytes)
-    pub spells : SpellsBody (drop 4 (take (size_of (side.held ++ bytes)) (side.held ++ bytes)))
-        (Ok (frames.Mechanisms names))
-    pub count : taken ≡ size_of (side.held ++ bytes) - length side.held
-    pub selected : IsSelected selection names profile
-    pub state : next.state ≡ Some moved
-    pub receives : ClientReceives selection.hostname (side_in_state side profile) bytes nonce taken sent
-        (side_in_state next moved)
+-- a stream in two parts
+parts : (taken stream : List ℕ) (k : ℕ) → (taken ++ take k stream) ++ drop k stream ≡ taken ++ stream
+parts taken stream k =
+    append_assoc taken (take k stream) (drop k stream) ∙ ap (λ l. taken ++ l) (take-append-drop k stream)
 
-  -- the side after a call
-  after : (other : Side (Option Profile)) → next ≡ other → other.state ≡ None
-      → (other.progress ≡ InProgress → (other.expected ≡ Header) ⊎ (other.expected ≡ Frame turns.Mechanisms)) → Early next
-  after other is none expects = subst Early (sym is) (none, expects)
+-- ---- one call
 
-  in_profile : (profile : Profile) (other : Side (Option Profile)) → next ≡ other
-      → side_in_state next profile ≡ side_in_state other profile
-  in_profile profile other is = ap (λ (n : Side (Option Profile)). side_in_state n profile) is
+module _ (hostname : Option (List ℕ)) (state : Profile) (taken stream nonce first : List ℕ) (handed k : ℕ)
+    (side next : Side Profile) where
+  abbrev bytes : List ℕ
+  bytes = take handed stream
 
-  -- where it closes
-  closed_early : (why : CloseReason) (state : Option Profile) → next.progress ≡ Failed why → next.state ≡ None → Early next
-  closed_early why state closed none = (none, λ going. absurd (failed_is_not_in_progress why (sym closed ∙ going)))
+  abbrev come : List ℕ
+  come = side.held ++ take handed stream
 
-  -- ---- while a header is expected
+  -- the event of the first frame
+  abbrev pub first_event : Given
+  first_event = record { body = first_body (drop 8 (taken ++ stream)); nonce = nonce }
 
-  abbrev at_header : ℕ → List ℕ → Side (Option Profile)
-  at_header limit held =
-      record { progress = InProgress; expected = Header; limit = limit; held = held; state = None }
+  -- the call, to a client of one profile, that is one of another then
+  abbrev Makes : Profile → Profile → Type 0
+  Makes before after = ClientReceives hostname (side_in_state side before) bytes nonce k first (side_in_state next after)
 
-  header_step : (limit : ℕ) (held : List ℕ)
-      → ReceivesAt InProgress (PolicySideAnswers selection) (at_header limit held) bytes nonce taken sent next
-      → Stays (at_header limit held)
-  header_step limit held (inl (part, (t, s, is))) =
-      (s, after _ is refl (λ _. inl refl), inl (λ profile. inl (part, (t, s, in_profile profile _ is))))
-  header_step limit held (inr (inl (refused, ends))) = absurd refused
-  header_step limit held (inr (inr (answer, state, whole, (inl (other, closed), same), (t, s, is)))) = (
-    s ∙ sent_is answer _ closed,
-    closed_early _ state (ap (λ (n : Side (Option Profile)). n.progress) is
-        ∙ ap (λ (a : SideOutput). a.progress) closed) (ap (λ (n : Side (Option Profile)). n.state) is ∙ same),
-    inl (λ profile. inr (inr (answer, profile, whole, (inl (other, closed), refl), (t, s, in_profile profile _ is)))),
-  )
-  header_step limit held (inr (inr (answer, state, whole, (inr (header, opens), same), (t, s, is)))) = (
-    s ∙ sent_is answer _ opens,
-    (
-      ap (λ (n : Side (Option Profile)). n.state) is ∙ same,
-      λ _. inr (ap (λ (n : Side (Option Profile)). n.expected) is ∙ ap (λ (a : SideOutput). a.expected) opens),
-    ),
-    inl (λ profile. inr (inr (answer, profile, whole, (inr (header, opens), refl), (t, s, in_profile profile _ is)))),
-  )
+  -- no frame is answered
+  abbrev pub Stays : Type 0
+  Stays = (next.state ≡ state) × Early (taken ++ take k stream) next
+      × (next.progress ≡ InProgress → side.progress ≡ InProgress) × ((other : Profile) → Makes other other)
 
-  -- ---- while the list of mechanisms is expected
+  -- or the list of mechanisms
+  abbrev pub Answers : Type 0
+  Answers = (side.progress ≡ InProgress) × (answer : SideOutput) × (next.progress ≡ answer.progress)
+      × ClientReplies hostname turns.Mechanisms state first_event answer next.state
+      × ((other end : Profile) → ClientReplies hostname turns.Mechanisms other first_event answer end → Makes other end)
 
-  list_step : (limit : ℕ) (held : List ℕ)
-      → ReceivesAt InProgress (PolicySideAnswers selection) (waiting limit held None) bytes nonce taken sent next
-      → Stays (waiting limit held None) ⊎ Takes (waiting limit held None)
-  list_step limit held (inl (part, (t, s, is))) =
-      inl (s, after _ is refl (λ _. inr refl), inl (λ profile. inl (part, (t, s, in_profile profile _ is))))
-  list_step limit held (inr (inl (refused, (t, s, is)))) = inl (
-    s,
-    closed_early _ None (ap (λ (n : Side (Option Profile)). n.progress) is)
-        (ap (λ (n : Side (Option Profile)). n.state) is),
-    inl (λ profile. inr (inl (refused, (t, s, in_profile profile _ is)))),
-  )
-  list_step limit held (inr (inr (answer, state, whole, (Err fault, spells, (closed, same)), (t, s, is)))) = inl (
-    s ∙ sent_is answer _ closed,
-    closed_early _ state (ap (λ (n : Side (Option Profile)). n.progress) is
-        ∙ ap (λ (a : SideOutput). a.progress) closed) (ap (λ (n : Side (Option Profile)). n.state) is ∙ same),
-    inl (λ profile. inr (inr (answer, profile, whole, (Err fault, spells, (closed, refl)), (t, s, in_profile profile _ is)))),
-  )
-  list_step limit held (inr (inr (answer, state, whole, (Ok frame, spells, inl (out, closed, same)), (t, s, is)))) = inl (
-    s ∙ sent_is answer _ closed,
-    closed_early _ state (ap (λ (n : Side (Option Profile)). n.progress) is
-        ∙ ap (λ (a : SideOutput). a.progress) closed) (ap (λ (n : Side (Option Profile)). n.state) is ∙ same),
-    inl (λ profile. inr (inr (
+  module _ (receives : ClientReceives hostname (side_in_state side state) bytes nonce k first next)
+      (early : Early taken side) where
+    here : take k bytes ≡ take k stream
+    here = let within : k ≤ length (take handed stream) = taken_within (ClientSideAnswers hostname)
+        (side_in_state side state) next (take handed stream) nonce first k side.progress receives in
+        take-take k handed stream (omega (arith, within, length-take handed stream))
+
+    makes : (progress : Progress) → side.progress ≡ progress → (before after : Profile)
+        → ReceivesAt progress (ClientSideAnswers hostname) (side_in_state side before) bytes nonce k first
+        (side_in_state next after) → Makes before after
+    makes progress is before after = subst (λ (p : Progress). ReceivesAt p (ClientSideAnswers hostname)
+        (side_in_state side before) bytes nonce k first (side_in_state next after)) (sym is)
+
+    -- the next side with another profile
+    turned : (other : Profile) (end : Side Profile) → next ≡ end → side_in_state next other ≡ side_in_state end other
+    turned other end is = ap (λ (n : Side Profile). side_in_state n other) is
+
+    -- a whole unit is answered
+    abbrev Whole : Expected → Profile → Profile → SideOutput → Side Profile → Type 0
+    Whole expected before after answer end = IsWhole expected side.limit come
+        × ClientSideAnswers hostname expected before nonce (take (unit_size expected come) come) answer after
+        × Ends (side_in_state side before) (unit_size expected come) answer after k first end
+
+    makes_whole : (expected : Expected) → side.expected ≡ expected → side.progress ≡ InProgress → (before after : Profile)
+        (answer : SideOutput) → Whole expected before after answer (side_in_state next after) → Makes before after
+    makes_whole expected expects going before after answer unit =
+        let same = subst (λ (e : Expected). Whole e before after answer (side_in_state next after)) (sym expects) unit in
+        makes InProgress going before after (inr (inr (answer, after, same.0, same.1, same.2)))
+
+    -- a side that does not go on
+    ends : (progress : Progress) → next.progress ≡ progress → progress ≢ InProgress → next.state ≡ state
+        → ((other : Profile) → Makes other other) → Stays
+    ends progress is ended kept others =
+        (kept, (λ goes. absurd (ended (sym is ∙ goes))), (λ goes. absurd (ended (sym is ∙ goes))), others)
+
+    at_header : side.progress ≡ InProgress → side.expected ≡ Header → IsPart Header side.limit side.held
+        → taken ≡ side.held → (after : Profile) (answer : SideOutput) → Whole Header state after answer next → Stays
+    at_header going expects part held after answer (whole, (inl (other, closed), same), (t, s, is)) =
+        let why = ProtocolHeaderMismatch (take 8 come) in
+        ends (Failed why) (ap (λ (n : Side Profile). n.progress) is ∙ ap (λ (a : SideOutput). a.progress) closed)
+        (failed_is_not_in_progress why) (ap (λ (n : Side Profile). n.state) is ∙ same)
+        (λ profile. makes_whole Header expects going profile profile answer
+        (whole, (inl (other, closed), refl), (t, s, turned profile _ is)))
+    at_header going expects part held after answer (whole, (inr (header, opens), same), (t, s, is)) = (
+      ap (λ (n : Side Profile). n.state) is ∙ same,
+      subst (Early (taken ++ take k stream)) (sym (is ∙ ap (λ (a : SideOutput). record {
+        progress = a.progress;
+        expected = a.expected;
+        limit = side.limit;
+        held = [];
+        state = after;
+      }) opens)) (λ _. (sasl_header, arrived, nothing_is_part (Frame turns.Mechanisms) side.limit, inr (refl, refl))),
+      (λ _. going),
+      λ profile. makes_whole Header expects going profile profile answer
+          (whole, (inr (header, opens), refl), (t, s, turned profile _ is)),
+    )
+      where
+        arrived : taken ++ take k stream ≡ sasl_header ++ []
+        arrived = ap (λ l. l ++ take k stream) held ∙ (ap (λ l. side.held ++ l) (sym here)
+            ∙ (sym (take-append_past side.held bytes k 8 (omega (arith, part, t)))
+            ∙ (header ∙ sym (append-nil sasl_header))))
+
+    at_list : side.progress ≡ InProgress → side.expected ≡ Frame turns.Mechanisms → taken ≡ sasl_header ++ side.held
+        → (after : Profile) (answer : SideOutput) → Whole (Frame turns.Mechanisms) state after answer next → Answers
+    at_list going expects carried after answer (whole, replies, (t, s, is)) = (
+      going,
       answer,
-      profile,
-      whole,
-      (Ok frame, spells, inl (out, closed, refl)),
-      (t, s, in_profile profile _ is),
-    ))),
+      ap (λ (n : Side Profile). n.progress) is,
+      subst (λ (p : Profile). ClientReplies hostname turns.Mechanisms state first_event answer p)
+          (sym (ap (λ (n : Side Profile). n.state) is)) (subst (λ (b : List ℕ). Replies b state after) body replies),
+      λ other end answers. makes_whole (Frame turns.Mechanisms) expects going other end answer
+          (whole, subst (λ (b : List ℕ). Replies b other end) (sym body) answers, (t, s, turned end _ is)),
+    )
+      where
+        Replies : List ℕ → Profile → Profile → Type 0
+        Replies b before end = ClientReplies hostname turns.Mechanisms before (record { body = b; nonce = nonce }) answer end
+
+        body : first_body come ≡ first_body (drop 8 (taken ++ stream))
+        body = sym (first_in side.limit come (drop handed stream) whole) ∙ ap first_body (parts side.held stream handed
+            ∙ (sym (drop_at sasl_header (side.held ++ stream) 8 refl)
+            ∙ ap (drop 8) (sym (append_assoc sasl_header side.held stream) ∙ ap (λ l. l ++ stream) (sym carried))))
+
+    at : (progress : Progress) → side.progress ≡ progress
+        → ReceivesAt progress (ClientSideAnswers hostname) (side_in_state side state) bytes nonce k first next
+        → Stays ⊎ Answers
+    at InProgress going (inl (part, (t, s, is))) = inl (
+      ap (λ (n : Side Profile). n.state) is,
+      subst (Early (taken ++ take k stream)) (sym is) (λ _. let (front, carried, few, awaits) = early going in (
+        front,
+        ap (λ l. l ++ take k stream) carried ∙ (append_assoc front side.held (take k stream)
+            ∙ ap (λ l. front ++ (side.held ++ l)) (sym here ∙ take_all k bytes (omega (arith, t)))),
+        part,
+        awaits,
+      )),
+      (λ _. going),
+      λ other. makes InProgress going other other (inl (part, (t, s, turned other _ is))),
+    )
+    at InProgress going (inr (inl (refused, (t, s, is)))) = inl (ends (Failed FrameSize)
+        (ap (λ (n : Side Profile). n.progress) is) (failed_is_not_in_progress FrameSize)
+        (ap (λ (n : Side Profile). n.state) is)
+        (λ other. makes InProgress going other other (inr (inl (refused, (t, s, turned other _ is))))))
+    at InProgress going (inr (inr (answer, after, whole, answers, done))) = go (early going)
+      where
+        go : (front : List ℕ) × (taken ≡ front ++ side.held) × IsPart side.expected side.limit side.held
+            × AwaitsAfter front side.expected → Stays ⊎ Answers
+        go (front, carried, part, inl (none, expects)) = inl (at_header going expects
+            (subst (λ (e : Expected). IsPart e side.limit side.held) expects part) (carried ∙ ap (λ l. l ++ side.held) none)
+            after answer (subst (λ (e : Expected). Whole e state after answer next) expects (whole, answers, done)))
+        go (front, carried, part, inr (header, expects)) = inr (at_list going expects
+            (carried ∙ ap (λ l. l ++ side.held) header) after answer
+            (subst (λ (e : Expected). Whole e state after answer next) expects (whole, answers, done)))
+    at Authenticated ended (t, s, is) = inl (ends Authenticated (ap (λ (n : Side Profile). n.progress) is ∙ ended)
+        authenticated_is_not_in_progress (ap (λ (n : Side Profile). n.state) is)
+        (λ other. makes Authenticated ended other other (t, s, turned other _ is)))
+    at (Failed why) ended (t, s, is) = inl (ends (Failed why) (ap (λ (n : Side Profile). n.progress) is ∙ ended)
+        (failed_is_not_in_progress why) (ap (λ (n : Side Profile). n.state) is)
+        (λ other. makes (Failed why) ended other other (t, s, turned other _ is)))
+
+    pub early_call : Stays ⊎ Answers
+    early_call = at side.progress refl receives
+
+-- ---- calls
+
+-- two clients end in one side, or both keep their profiles
+abbrev pub EndsLike : Profile → Profile → Side Profile → Side Profile → Type 0
+EndsLike state other last end = (end ≡ last) ⊎ ((last.state ≡ state) × (end ≡ side_in_state last other))
+
+module _ (hostname : Option (List ℕ)) (profile state other : Profile) (body : List ℕ)
+    (alike : AnswersAlike hostname profile body state other) where
+  -- calls of the other client
+  abbrev Remakes : Side Profile → List Call → List ℕ → List ℕ → Side Profile → List ℕ → Type 0
+  Remakes side calls stream sent last rest = (end : Side Profile) × EndsLike state other last end
+      × Calls (ClientReceives hostname) (side_in_state side other) calls stream sent end rest
+
+  pub alike_calls : (calls : List Call) (taken : List ℕ) (side last : Side Profile) (stream sent rest : List ℕ)
+      → Early taken side → first_body (drop 8 (taken ++ stream)) ≡ body
+      → Calls (ClientReceives hostname) (side_in_state side state) calls stream sent last rest
+      → Remakes side calls stream sent last rest
+  alike_calls [] taken side last stream sent rest early is (nothing, same, left) = (
+    side_in_state side other,
+    inr (ap (λ (s : Side Profile). s.state) same, ap (λ (s : Side Profile). side_in_state s other) (sym same)),
+    (nothing, refl, left),
   )
-  list_step limit held
-      (inr (inr (answer, state, whole, (Ok frame, spells, inr (in_turn, (other, spelt, selects))), (t, s, is)))) =
-      go other spelt selects
+  alike_calls (call ∷ calls) taken side last stream sent rest early is (k, first, next, later, receives, made, all) =
+      go (λ kept still. alike_calls calls (taken ++ take k stream) next last (drop k stream) later rest still
+      (ap (λ (l : List ℕ). first_body (drop 8 l)) (parts taken stream k) ∙ is)
+      (subst (λ (p : Profile). Calls (ClientReceives hostname) (side_in_state next p) calls (drop k stream) later last rest)
+      kept made))
+      (early_call hostname state taken stream call.nonce first call.handed k side next receives early)
     where
-      closes_here : (why : CloseReason) (kept : Option Profile) → kept ≡ state → answer.sent ≡ []
-          → answer.progress ≡ Failed why → kept ≡ None → Stays (waiting limit held None)
-      closes_here why kept at nothing closed none =
-          let ended = ap (λ (n : Side (Option Profile)). n.progress) is ∙ closed in (
-            s ∙ nothing,
-            closed_early why state ended (ap (λ (n : Side (Option Profile)). n.state) is ∙ (sym at ∙ none)),
-            inr (λ going. failed_is_not_in_progress why (sym ended ∙ going)),
-          )
+      One : Profile → Type 0
+      One end = ClientReceives hostname (side_in_state side other) (take call.handed stream) call.nonce k first
+          (side_in_state next end)
 
-      go : (other : SaslFrame) → SpellsBody (offered (held ++ bytes) nonce).body (Ok other)
-          → SelectsFor selection turns.Mechanisms (offered (held ++ bytes) nonce) other answer state
-          → Stays (waiting limit held None) ⊎ Takes (waiting limit held None)
-      go (frames.Mechanisms names) spelt (inl (none, closed, same)) =
-          inl (closes_here _ state refl (sent_is answer _ closed) (ap (λ (a : SideOutput). a.progress) closed) same)
-      go (frames.Mechanisms names) spelt (inr (profile, moved, selected, replies, same)) = inr (record {
-        names = names;
-        profile = profile;
-        moved = moved;
-        going = refl;
-        expects = refl;
-        whole = whole;
-        spells = spelt;
-        count = t;
-        selected = selected;
-        state = ap (λ (n : Side (Option Profile)). n.state) is ∙ same;
-        receives = inr (inr (answer, moved, whole, replies, (t, s, in_profile moved _ is)));
-      })
-      go (frames.Init mechanism response hostname) spelt (closed, same) =
-          inl (closes_here _ state refl (sent_is answer _ closed) (ap (λ (a : SideOutput). a.progress) closed) same)
-      go (frames.Challenge text) spelt (closed, same) =
-          inl (closes_here _ state refl (sent_is answer _ closed) (ap (λ (a : SideOutput). a.progress) closed) same)
-      go (frames.Response text) spelt (closed, same) =
-          inl (closes_here _ state refl (sent_is answer _ closed) (ap (λ (a : SideOutput). a.progress) closed) same)
-      go (frames.Outcome code more) spelt (closed, same) =
-          inl (closes_here _ state refl (sent_is answer _ closed) (ap (λ (a : SideOutput). a.progress) closed) same)
+      Replies : Profile → SideOutput → List ℕ → Profile → Type 0
+      Replies before answer b end =
+          ClientReplies hostname turns.Mechanisms before (record { body = b; nonce = call.nonce }) answer end
 
-  -- ---- a call
+      more : One other → Remakes next calls (drop k stream) later last rest → Remakes side (call ∷ calls) stream sent last rest
+      more one (end, like, others) = (end, like, (k, first, side_in_state next other, later, one, others, all))
 
-  waits_header : (side : Side (Option Profile)) → side.progress ≡ InProgress → side.state ≡ None → side.expected ≡ Header
-      → side ≡ at_header side.limit side.held
-  waits_header side going none expects = λ i. record {
-    progress = going i;
-    expected = expects i;
-    limit = side.limit;
-    held = side.held;
-    state = none i;
-  }
+      go : (next.state ≡ state → Early (taken ++ take k stream) next → Remakes next calls (drop k stream) later last rest)
+          → Stays hostname state taken stream call.nonce first call.handed k side next
+          ⊎ Answers hostname state taken stream call.nonce first call.handed k side next
+          → Remakes side (call ∷ calls) stream sent last rest
+      go others (inl (kept, still, going, acts)) = more (acts other) (others kept still)
+      go others (inr (going, answer, progress, replies, acts)) =
+          by (alike call.nonce answer next.state
+          (subst (λ (b : List ℕ). Replies state answer b next.state) is replies))
+        where
+          act : (end next_state : Profile) → Replies other answer body end → end ≡ next_state → One next_state
+          act end next_state answers same = subst One same
+              (acts other end (subst (λ (b : List ℕ). Replies other answer b end) (sym is) answers))
 
-  waits_list : (side : Side (Option Profile)) → side.progress ≡ InProgress → side.state ≡ None
-      → side.expected ≡ Frame turns.Mechanisms → side ≡ waiting side.limit side.held None
-  waits_list side going none expects = λ i. record {
-    progress = going i;
-    expected = expects i;
-    limit = side.limit;
-    held = side.held;
-    state = none i;
-  }
-
-  early_step_at : (side : Side (Option Profile)) (progress : Progress) → side.progress ≡ progress → Early side
-      → PolicyReceives selection side bytes nonce taken sent next → Stays side ⊎ Takes side
-  early_step_at side InProgress going (none, expects) receives = go (expects going)
-    where
-      go : (side.expected ≡ Header) ⊎ (side.expected ≡ Frame turns.Mechanisms) → Stays side ⊎ Takes side
-      go (inl header) =
-          let same = waits_header side going none header in
-          inl (subst Stays (sym same) (header_step side.limit side.held
-          (subst (λ (s : Side (Option Profile)). PolicyReceives selection s bytes nonce taken sent next) same receives)))
-      go (inr list) =
-          let same = waits_list side going none list in
-          subst (λ (s : Side (Option Profile)). Stays s ⊎ Takes s) (sym same) (list_step side.limit side.held
-          (subst (λ (s : Side (Option Profile)). PolicyReceives selection s bytes nonce taken sent next) same receives))
-  early_step_at side Authenticated ended early receives =
-      let (t, s, is) = ended_rests (PolicySideAnswers selection) side.progress side next bytes nonce sent taken
-      (λ going. apart (sym ended ∙ going)) receives in
-      inl (
-        s,
-        subst Early (sym is) early,
-        inr (λ going. apart (sym ended
-            ∙ (sym (ap (λ (n : Side (Option Profile)). n.progress) is) ∙ going))),
-      )
-    where
-      apart : Authenticated ≢ InProgress
-      apart same = cc
-  early_step_at side (Failed why) ended early receives =
-      let (t, s, is) = ended_rests (PolicySideAnswers selection) side.progress side next bytes nonce sent taken
-      (λ going. failed_is_not_in_progress why (sym ended ∙ going)) receives in
-      inl (
-        s,
-        subst Early (sym is) early,
-        inr (λ going. failed_is_not_in_progress why (sym ended
-            ∙ (sym (ap (λ (n : Side (Option Profile)). n.progress) is) ∙ going))),
-      )
-
-pub early_step : (selection : Selection) (side next : Side (Option Profile)) (bytes nonce sent : List ℕ) (taken : ℕ)
-    → Early side → PolicyReceives selection side bytes nonce taken sent next
-    → Stays selection next bytes nonce sent taken side ⊎ Takes selection next bytes nonce sent taken side
-early_step selection side next bytes nonce sent taken early receives =
-    early_step_at selection next bytes nonce sent taken side side.progress refl early receives
+          by : Alike hostname profile state other (record { body = body; nonce = call.nonce }) answer next.state
+              → Remakes side (call ∷ calls) stream sent last rest
+          by (end, answers, inl (same, begun)) =
+              (last, inl refl, (k, first, next, later, act end next.state answers same, made, all))
+          by (end, answers, inr (none, closed, kept, same)) = more (act end other answers same)
+              (others kept (λ goes. absurd (closes_waits_not _ _ answer closed (sym progress ∙ goes))))

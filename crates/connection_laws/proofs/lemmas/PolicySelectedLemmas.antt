@@ -1,328 +1,279 @@
--- Calls of a client that selects its mechanism from the server's offer: `selected_clients_act_as_profile` and
--- `unselected_clients_send_nothing`.
-use Rattle.std.proofs.Common.{◌≡◌, ◌≢◌, ◌⊎◌, ℕ, ◌+◌, ◌-◌, ◌≤◌, Option, Some, None, List, [], ◌∷◌, ◌++◌, length, take, drop, refl, sym, ◌∙◌, ap, subst, inl, inr, arith, append_assoc, Ok}
-use Rattle.std.proofs.lemmas.List.{append-nil, length-take, take-take, take-append-drop}
-use Rattle.std.proofs.lemmas.Option.{same_Some}
-use Rattle.std.proofs.Math.Seq.{take-append-add}
+-- Calls of a client by a policy, and those of a client of the profile that it selects: `selected_clients_act_as_profile`,
+-- `selected_profiles_act_as_client`, `offered_clients_select` and `unselected_clients_send_nothing`.
+use Rattle.std.proofs.Common.{◌≡◌, ◌≢◌, ℕ, ◌+◌, ◌<◌, ◌≤◌, ◌^◌, Option, List, [], ◌++◌, length, take, drop, refl, sym, ◌∙◌, ap, subst, inl, inr, arith, append_assoc, Ok}
+use Rattle.std.proofs.lemmas.List.{append-nil, length-take-le, take_at, take-append-drop, drop_at}
 use Rattle.fe2o3_sasl_wire.specs.SaslFrames as frames
-use Rattle.fe2o3_sasl_wire.specs.SaslFrames.{IsBytes}
-use Rattle.fe2o3_sasl_wire.proofs.lemmas.reading.StepLemmas.{IsBytes-take}
+use Rattle.fe2o3_sasl_wire.specs.SaslFrames.{IsBytes, SaslFrame}
+use Rattle.fe2o3_sasl_wire.specs.declared.sasl_frames.error.Error.TheVariants.{TooLarge}
+use Rattle.fe2o3_sasl_wire.proofs.lemmas.reading.StepLemmas.{IsBytes-take, IsBytes-drop}
 use Rattle.fe2o3_sasl_core.specs.Bodies.{SpellsBody}
-use Rattle.fe2o3_sasl_core.specs.Profiles.{Profile}
-use Rattle.fe2o3_sasl_negotiation.specs.ClientNegotiation.{ClientReceives}
-use Rattle.fe2o3_sasl_negotiation.specs.Connections.{LeftOver, bytes_of, fresh}
-use Rattle.fe2o3_sasl_negotiation.specs.Framing.{Fits, IsPart, IsWhole, framed, sasl_header, size_of}
+use Rattle.fe2o3_sasl_core.specs.ProfileMachine.{IsSelected}
+use Rattle.fe2o3_sasl_core.specs.Profiles.{PolicyProfile, Profile, Selection}
+use Rattle.fe2o3_sasl_core.specs.declared.sasl_profile.error.ProfileError.TheVariants.{Frame as FrameFault}
+use Rattle.fe2o3_sasl_core.proofs.lemmas.frames.SpellingLemmas.{one_spelled_frame}
+use Rattle.fe2o3_sasl_core.proofs.lemmas.machines.SelectionLemmas.{one_selected, selected_of_some}
+use Rattle.fe2o3_sasl_negotiation.specs.ClientNegotiation.{ClientReceives, ClientSideAnswers}
+use Rattle.fe2o3_sasl_negotiation.specs.Connections.{fresh}
+use Rattle.fe2o3_sasl_negotiation.specs.Framing.{framed, sasl_header, size_of}
 use Rattle.fe2o3_sasl_negotiation.specs.Laws.{Call, Calls}
 use Rattle.fe2o3_sasl_negotiation.specs.Negotiations.{Side}
-use Rattle.fe2o3_sasl_negotiation.specs.PolicyClient.{IsSelected, PolicyReceives, PolicySideAnswers, Selection}
 use Rattle.fe2o3_sasl_negotiation.specs.PolicyLaws.{side_in_state}
-use Rattle.fe2o3_sasl_negotiation.specs.declared.progress.CloseReason.{CloseReason}
-use Rattle.fe2o3_sasl_negotiation.specs.declared.progress.CloseReason.TheVariants.{FrameSize, ProtocolHeaderMismatch}
-use Rattle.fe2o3_sasl_negotiation.specs.declared.progress.Expected.{Expected}
-use Rattle.fe2o3_sasl_negotiation.specs.declared.progress.Expected.TheVariants.{Header, Frame}
+use Rattle.fe2o3_sasl_negotiation.specs.declared.progress.CloseReason.TheVariants.{Mechanism as ProfileRefused}
+use Rattle.fe2o3_sasl_negotiation.specs.declared.progress.Expected.TheVariants.{Header}
 use Rattle.fe2o3_sasl_negotiation.specs.declared.progress.FrameKind.TheVariants as turns
-use Rattle.fe2o3_sasl_negotiation.specs.declared.progress.Progress.TheVariants.{Authenticated, Failed, InProgress}
-use Rattle.fe2o3_sasl_negotiation.proofs.lemmas.ConnectionLemmas.{closed_is_not_logged_in, failed_is_not_in_progress}
-use Rattle.fe2o3_sasl_negotiation.proofs.lemmas.PolicyLawLemmas.{goes_on_by_profile}
-use Rattle.connection_laws.specs.Cuts.{taken_pieces}
-use Rattle.connection_laws.specs.PolicyClients.{ActsAsSelected, IsUnselected, ReadsOffer, SelectedClientsActAsProfile, UnselectedClientsSendNothing}
-use Rattle.connection_laws.proofs.lemmas.CutCallLemmas.{covers}
-use Rattle.connection_laws.proofs.lemmas.PolicyByteLemmas.{bytes_after, first_fits, first_frame, unselected_more}
-use Rattle.connection_laws.proofs.lemmas.PolicyCallLemmas.{Early, Stays, Takes, early_step, ended_rests}
-use Rattle.connection_laws.proofs.lemmas.RestLemmas.{taken_within}
+use Rattle.fe2o3_sasl_negotiation.specs.declared.progress.Progress.TheVariants.{Authenticated, Failed}
+use Rattle.fe2o3_sasl_negotiation.proofs.lemmas.ConnectionLemmas.{first_body}
+use Rattle.fe2o3_sasl_negotiation.proofs.lemmas.CutLemmas.{cuts_do_not_matter, nothing_is_part}
+use Rattle.fe2o3_sasl_negotiation.proofs.lemmas.FramingLemmas.{size_of-append}
+use Rattle.fe2o3_sasl_negotiation.proofs.lemmas.PieceLemmas.{is_framed}
+use Rattle.fe2o3_sasl_negotiation.proofs.lemmas.SelectedProfileLemmas.{selected_ordinary}
+use Rattle.fe2o3_sasl_negotiation.proofs.lemmas.UnitLemmas.{body_of-framed, length-framed, size_of-framed}
+use Rattle.connection_laws.specs.PolicyClients.{ActsAsSelected, EndAlike, HasNoInit, IsChosen, IsUnselected, OfferedClientsSelect, OneIsSelected, ReadsOffer, SelectedClientsActAsProfile, SelectedProfilesActAsClient, SelectsNoneOf, UnselectedClientsSendNothing}
+use Rattle.connection_laws.proofs.lemmas.CutConnectionLemmas.{other_is_not, part_is_short}
+use Rattle.connection_laws.proofs.lemmas.CutLemmas.{fits_small, no_frame_left}
+use Rattle.connection_laws.proofs.lemmas.FramesLemmas.{one_frame, one_split, without_header}
+use Rattle.connection_laws.proofs.lemmas.PolicyByteLemmas.{IsFramed, Offered, PolicyEnds, body_fits, ordinary_chosen, policy_ends}
+use Rattle.connection_laws.proofs.lemmas.PolicyCallLemmas.{EndsLike, alike_calls, first_in, fresh_early}
+use Rattle.connection_laws.proofs.lemmas.PolicyOfferLemmas.{policy_like_profile, profile_like_policy}
+use Rattle.connection_laws.proofs.lemmas.ProfileKindLemmas.{calls_kind, chosen_like}
 
--- ---- the side of a client that has selected no profile
-
--- it is early
-pub unselected_is_early : (selection : Selection) (limit : ℕ) (taken : List ℕ) (side : Side (Option Profile))
-    → IsUnselected selection limit taken side → Early side
-unselected_is_early selection limit taken side (inl (few, nothing, same)) =
-    subst Early (sym same) (refl, λ _. inl refl)
-unselected_is_early selection limit taken side (inr (inl (eight, other, closed, none))) =
-    (none, λ going. absurd (failed_is_not_in_progress (ProtocolHeaderMismatch taken) (sym closed ∙ going)))
-unselected_is_early selection limit taken side (inr (inr (inl unread))) =
-    (unread.state, λ going. inr (ap (λ (s : Side (Option Profile)). s.expected) (unread.waits going)))
-unselected_is_early selection limit taken side (inr (inr (inr closed))) =
-    (closed.state, λ going. absurd (failed_is_not_in_progress _ (sym closed.closed ∙ going)))
-
--- it has not logged in
-not_logged_in : (selection : Selection) (limit : ℕ) (taken : List ℕ) (side : Side (Option Profile))
-    → IsUnselected selection limit taken side → side.progress ≢ Authenticated
-not_logged_in selection limit taken side (inl (few, nothing, same)) logged =
-    waits_not (sym (ap (λ (s : Side (Option Profile)). s.progress) same) ∙ logged)
-  where
-    waits_not : InProgress ≢ Authenticated
-    waits_not is = cc
-not_logged_in selection limit taken side (inr (inl (eight, other, closed, none))) logged =
-    closed_is_not_logged_in (ProtocolHeaderMismatch taken) (sym closed ∙ logged)
-not_logged_in selection limit taken side (inr (inr (inr closed))) logged =
-    closed_is_not_logged_in _ (sym closed.closed ∙ logged)
-not_logged_in selection limit taken side (inr (inr (inl unread))) logged = go unread.left
-  where
-    waits_not : InProgress ≢ Authenticated
-    waits_not is = cc
-
-    go : LeftOver turns.Mechanisms limit unread.tail side.progress → ⊥
-    go (inl (part, going)) = waits_not (sym going ∙ logged)
-    go (inr (inl size)) = closed_is_not_logged_in FrameSize (sym size.2 ∙ logged)
-    go (inr (inr frame)) = closed_is_not_logged_in frame.2 (sym frame.7 ∙ logged)
-
--- ---- calls of a client that has selected a profile
-
--- they are calls of a client of this profile
-pub selected_calls : (selection : Selection) (calls : List Call) (profile : Profile) (side last : Side (Option Profile))
-    (stream sent rest : List ℕ) → side.state ≡ Some profile
-    → Calls (PolicyReceives selection) side calls stream sent last rest
-    → (now : Profile) × (last.state ≡ Some now)
-    × Calls (ClientReceives selection.hostname) (side_in_state side profile) calls stream sent (side_in_state last now) rest
-selected_calls selection [] profile side last stream sent rest has (nothing, same, left) = (
-  profile,
-  ap (λ (s : Side (Option Profile)). s.state) same ∙ has,
-  (nothing, ap (λ (s : Side (Option Profile)). side_in_state s profile) same, left),
+pub one_is_selected : OneIsSelected
+one_is_selected selection names profile selected = (
+  λ other is. one_selected selection names profile other selected is,
+  selected_of_some selection names profile selected,
 )
-selected_calls selection (call ∷ calls) profile side last stream sent rest has
-    (k, first, next, later, receives, made, all) =
-    let (moved, is, one) = goes_on_by_profile selection profile side next (take call.handed stream) call.nonce first k has
-    receives in
-    let (now, at, more) = selected_calls selection calls moved next last (drop k stream) later rest is made in
-    (now, at, (k, first, side_in_state next moved, later, one, more, all))
 
--- ---- calls of a client that has ended
+-- a client that has selected a profile is not by the policy
+policy_is_not : {A : Type 0} (selection : Selection) (side : Side Profile) → side.state ≡ PolicyProfile selection
+    → IsChosen side.state → A
+policy_is_not selection side is chosen = absurd (subst IsChosen is chosen)
 
-ended_calls : (selection : Selection) (calls : List Call) (side last : Side (Option Profile)) (stream sent rest : List ℕ)
-    → side.progress ≢ InProgress → Calls (PolicyReceives selection) side calls stream sent last rest → last ≡ side
-ended_calls selection [] side last stream sent rest ended (nothing, same, left) = same
-ended_calls selection (call ∷ calls) side last stream sent rest ended (k, first, next, later, receives, made, all) =
-    let still = (ended_rests (PolicySideAnswers selection) side.progress side next (take call.handed stream) call.nonce first
-    k ended receives).2 in
-    ended_calls selection calls next last (drop k stream) later rest
-    (λ going. ended (sym (ap (λ (s : Side (Option Profile)). s.progress) still) ∙ going)) made ∙ still
+unselected_state : (selection : Selection) (hostname : Option (List ℕ)) (limit : ℕ) (taken : List ℕ) (last : Side Profile)
+    → IsUnselected selection hostname limit taken last → last.state ≡ PolicyProfile selection
+unselected_state selection hostname limit taken last (inl part) = ap (λ (s : Side Profile). s.state) part.2
+unselected_state selection hostname limit taken last (inr (inl other)) = other.3
+unselected_state selection hostname limit taken last (inr (inr (inl unread))) = unread.state
+unselected_state selection hostname limit taken last (inr (inr (inr none))) = none.state
 
--- ---- calls of a new client
+-- ---- the first frame
 
-fresh_is_unselected : (selection : Selection) (limit : ℕ) → IsUnselected selection limit [] (fresh limit None)
-fresh_is_unselected selection limit = inl (omega arith, refl, refl)
+-- of bytes
+bytes_framed : (hostname : Option (List ℕ)) (selection : Selection) (limit : ℕ) (taken : List ℕ) → IsBytes taken
+    → IsFramed hostname selection limit taken
+bytes_framed hostname selection limit taken are tail carried whole =
+    let eight : 8 ≤ size_of tail = whole.0.0 in
+    let count = length-take-le (size_of tail) tail whole.1 in
+    let long : 4 ≤ length (take (size_of tail) tail) = omega (arith, eight, count) in
+    is_framed limit (take (size_of tail) tail) (IsBytes-take (size_of tail) tail
+    (subst (λ (l : List ℕ). IsBytes l) (ap (drop 8) carried ∙ drop_at sasl_header tail 8 refl) (IsBytes-drop 8 taken are)))
+    (count ∙ (sym (ap size_of (take-append-drop (size_of tail) tail))
+    ∙ size_of-append (take (size_of tail) tail) (drop (size_of tail) tail) long)) long
 
-module _ (selection : Selection) (limit : ℕ) where
-  -- after calls that select no profile
-  pub record NoneAfter (taken stream sent rest : List ℕ) (last : Side (Option Profile)) : Type 0 where
-    pub more : List ℕ
-    pub covers : stream ≡ more ++ rest
-    pub nothing : sent ≡ []
-    pub unselected : IsUnselected selection limit (taken ++ more) last
+-- of an offer
+offer_first : (tail body more : List ℕ) → length body + 4 < 2 ^ 32 → tail ≡ framed body ++ more
+    → (take (size_of tail) tail ≡ framed body) × (first_body tail ≡ body)
+offer_first tail body more small is =
+    let unit : take (size_of tail) tail ≡ framed body = ap (take (size_of tail)) is
+    ∙ take_at (framed body) more (size_of tail) (length-framed body ∙ sym (ap size_of is ∙ size_of-framed body more small)) in
+    (unit, ap (drop 4) unit ∙ body_of-framed body)
 
-  -- after calls that select one, from a side that has taken some bytes
-  pub record SomeAfter (taken : List ℕ) (side : Side (Option Profile)) (calls : List Call) (stream sent rest : List ℕ)
-      (last : Side (Option Profile)) : Type 0 where
-    pub names : List (List ℕ)
-    pub profile : Profile
-    pub now : Profile
-    pub state : last.state ≡ Some now
-    pub offer : ReadsOffer limit (taken ++ stream) rest names
-    pub selected : IsSelected selection names profile
-    pub made : Calls (ClientReceives selection.hostname) (side_in_state side profile) calls stream sent
-        (side_in_state last now) rest
+-- what was taken begins with the offer
+pub offer_front : (limit : ℕ) (stream rest : List ℕ) (names : List (List ℕ)) (offer : ReadsOffer limit stream rest names)
+    (taken : List ℕ) → stream ≡ taken ++ rest → taken ≡ sasl_header ++ (framed offer.body ++ offer.more)
+offer_front limit stream rest names offer taken all = (one_split taken rest
+    (sasl_header ++ (framed offer.body ++ offer.more)) rest (sym all ∙ (offer.carried
+    ∙ (ap (λ l. sasl_header ++ l) (sym (append_assoc (framed offer.body) offer.more rest))
+    ∙ sym (append_assoc sasl_header (framed offer.body ++ offer.more) rest)))) refl).0
 
-  -- the bytes that a call takes of a stream
-  front : (side next : Side (Option Profile)) (handed k : ℕ) (stream nonce first : List ℕ)
-      → PolicyReceives selection side (take handed stream) nonce k first next → take k (take handed stream) ≡ take k stream
-  front side next handed k stream nonce first receives =
-      let within : k ≤ length (take handed stream) =
-      taken_within (PolicySideAnswers selection) side next (take handed stream) nonce first k side.progress receives in
-      take-take k handed stream (omega (arith, within, length-take handed stream))
+-- ---- a client that has selected a profile
 
-  -- what a call is passed, and what it leaves, are bytes
-  handed_bytes : (taken stream : List ℕ) (handed : ℕ) → IsBytes (taken ++ stream) → IsBytes (taken ++ take handed stream)
-  handed_bytes taken stream handed are = subst (λ (l : List ℕ). IsBytes l) (take-append-add taken stream handed)
-      (IsBytes-take (length taken + handed) (taken ++ stream) are)
+module _ (selection : Selection) (hostname : Option (List ℕ)) (limit : ℕ) (calls : List Call) (stream sent rest : List ℕ)
+    (last : Side Profile) (are : IsBytes stream)
+    (made : Calls (ClientReceives hostname) (fresh limit (PolicyProfile selection)) calls stream sent last rest) where
+  -- what was taken is bytes
+  frames_are : (taken : List ℕ) → stream ≡ taken ++ rest → IsFramed hostname selection limit taken
+  frames_are taken all = bytes_framed hostname selection limit taken (subst (λ (l : List ℕ). IsBytes l)
+      (ap (take (length taken)) all ∙ take_at taken rest (length taken) refl) (IsBytes-take (length taken) stream are))
 
-  parts : (taken stream : List ℕ) (k : ℕ) → (taken ++ take k stream) ++ drop k stream ≡ taken ++ stream
-  parts taken stream k =
-      append_assoc taken (take k stream) (drop k stream) ∙ ap (λ l. taken ++ l) (take-append-drop k stream)
+  ends : (taken : List ℕ) × (stream ≡ taken ++ rest) × PolicyEnds hostname selection limit taken sent last
+  ends = let (taken, nonces, all, units) = cuts_do_not_matter (ClientSideAnswers hostname)
+      (fresh limit (PolicyProfile selection)) last calls stream sent rest (nothing_is_part Header limit) made in
+      (taken, all, policy_ends hostname selection limit nonces taken sent last (frames_are taken all) units)
 
-  -- the offer that a call completes
-  pub offer_taken : (taken : List ℕ) (side next : Side (Option Profile)) (bytes nonce first : List ℕ) (k : ℕ)
-      → IsUnselected selection limit taken side → IsBytes (taken ++ bytes)
-      → (takes : Takes selection next bytes nonce first k side)
-      → (body : List ℕ) × Fits limit (length body + 4) × SpellsBody body (Ok (frames.Mechanisms takes.names))
-      × (taken ++ take k bytes ≡ sasl_header ++ framed body)
-  offer_taken taken side next bytes nonce first k is are takes = go is
+  offered : (taken : List ℕ) → stream ≡ taken ++ rest → Offered hostname selection limit taken last
+      → ActsAsSelected selection hostname limit calls stream sent rest last
+  offered taken all offer = go (alike_calls hostname offer.profile (PolicyProfile selection) offer.profile (first_body offer.tail)
+      (policy_like_profile hostname selection offer.names offer.profile (first_body offer.tail) offer.spells offer.selected)
+      calls [] (fresh limit (PolicyProfile selection)) last stream sent rest (fresh_early limit (PolicyProfile selection))
+      (ap (λ (l : List ℕ). first_body (drop 8 l)) tail_is ∙ (ap first_body (drop_at sasl_header (offer.tail ++ rest) 8 refl)
+      ∙ first_in limit offer.tail rest offer.whole)) made)
     where
-      at_header : {A : Type 0} → side.expected ≡ Header → A
-      at_header header = let no : ◌≡◌ {A = Expected} Header (Frame turns.Mechanisms) = sym header ∙ takes.expects in
-          absurd (cc)
+      tail_is : stream ≡ sasl_header ++ (offer.tail ++ rest)
+      tail_is = all ∙ (ap (λ l. l ++ rest) offer.carried ∙ append_assoc sasl_header offer.tail rest)
 
-      ended : {A : Type 0} (why : CloseReason) → side.progress ≡ Failed why → A
-      ended why closed = absurd (failed_is_not_in_progress why (sym closed ∙ takes.going))
+      one : take (size_of offer.tail) offer.tail ≡ framed (first_body offer.tail)
+      one = frames_are taken all offer.tail offer.carried offer.whole
 
-      held : (tail : List ℕ) → taken ≡ sasl_header ++ tail → IsPart (Frame turns.Mechanisms) limit tail
-          → side.limit ≡ limit → side.held ≡ tail
-          → (body : List ℕ) × Fits limit (length body + 4) × SpellsBody body (Ok (frames.Mechanisms takes.names))
-          × (taken ++ take k bytes ≡ sasl_header ++ framed body)
-      held tail carried part limit_is held_is =
-          let whole : IsWhole (Frame turns.Mechanisms) limit (tail ++ bytes) =
-          subst (λ (l : List ℕ). IsWhole (Frame turns.Mechanisms) limit (l ++ bytes)) held_is
-          (subst (λ (n : ℕ). IsWhole (Frame turns.Mechanisms) n (side.held ++ bytes)) limit_is takes.whole) in
-          let count : k ≡ size_of (tail ++ bytes) - length tail =
-          subst (λ (l : List ℕ). k ≡ size_of (l ++ bytes) - length l) held_is takes.count in
-          let fine : IsBytes (tail ++ bytes) = bytes_after sasl_header (tail ++ bytes)
-          (subst (λ (l : List ℕ). IsBytes l) (ap (λ l. l ++ bytes) carried ∙ append_assoc sasl_header tail bytes) are) in (
-            drop 4 (take (size_of (tail ++ bytes)) (tail ++ bytes)),
-            first_fits limit tail bytes k part fine whole count,
-            subst (λ (l : List ℕ). SpellsBody (drop 4 (take (size_of (l ++ bytes)) (l ++ bytes)))
-                (Ok (frames.Mechanisms takes.names))) held_is takes.spells,
-            ap (λ l. l ++ take k bytes) carried ∙ (append_assoc sasl_header tail (take k bytes)
-                ∙ ap (λ l. sasl_header ++ l) (first_frame limit tail bytes k part fine whole count)),
-          )
-
-      go : IsUnselected selection limit taken side
-          → (body : List ℕ) × Fits limit (length body + 4) × SpellsBody body (Ok (frames.Mechanisms takes.names))
-          × (taken ++ take k bytes ≡ sasl_header ++ framed body)
-      go (inl (few, nothing, same)) = at_header (ap (λ (s : Side (Option Profile)). s.expected) same)
-      go (inr (inl (eight, other, closed, none))) = ended (ProtocolHeaderMismatch taken) closed
-      go (inr (inr (inr closed))) = ended _ closed.closed
-      go (inr (inr (inl unread))) = left unread.left
-        where
-          left : LeftOver turns.Mechanisms limit unread.tail side.progress
-              → (body : List ℕ) × Fits limit (length body + 4) × SpellsBody body (Ok (frames.Mechanisms takes.names))
-              × (taken ++ take k bytes ≡ sasl_header ++ framed body)
-          left (inl (part, going)) = held unread.tail unread.carried part
-              (ap (λ (s : Side (Option Profile)). s.limit) (unread.waits going))
-              (ap (λ (s : Side (Option Profile)). s.held) (unread.waits going))
-          left (inr (inl size)) = ended FrameSize size.2
-          left (inr (inr frame)) = ended frame.2 frame.7
-
-  -- and what the calls after it leave of the stream
-  offer_at : (taken : List ℕ) (side next last : Side (Option Profile)) (call : Call) (calls : List Call)
-      (stream first later rest : List ℕ) (k : ℕ) → IsUnselected selection limit taken side → IsBytes (taken ++ stream)
-      → PolicyReceives selection side (take call.handed stream) call.nonce k first next
-      → (takes : Takes selection next (take call.handed stream) call.nonce first k side)
-      → Calls (PolicyReceives selection) next calls (drop k stream) later last rest
-      → ReadsOffer limit (taken ++ stream) rest takes.names
-  offer_at taken side next last call calls stream first later rest k is are receives takes made =
-      let (body, fits, spells, first_part) = offer_taken taken side next (take call.handed stream) call.nonce first k is
-      (handed_bytes taken stream call.handed are) takes in
-      let more = bytes_of (taken_pieces (PolicySideAnswers selection) next calls (drop k stream) later last rest made) in
-      record {
-        body = body;
-        more = more;
-        fits = fits;
-        spells = spells;
-        carried = sym (parts taken stream k) ∙ (ap (λ l. (taken ++ l) ++ drop k stream)
-            (sym (front side next call.handed k stream call.nonce first receives))
-            ∙ (ap (λ l. l ++ drop k stream) first_part ∙ (ap (λ l. (sasl_header ++ framed body) ++ l)
-            (covers (PolicySideAnswers selection) next calls (drop k stream) later last rest made)
-            ∙ append_assoc sasl_header (framed body) (more ++ rest))));
+      go : (end : Side Profile) × EndsLike (PolicyProfile selection) offer.profile last end
+          × Calls (ClientReceives hostname) (fresh limit offer.profile) calls stream sent end rest
+          → ActsAsSelected selection hostname limit calls stream sent rest last
+      go (end, inr (kept, is), same) = policy_is_not selection last kept offer.chosen
+      go (end, inl is, same) = record {
+        names = offer.names;
+        profile = offer.profile;
+        offer = record {
+          body = first_body offer.tail;
+          more = drop (size_of offer.tail) offer.tail;
+          fits = body_fits hostname selection limit offer.tail offer.whole one;
+          spells = offer.spells;
+          carried = tail_is ∙ ap (λ l. sasl_header ++ l)
+              (ap (λ l. l ++ rest) (sym (take-append-drop (size_of offer.tail) offer.tail)
+              ∙ ap (λ l. l ++ drop (size_of offer.tail) offer.tail) one)
+              ∙ append_assoc (framed (first_body offer.tail)) (drop (size_of offer.tail) offer.tail) rest);
+        };
+        selected = offer.selected;
+        made = subst (λ (s : Side Profile). Calls (ClientReceives hostname) (fresh limit offer.profile) calls stream sent s
+            rest) is same;
       }
 
-  pub new_calls : (calls : List Call) (taken : List ℕ) (side last : Side (Option Profile)) (stream sent rest : List ℕ)
-      → IsUnselected selection limit taken side → IsBytes (taken ++ stream)
-      → Calls (PolicyReceives selection) side calls stream sent last rest
-      → NoneAfter taken stream sent rest last ⊎ SomeAfter taken side calls stream sent rest last
-  new_calls [] taken side last stream sent rest is are (nothing, same, left) = inl (record {
-    more = [];
-    covers = sym left;
-    nothing = nothing;
-    unselected = subst (λ (l : List ℕ). IsUnselected selection limit l last) (sym (append-nil taken))
-        (subst (λ (s : Side (Option Profile)). IsUnselected selection limit taken s) (sym same) is);
-  })
-  new_calls (call ∷ calls) taken side last stream sent rest is are (k, first, next, later, receives, made, all) =
-      go (λ (later_is : IsUnselected selection limit (taken ++ take k stream) next).
-      new_calls calls (taken ++ take k stream) next last (drop k stream) later rest later_is
-      (subst (λ (l : List ℕ). IsBytes l) (sym (parts taken stream k)) are) made)
-      (early_step selection side next (take call.handed stream) call.nonce first k
-      (unselected_is_early selection limit taken side is) receives)
-    where
-      here : take k (take call.handed stream) ≡ take k stream
-      here = front side next call.handed k stream call.nonce first receives
-
-      go : (IsUnselected selection limit (taken ++ take k stream) next
-          → NoneAfter (taken ++ take k stream) (drop k stream) later rest last
-          ⊎ SomeAfter (taken ++ take k stream) next calls (drop k stream) later rest last)
-          → Stays selection next (take call.handed stream) call.nonce first k side
-          ⊎ Takes selection next (take call.handed stream) call.nonce first k side
-          → NoneAfter taken stream sent rest last ⊎ SomeAfter taken side (call ∷ calls) stream sent rest last
-      go others (inr takes) =
-          let (now, at, more) = selected_calls selection calls takes.moved next last (drop k stream) later rest takes.state
-          made in
-          inr (record {
-            names = takes.names;
-            profile = takes.profile;
-            now = now;
-            state = at;
-            offer = offer_at taken side next last call calls stream first later rest k is are receives takes made;
-            selected = takes.selected;
-            made = (k, first, side_in_state next takes.moved, later, takes.receives, more, all);
-          })
-      go others (inl (nothing, early, acts)) =
-          rest_of (others (subst (λ (l : List ℕ). IsUnselected selection limit (taken ++ l) next) here
-          (unselected_more selection limit next (take call.handed stream) call.nonce first k taken side is
-          (handed_bytes taken stream call.handed are) early.0 receives))) acts
-        where
-          rest_of : NoneAfter (taken ++ take k stream) (drop k stream) later rest last
-              ⊎ SomeAfter (taken ++ take k stream) next calls (drop k stream) later rest last
-              → ((profile : Profile)
-              → ClientReceives selection.hostname (side_in_state side profile) (take call.handed stream) call.nonce k
-              first (side_in_state next profile)) ⊎ (next.progress ≢ InProgress)
-              → NoneAfter taken stream sent rest last ⊎ SomeAfter taken side (call ∷ calls) stream sent rest last
-          rest_of (inl none) acts = inl (record {
-            more = take k stream ++ none.more;
-            covers = sym (take-append-drop k stream) ∙ (ap (λ l. take k stream ++ l) none.covers
-                ∙ sym (append_assoc (take k stream) none.more rest));
-            nothing = all ∙ (ap (λ l. l ++ later) nothing ∙ none.nothing);
-            unselected = subst (λ (l : List ℕ). IsUnselected selection limit l last)
-                (append_assoc taken (take k stream) none.more) none.unselected;
-          })
-          rest_of (inr some) (inl acts) = inr (record {
-            names = some.names;
-            profile = some.profile;
-            now = some.now;
-            state = some.state;
-            offer = subst (λ (l : List ℕ). ReadsOffer limit l rest some.names) (parts taken stream k) some.offer;
-            selected = some.selected;
-            made = (k, first, side_in_state next some.profile, later, acts some.profile, some.made, all);
-          })
-          rest_of (inr some) (inr ended) =
-              let still = ended_calls selection calls next last (drop k stream) later rest ended made in
-              let both : None ≡ Some some.now =
-              sym early.0 ∙ (sym (ap (λ (s : Side (Option Profile)). s.state) still) ∙ some.state) in
-              absurd (cc)
-
 pub selected_clients_act_as_profile : SelectedClientsActAsProfile
-selected_clients_act_as_profile selection limit calls stream sent rest last now are made is =
-    go (new_calls selection limit calls [] (fresh limit None) last stream sent rest (fresh_is_unselected selection limit) are
-    made)
+selected_clients_act_as_profile selection hostname limit calls stream sent rest last are made chosen =
+    go (ends selection hostname limit calls stream sent rest last are made)
   where
-    go : NoneAfter selection limit [] stream sent rest last
-        ⊎ SomeAfter selection limit [] (fresh limit None) calls stream sent rest last
-        → ActsAsSelected selection limit calls stream sent rest (side_in_state last now)
-    go (inl none) =
-        let early = unselected_is_early selection limit ([] ++ none.more) last none.unselected in
-        let both : None ≡ Some now = sym early.0 ∙ is in absurd (cc)
-    go (inr some) =
-        let same : some.now ≡ now = same_Some some.now now (sym some.state ∙ is) in record {
-          names = some.names;
-          profile = some.profile;
-          offer = some.offer;
-          selected = some.selected;
-          made = subst (λ (p : Profile). Calls (ClientReceives selection.hostname) (fresh limit some.profile) calls stream
-              sent (side_in_state last p) rest) same some.made;
-        }
+    go : (taken : List ℕ) × (stream ≡ taken ++ rest) × PolicyEnds hostname selection limit taken sent last
+        → ActsAsSelected selection hostname limit calls stream sent rest last
+    go (taken, all, inl (nothing, not, is)) =
+        policy_is_not selection last (unselected_state selection hostname limit taken last is) chosen
+    go (taken, all, inr offer) = offered selection hostname limit calls stream sent rest last are made taken all offer
 
 pub unselected_clients_send_nothing : UnselectedClientsSendNothing
-unselected_clients_send_nothing selection limit calls stream sent rest last are made is =
-    go (new_calls selection limit calls [] (fresh limit None) last stream sent rest (fresh_is_unselected selection limit) are
-    made)
+unselected_clients_send_nothing selection hostname limit calls stream sent rest last are made not_chosen =
+    go (ends selection hostname limit calls stream sent rest last are made)
   where
-    go : NoneAfter selection limit [] stream sent rest last
-        ⊎ SomeAfter selection limit [] (fresh limit None) calls stream sent rest last
+    go : (taken : List ℕ) × (stream ≡ taken ++ rest) × PolicyEnds hostname selection limit taken sent last
         → (taken : List ℕ) × (stream ≡ taken ++ rest) × (sent ≡ []) × (last.progress ≢ Authenticated)
-        × IsUnselected selection limit taken last
-    go (inl none) = (
-      none.more,
-      none.covers,
-      none.nothing,
-      not_logged_in selection limit none.more last none.unselected,
-      none.unselected,
+        × IsUnselected selection hostname limit taken last
+    go (taken, all, inl (nothing, not, is)) = (taken, all, nothing, not, is)
+    go (taken, all, inr offer) = absurd (not_chosen offer.chosen)
+
+-- ---- where an offer was read
+
+module _ (selection : Selection) (hostname : Option (List ℕ)) (limit : ℕ) (calls : List Call) (stream sent rest : List ℕ)
+    (names : List (List ℕ)) (profile : Profile) (small : limit < 2 ^ 32) (offer : ReadsOffer limit stream rest names)
+    (selected : IsSelected selection names profile) where
+  is_small : length offer.body + 4 < 2 ^ 32
+  is_small = fits_small limit small (length offer.body + 4) offer.fits
+
+  -- the first frame of the stream is the offer
+  first_is : first_body (drop 8 stream) ≡ offer.body
+  first_is = (offer_first (drop 8 stream) offer.body (offer.more ++ rest) is_small (ap (drop 8) offer.carried
+      ∙ drop_at sasl_header (framed offer.body ++ (offer.more ++ rest)) 8 refl)).1
+
+  -- and so is that of what was taken
+  front : (taken : List ℕ) → stream ≡ taken ++ rest → taken ≡ sasl_header ++ (framed offer.body ++ offer.more)
+  front = offer_front limit stream rest names offer
+
+  offer_framed : (taken : List ℕ) → stream ≡ taken ++ rest → IsFramed hostname selection limit taken
+  offer_framed taken all tail carried whole =
+      let first = offer_first tail offer.body offer.more is_small
+      (without_header tail (framed offer.body ++ offer.more) (sym carried ∙ front taken all)) in
+      first.0 ∙ ap framed (sym first.1)
+
+  -- a client that has selected none has closed, because its init has no body
+  too_large : (taken : List ℕ) (last : Side Profile) → stream ≡ taken ++ rest
+      → IsUnselected selection hostname limit taken last
+      → HasNoInit hostname profile × (last.progress ≡ Failed (ProfileRefused (FrameFault TooLarge)))
+  too_large taken last all (inl part) =
+      absurd (part_is_short limit (PolicyProfile selection) taken [] (framed offer.body ++ offer.more) last part
+      (front taken all))
+  too_large taken last all (inr (inl other)) =
+      absurd (other_is_not (PolicyProfile selection) taken (framed offer.body ++ offer.more) last other (front taken all))
+  too_large taken last all (inr (inr (inl unread))) =
+      absurd (no_frame_left limit small turns.Mechanisms unread.tail offer.body offer.more last.progress unread.left
+      (without_header unread.tail (framed offer.body ++ offer.more) (sym unread.carried ∙ front taken all)) offer.fits
+      (frames.Mechanisms names, offer.spells, tt))
+  too_large taken last all (inr (inr (inr none))) = go none.closed
+    where
+      bodies : offer.body ≡ none.body
+      bodies = (one_frame offer.body offer.more none.body [] is_small (fits_small limit small (length none.body + 4) none.fits)
+          (without_header (framed offer.body ++ offer.more) (framed none.body ++ []) (sym (front taken all) ∙ (none.carried
+          ∙ ap (λ l. sasl_header ++ l) (sym (append-nil (framed none.body))))))).0
+
+      names_of : (one other : List (List ℕ)) → ◌≡◌ {A = SaslFrame} (frames.Mechanisms one) (frames.Mechanisms other)
+          → one ≡ other
+      names_of one other same = cc
+
+      same : names ≡ none.names
+      same = names_of names none.names (one_spelled_frame none.body (frames.Mechanisms names) (frames.Mechanisms none.names)
+          (subst (λ (b : List ℕ). SpellsBody b (Ok (frames.Mechanisms names))) bodies offer.spells) none.spells)
+
+      again : IsSelected selection none.names profile
+      again = subst (λ (n : List (List ℕ)). IsSelected selection n profile) same selected
+
+      go : SelectsNoneOf selection hostname none.names last.progress
+          → HasNoInit hostname profile × (last.progress ≡ Failed (ProfileRefused (FrameFault TooLarge)))
+      go (inl (nothing, is)) = absurd (selected_of_some selection none.names profile again nothing)
+      go (inr (other, is, no_init, closed)) =
+          (subst (HasNoInit hostname) (one_selected selection none.names profile other again is) no_init, closed)
+
+  -- how a client of the profile and one by the policy end
+  ends_alike : (side last : Side Profile) → Calls (ClientReceives hostname) (fresh limit profile) calls stream sent side rest
+      → Calls (ClientReceives hostname) (fresh limit (PolicyProfile selection)) calls stream sent last rest
+      → EndsLike profile (PolicyProfile selection) side last → EndAlike selection hostname profile sent side last
+  ends_alike side last made policy_made like =
+      let (taken, nonces, all, units) = cuts_do_not_matter (ClientSideAnswers hostname)
+      (fresh limit (PolicyProfile selection)) last calls stream sent rest (nothing_is_part Header limit) policy_made in
+      go taken all like (policy_ends hostname selection limit nonces taken sent last (offer_framed taken all) units)
+    where
+      chosen : IsChosen side.state
+      chosen =
+          let first = ordinary_chosen profile (selected_ordinary selection names profile selected).0 in
+          chosen_like profile side.state (calls_kind hostname calls (fresh limit profile) side stream sent rest first made)
+          first
+
+      go : (taken : List ℕ) → stream ≡ taken ++ rest → EndsLike profile (PolicyProfile selection) side last
+          → PolicyEnds hostname selection limit taken sent last → EndAlike selection hostname profile sent side last
+      go taken all (inl same) ends = inl (subst (λ (s : Side Profile). IsChosen s.state) (sym same) chosen, same)
+      go taken all (inr (kept, is)) (inr offer) =
+          policy_is_not selection last (ap (λ (s : Side Profile). s.state) is) offer.chosen
+      go taken all (inr (kept, is)) (inl (nothing, not, unselected)) =
+          let (no_init, closed) = too_large taken last all unselected in
+          inr (no_init, nothing, sym (ap (λ (s : Side Profile). s.progress) is) ∙ closed, kept, is)
+
+pub selected_profiles_act_as_client : SelectedProfilesActAsClient
+selected_profiles_act_as_client selection hostname limit calls stream sent rest side names profile small offer selected made =
+    let (last, like, policy_made) = alike_calls hostname profile profile (PolicyProfile selection) offer.body
+    (profile_like_policy hostname selection names profile offer.body offer.spells selected) calls [] (fresh limit profile) side
+    stream sent rest (fresh_early limit profile)
+    (first_is selection hostname limit calls stream sent rest names profile small offer selected) made in (
+      last,
+      ends_alike selection hostname limit calls stream sent rest names profile small offer selected side last made policy_made
+          like,
+      policy_made,
     )
-    go (inr some) = let both : None ≡ Some some.now = sym is ∙ some.state in absurd (cc)
+
+pub offered_clients_select : OfferedClientsSelect
+offered_clients_select selection hostname limit calls stream sent rest last names profile small offer selected policy_made =
+    let (side, like, made) = alike_calls hostname profile (PolicyProfile selection) profile offer.body
+    (policy_like_profile hostname selection names profile offer.body offer.spells selected) calls []
+    (fresh limit (PolicyProfile selection)) last stream sent rest (fresh_early limit (PolicyProfile selection))
+    (first_is selection hostname limit calls stream sent rest names profile small offer selected) policy_made in (
+      side,
+      ends_alike selection hostname limit calls stream sent rest names profile small offer selected side last made policy_made
+          (back side last like),
+      made,
+    )
+  where
+    back : (side end : Side Profile) → EndsLike (PolicyProfile selection) profile end side
+        → EndsLike profile (PolicyProfile selection) side end
+    back side end (inl same) = inl (sym same)
+    back side end (inr (kept, is)) = inr (
+      ap (λ (s : Side Profile). s.state) is,
+      subst (λ (s : Side Profile). end ≡ side_in_state s (PolicyProfile selection)) (sym is) (λ i. record {
+        progress = end.progress;
+        expected = end.expected;
+        limit = end.limit;
+        held = end.held;
+        state = kept i;
+      }),
+    )

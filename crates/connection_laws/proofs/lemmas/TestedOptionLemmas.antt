@@ -1,5 +1,5 @@
 -- What the options of both sides say before a login: `tested_options_reject`.
-use Rattle.std.proofs.Common.{◌≡◌, ◌⊎◌, Bool, true, false, sym, subst, inl, inr}
+use Rattle.std.proofs.Common.{◌⊎◌, Bool, true, false, sym, subst, inl, inr}
 use Rattle.std.specs.Prelude.{◌||◌, T, is_some}
 use Rattle.fe2o3_scram.specs.ChannelBinding.{has_channel, is_strict}
 use Rattle.fe2o3_scram.specs.declared.scram_messages.server_rules.ServerRules.{ServerRules}

@@ -1,7 +1,4 @@
-use Rattle.connection_laws.proofs.lemmas.PolicyDivisionLemmas.{offered_clients_select}
-use Rattle.connection_laws.proofs.lemmas.PolicyProfileLemmas.{selected_profiles_act_as_client}
-use Rattle.connection_laws.proofs.lemmas.PolicyChoiceLemmas.{one_is_selected}
-use Rattle.connection_laws.proofs.lemmas.PolicySelectedLemmas.{selected_clients_act_as_profile}
+use Rattle.connection_laws.proofs.lemmas.PolicySelectedLemmas.{offered_clients_select, one_is_selected, selected_clients_act_as_profile, selected_profiles_act_as_client}
 use Rattle.connection_laws.proofs.policy_clients.selected.Goals as goal
 
 pub returns-clause-acts : goal.returns-clause-acts
