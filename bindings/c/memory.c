@@ -289,6 +289,9 @@ int main(void)
     config = (struct fe2o3_sasl_server_config){.mechanisms = FE2O3_OFFER_SCRAM_SHA_256 | FE2O3_OFFER_PLAIN
             | FE2O3_OFFER_ANONYMOUS | FE2O3_OFFER_EXTERNAL,
         .iterations = 4096,
+        .mock_salt_len = 16,
+        .mock_secret = secret,
+        .mock_secret_len = sizeof secret,
         .username = FE2O3_NONE,
         .records = &all.record,
         .records_count = 1,

@@ -245,8 +245,8 @@ impl Prepared<'_> {
         Server::new(&self.records, &self.options, self.transport).offers_any()
     }
 
-    /// The server that continues what the struct of SCRAM keeps of a login. The mock record of an open challenge's user is
-    /// recomputed, by three HMAC values. `OutOfMemory` is the only error.
+    /// The server that continues what the struct of SCRAM keeps of a login. With mock authentication the mock record of an
+    /// open challenge's user is recomputed, by three HMAC values. `OutOfMemory` is the only error.
     fn restored(&self, alloc: Global, scram: &ScramServer) -> Result<LoggedServer<'_>, Status>
         ensures settings { IfOk result (λ made. (sasl_server made.server).settings
             ≡ settings_with self.now.records self.now.options self.now.transport) }
