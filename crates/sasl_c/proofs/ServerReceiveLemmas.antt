@@ -1,6 +1,6 @@
 -- That the name of a user whom bytes claim fits into the room of a call, and what a call that needs no records writes.
 use Rattle.std.proofs.Common.{arith, ap, Bool, true, false, inl, inr, ◌≡◌, ◌-◌, ◌<◌, ◌≤◌, ◌⊎◌, ◌++◌, ◌∷◌, ℕ, List, [], length}
-use Rattle.std.specs.Prelude.{Option, Some, None, slice_get, drop, take, codes, Result, Ok, Err}
+use Rattle.std.specs.Prelude.{Some, None, slice_get, drop, take, codes, Result, Ok, Err}
 use Rattle.std.specs.List.{join_with_byte}
 use Rattle.std.proofs.lemmas.List.{length-append, length-drop, length-take, length-take-le}
 use Rattle.fe2o3_sasl_wire.specs.SaslFrames as frames
@@ -12,7 +12,7 @@ use Rattle.fe2o3_scram.specs.ServerFirst.{ServerChallenge}
 use Rattle.fe2o3_scram.specs.Texts.{Part}
 use Rattle.fe2o3_scram.specs.declared.scram_messages.server_rules.ServerRules.{ServerRules}
 use Rattle.fe2o3_scram.proofs.lemmas.texts.EscapingLemmas.{by_cases, escaped-cons}
-use Rattle.fe2o3_sasl_core.specs.LoginAttempts.{ClaimIn, ClaimsUser}
+use Rattle.fe2o3_sasl_core.specs.LoginAttempts.{ClaimsUser}
 use Rattle.fe2o3_sasl_negotiation.specs.declared.progress.FrameKind.{FrameKind}
 use Rattle.fe2o3_sasl_negotiation.specs.declared.progress.FrameKind.TheVariants as turns
 use Rattle.fe2o3_sasl_negotiation.specs.Framing.{body_read, size_of}
@@ -28,7 +28,7 @@ use Rattle.sasl_c.specs.declared.status.WriteError.TheVariants.{RoomTooSmall, Ot
 use Rattle.sasl_c.specs.Client.{is_set}
 use Rattle.sasl_c.specs.Connection.{accepts_extended}
 use Rattle.sasl_c.specs.SaslServer.{FrameNames, Named, NotNamed, ReceivesAsServer}
-use Rattle.sasl_c.specs.Server.{IsOpen, struct_challenge}
+use Rattle.sasl_c.specs.Server.{IsOpen}
 use Rattle.sasl_c.specs.ServerReceive.{NeedsNoRecords, NeedsRecords, ReceivesOrAsks}
 use Rattle.sasl_c.specs.Status.{AsksText, FillsWithin, Room, with_written}
 
