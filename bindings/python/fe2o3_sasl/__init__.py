@@ -85,8 +85,8 @@ bytes of size.
 
 A program with asyncio logs in by `fe2o3_sasl.asyncio` (`from fe2o3_sasl.asyncio import log_in, serve`).
 
-A call that fails raises `Refused` or a subclass, and leaves the object as it was. Catch the subclass that you can
-handle:
+A call that fails raises `Refused` or a subclass, and leaves the object as it was. Only `receive` of a connection has then
+taken the frames before the one that failed, and their answers are lost. Catch the subclass that you can handle:
 
     try:
         client.verify(receive())

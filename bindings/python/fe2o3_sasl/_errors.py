@@ -6,7 +6,7 @@ from ._numbers import Status
 
 
 class Refused(Exception):
-    """A call of the library failed. Nothing has changed.
+    """A call of the library failed, and has changed nothing.
 
     `status` is one of `Status`, or a number of a later library. `text` is its text. Each status has one class, this one
     or one below:

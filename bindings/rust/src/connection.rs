@@ -283,7 +283,7 @@ impl ClientNegotiation {
     }
 
     /// Takes received bytes, until all are used or the login ends. After an error the frames before the one that failed
-    /// have been answered.
+    /// have been taken, and their answers are lost: close the connection.
     ///
     /// # Panics
     ///

@@ -36,7 +36,8 @@ pub enum Rejection {
     /// The proof of SCRAM is not that of the user's password.
     WrongProof,
 
-    /// No record of the user has the password of the message of PLAIN. An unknown user has no record.
+    /// The message of PLAIN does not have the password of the record that is tested, the user has none, or may not act for
+    /// the identity that it names.
     WrongPassword,
 
     /// The init of EXTERNAL asks for another name than the one that the transport authenticated.

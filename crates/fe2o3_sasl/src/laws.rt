@@ -255,7 +255,8 @@ pub fn histories_exist()
 {}
 
 /// States where an allocation may fail: at an init and at a response of a server; at a list with the name, at a
-/// challenge and at an outcome with data of a SCRAM client; at such a list and at such an outcome of any profile; and
+/// challenge and at an outcome with data of a SCRAM client; of any profile at a list from which it takes a mechanism, at an
+/// empty challenge that it answers, and at an outcome with data, but for a client by a policy that has selected none; and
 /// nowhere else. All other replies are determined: `one_history_each`, `mechanisms`.
 pub fn want_of_memory()
     ensures server { ServersWantMemory }
@@ -265,7 +266,7 @@ pub fn want_of_memory()
 
 /// Worked examples of frames at which nothing is allocated, so that the answer is never out of memory. An acceptor
 /// allocates nothing at an init of another mechanism and at a response that is not expected, and that of PLAIN never. A
-/// profile allocates nothing at a list without its name, a challenge that is not UTF-8, not expected or not for SCRAM,
+/// profile allocates nothing at a list from which it takes no mechanism, a challenge that is not UTF-8 or not expected,
 /// an outcome without data, and one of code Ok for SCRAM that is not UTF-8 or not expected. Histories have the like.
 pub fn no_want_of_memory()
     ensures acceptors { AcceptorsAskForNone }

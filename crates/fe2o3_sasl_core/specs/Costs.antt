@@ -39,6 +39,10 @@ abbrev pub CostsAtMost : {S : Type 0} → (S → SaslFrame → ℕ → Type 0) �
 CostsAtMost hmacs state frame before after =
     (before ≤ after) × ((n : ℕ) → hmacs state frame n → after ≤ before + n)
 
+-- an answer made as many HMAC values as it takes
+abbrev pub CostsExactly : {S : Type 0} → (S → SaslFrame → ℕ → Type 0) → S → SaslFrame → ℕ → ℕ → Type 0
+CostsExactly hmacs state frame before after = (n : ℕ) → hmacs state frame n → after ≡ before + n
+
 -- the HMAC values of an acceptor for a body that spells this: one that spells no frame takes none
 abbrev pub AcceptorCostsOf : {S : Type 0} → (S → SaslFrame → ℕ → Type 0) → S → Result SaslFrame Error → ℕ → ℕ → Type 0
 AcceptorCostsOf hmacs state (Ok frame) before after = CostsAtMost hmacs state frame before after

@@ -511,7 +511,8 @@ rejection_of_server server = server.rejection
 abbrev pub KeepsReason : ServerAt → SaslFrame → Option Rejection → Option Rejection → Result ServerReply Error → Type 0
 KeepsReason server frame before after (Ok says) = (reply : SaslFrame) × (body : List ℕ) × (canonical reply ≡ Some body)
     × (server_reply says ≡ server_says reply body)
-    × MatchOption after (reply ≢ ends_with outcomes.Auth) (λ reason. sasl_reasons server frame reason)
+    × MatchOption after (reply ≢ ends_with outcomes.Auth)
+    (λ reason. (reply ≡ ends_with outcomes.Auth) × sasl_reasons server frame reason)
 KeepsReason server frame before after (Err fault) = after ≡ before
 
 -- and of the answer to a body that spells this

@@ -50,7 +50,8 @@ pub enum Rejection {
     #[error("Wrong password")]
     WrongProof,
 
-    /// No record of the user has the password of the message of PLAIN. An unknown user has no record.
+    /// The message of PLAIN does not have the password of the record that is tested, the user has none, or may not act for the
+    /// identity that it names.
     #[error("Unknown user or wrong password")]
     WrongPassword,
 

@@ -4,9 +4,9 @@ ghost use Rattle.std.specs.Prelude.{◌≡◌, ◌++◌, ◌≤◌, ◌^◌, ℕ
 ghost use Rattle.std.proofs.Common.{ap, refl};
 ghost use Rattle.fe2o3_sasl_wire.specs.AmqpTypes.{binary_bytes, init_frame, response_frame};
 ghost use Rattle.fe2o3_sasl_wire.specs.FrameView.{shown, viewed_frame};
-ghost use Rattle.fe2o3_sasl_wire.specs.SaslFrames.{Init, Response};
+ghost use Rattle.fe2o3_sasl_wire.specs.SaslFrames.{Init, Response, SaslFrame};
 ghost use Rattle.fe2o3_sasl_core.specs.Bodies.{SpellsBody};
-ghost use Rattle.fe2o3_sasl_core.specs.Costs.{AcceptorStepCosts, CostsAtMost};
+ghost use Rattle.fe2o3_sasl_core.specs.Costs.{AcceptorStepCosts, CostsAtMost, CostsExactly};
 ghost use Rattle.fe2o3_sasl_core.specs.LoginAttempts.{IsAttempt, LateAllocates, LateUser, attempt_of};
 ghost use Rattle.fe2o3_sasl_core.specs.Runs.{AcceptorAnswers, AcceptorSteps, server_answer};
 ghost use Rattle.fe2o3_sasl_core.specs.SaslAcceptor.{HasReason, reason_in, sent_frame};
@@ -41,11 +41,11 @@ use std::mem;
 
 /// A server of SCRAM-SHA-512, SCRAM-SHA-256 and SCRAM-SHA-1, each with `-PLUS` and without it, and of PLAIN, ANONYMOUS and
 /// EXTERNAL, over records and options that its connections share. It offers those of [`Mechanisms`](options::Mechanisms)
-/// that the connection admits, in this order.
+/// that the connection admits, in this order, all SCRAM with `-PLUS` before all SCRAM without it.
 ///
 /// A `Server` has one open exchange. An init that is accepted, whatever its mechanism, takes the place of the exchange or
-/// login before it, and an init that is rejected leaves that as it is. The server names a user from the outcome Ok to
-/// the next init that is accepted.
+/// login before it. An init that is rejected leaves that as it is, but ends the wait for an initial response. The server
+/// names a user from the outcome Ok to the next init that is accepted.
 ///
 /// ```text
 /// let options = ServerOptions::new(alloc, Mechanisms::scram());
@@ -166,6 +166,8 @@ impl<'a> Server<'a> {
             (server_answer result) (sasl_server self.new) }
         ensures cost { AcceptorStepCosts sasl_hmacs (sasl_server self.old)
             (record { body = body.now; nonce = nonce.now }) meter.old meter.new }
+        ensures exactly { OnOk result ((frame : SaslFrame) → SpellsBody body.now (Ok frame)
+            → CostsExactly sasl_hmacs (sasl_server self.old) frame meter.old meter.new) }
         ensures reason { StepKeepsReason (sasl_server self.old) body.now (rejection_of_server self.old)
             (rejection_of_server self.new) result }
     {
@@ -187,6 +189,8 @@ impl<'a> Server<'a> {
         ensures step { (body : List ℕ) → SpellsBody body (Ok (viewed_frame view.entry)) → AcceptorSteps sasl_machine
             (sasl_server self.old) (record { body = body; nonce = nonce.now }) (server_answer result) (sasl_server self.new) }
         ensures cost { CostsAtMost sasl_hmacs (sasl_server self.old) (viewed_frame view.entry) meter.old meter.new }
+        ensures exactly { OnOk result (CostsExactly sasl_hmacs (sasl_server self.old) (viewed_frame view.entry)
+            meter.old meter.new) }
         ensures reason { KeepsReason (sasl_server self.old) (viewed_frame view.entry) (rejection_of_server self.old)
             (rejection_of_server self.new) result }
     {
@@ -219,6 +223,8 @@ impl<'a> Server<'a> {
             (sasl_server self.new) }
         ensures cost { CostsAtMost sasl_hmacs (sasl_server self.old)
             (Init mechanism.now (shown initial_response.entry) (shown hostname.entry)) meter.old meter.new }
+        ensures exactly { OnOk result (CostsExactly sasl_hmacs (sasl_server self.old)
+            (Init mechanism.now (shown initial_response.entry) (shown hostname.entry)) meter.old meter.new) }
         ensures reason { KeepsReason (sasl_server self.old)
             (Init mechanism.now (shown initial_response.entry) (shown hostname.entry)) (rejection_of_server self.old)
             (rejection_of_server self.new) result }
@@ -253,6 +259,8 @@ impl<'a> Server<'a> {
         ensures answer { AcceptorAnswers sasl_machine (sasl_server self.old) nonce.now (Response text.now)
             (server_answer result) (sasl_server self.new) }
         ensures cost { CostsAtMost sasl_hmacs (sasl_server self.old) (Response text.now) meter.old meter.new }
+        ensures exactly { OnOk result (CostsExactly sasl_hmacs (sasl_server self.old) (Response text.now)
+            meter.old meter.new) }
         ensures reason { KeepsReason (sasl_server self.old) (Response text.now) (rejection_of_server self.old)
             (rejection_of_server self.new) result }
     {
@@ -288,6 +296,8 @@ impl<'a> Server<'a> {
             (Init mechanism.now (shown initial_response.entry) (shown hostname.entry))) made.0) }
         ensures cost { CostsAtMost sasl_hmacs (sasl_server self.now)
             (Init mechanism.now (shown initial_response.entry) (shown hostname.entry)) meter.old meter.new }
+        ensures exactly { OnOk result (CostsExactly sasl_hmacs (sasl_server self.now)
+            (Init mechanism.now (shown initial_response.entry) (shown hostname.entry)) meter.old meter.new) }
     {
         let attempt = LoginAttempt::of_init(alloc, mechanism, initial_response, hostname)?;
         let (reply, moves) = self.answer_init(alloc, mechanism, initial_response, nonce, meter)?;
@@ -312,6 +322,8 @@ impl<'a> Server<'a> {
             HasReason (sasl_reasons (sasl_server self.now) (Response text.now)) made.0) }
         ensures memory { IfErr result (λ _. sasl_allocates (sasl_server self.now) (Response text.now)) }
         ensures cost { CostsAtMost sasl_hmacs (sasl_server self.now) (Response text.now) meter.old meter.new }
+        ensures exactly { OnOk result (CostsExactly sasl_hmacs (sasl_server self.now) (Response text.now)
+            meter.old meter.new) }
     {
         let late = self.late_user(alloc, text)?;
         let (reply, moves) = self.answer_response(alloc, text, meter)?;
@@ -459,6 +471,8 @@ impl SaslAcceptor for Server<'_> {
         ensures memory { IfErr result (λ _. sasl_allocates (sasl_server self.old) (init_frame init)) }
         ensures err { OnErr result (sasl_server self.new ≡ sasl_server self.old) }
         ensures cost { CostsAtMost sasl_hmacs (sasl_server self.old) (init_frame init) meter.old meter.new }
+        ensures exactly { OnOk result (CostsExactly sasl_hmacs (sasl_server self.old) (init_frame init)
+            meter.old meter.new) }
         ensures rejection { IfOk result (λ reply. rejection_of_server self.new ≡ reason_in reply) }
         ensures unchanged { OnErr result (rejection_of_server self.new ≡ rejection_of_server self.old) }
     {
@@ -490,6 +504,8 @@ impl SaslAcceptor for Server<'_> {
         ensures memory { IfErr result (λ _. sasl_allocates (sasl_server self.old) (response_frame response)) }
         ensures err { OnErr result (sasl_server self.new ≡ sasl_server self.old) }
         ensures cost { CostsAtMost sasl_hmacs (sasl_server self.old) (response_frame response) meter.old meter.new }
+        ensures exactly { OnOk result (CostsExactly sasl_hmacs (sasl_server self.old) (response_frame response)
+            meter.old meter.new) }
         ensures rejection { IfOk result (λ reply. rejection_of_server self.new ≡ reason_in reply) }
         ensures unchanged { OnErr result (rejection_of_server self.new ≡ rejection_of_server self.old) }
     {

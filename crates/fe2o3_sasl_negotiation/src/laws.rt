@@ -25,8 +25,8 @@ pub fn cuts<A: AuthenticatedUser>()
 
 /// A side that accepts extended headers ([`accept_extended_headers`](crate::ConnectionSide::accept_extended_headers)) does
 /// what a side does that does not, over the stream without these headers: as many calls with the same nonces send the
-/// same bytes and leave the same side. So the other laws hold of it over that stream. Each frame has an allowed size in
-/// both streams.
+/// same bytes and leave the same side. So the laws of bytes, progress and names hold of it over that stream. Those of
+/// costs and of unused nonces say nothing of it. Each frame has an allowed size in both streams.
 pub fn extended_headers<A: AuthenticatedUser>()
     ensures server { ExtendedHeadersAreIgnored (ServerSideAnswers A.names A.machine) }
     ensures client { ClientsIgnoreExtendedHeaders }

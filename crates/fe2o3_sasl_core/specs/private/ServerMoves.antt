@@ -1,5 +1,5 @@
 -- What the answer of a server changes. Only contracts of private functions cite this.
-use Rattle.std.specs.Prelude.{◌≤◌, ◌+◌, ℕ, Option, Some, option_map, string_bytes}
+use Rattle.std.specs.Prelude.{◌≡◌, ◌≤◌, ◌+◌, ℕ, Option, Some, option_map, string_bytes}
 use Rattle.fe2o3_sasl_core.specs.LoginAttempts.{Attempt, attempt_of, with_late}
 use Rattle.fe2o3_sasl_core.specs.Servers.{ServerStage, ExchangeOpen, SignatureShown, UserAuthenticated, exchange_login, stage_of}
 use Rattle.fe2o3_sasl_core.specs.declared.server.Claimed.{Claimed}
@@ -39,3 +39,7 @@ claimed last (claims.Late user) = option_map (λ attempt. with_late attempt (opt
 -- no more HMAC values were made than these
 abbrev pub TakesAtMost : (ℕ → Type 0) → ℕ → ℕ → Type 0
 TakesAtMost takes before after = (before ≤ after) × ((n : ℕ) → takes n → after ≤ before + n)
+
+-- this many HMAC values were made
+abbrev pub TakesExactly : (ℕ → Type 0) → ℕ → ℕ → Type 0
+TakesExactly takes before after = (n : ℕ) → takes n → after ≡ before + n

@@ -1,6 +1,6 @@
 //! What a server answers, before it changes anything.
 
-ghost use Rattle.std.specs.Prelude.{◌≡◌, ◌≢◌, ◌↔◌, ◌≤◌, ◌^◌, ℕ, List, Option, Some, None, [], true, IfOk, IfErr, MatchOption, option_map};
+ghost use Rattle.std.specs.Prelude.{◌≡◌, ◌≢◌, ◌↔◌, ◌≤◌, ◌^◌, ℕ, List, Option, Some, None, [], true, IfOk, IfErr, OnOk, MatchOption, option_map};
 ghost use Rattle.fe2o3_sasl_wire.specs.FrameView.{shown};
 ghost use Rattle.fe2o3_sasl_wire.specs.SaslFrames.{Challenge as ChallengeFrame, Init, Outcome as OutcomeFrame};
 ghost use Rattle.fe2o3_sasl_wire.specs.declared.amqp_types.SaslCode.TheVariants.{Ok as OkCode};
@@ -12,7 +12,7 @@ ghost use Rattle.fe2o3_sasl_core.specs.MockChoices.{count_of_unknown, mock_for};
 ghost use Rattle.fe2o3_sasl_core.specs.Servers.{AsksForResponse, ExchangeOpen, FinalRejects, InitAllocates, InitAnswers, InitRejects, ServerLogin, ResponseAllocates, ResponseAnswers, ResponseRejects, InitWhere, InitWhereRejects, ServerStage, UserAuthenticated, ConfirmsSignature, asked_way, init_hmacs, init_where_hmacs, is_asked_by, is_named, is_response_asked, server_login, is_offered_by, plain_by_settings, response_hmacs, rules_by, settings_in, stage_of};
 ghost use Rattle.fe2o3_sasl_core.specs.declared.rejection.Rejection.TheVariants.{NoInitialResponse};
 ghost use Rattle.fe2o3_sasl_core.specs.declared.server.ways.Way.TheVariants.{Scram as ScramWay, Plain as PlainWay, Anonymous as AnonymousWay, External as ExternalWay};
-ghost use Rattle.fe2o3_sasl_core.specs.private.ServerMoves.{TakesAtMost, after};
+ghost use Rattle.fe2o3_sasl_core.specs.private.ServerMoves.{TakesAtMost, TakesExactly, after};
 
 use crate::OutOfMemory;
 use crate::login_attempts::copied;
@@ -164,6 +164,8 @@ impl Server<'_> {
             InitAllocates (settings_in self.now) (ScramWay version plus) (Some text.now)) }
         ensures cost { TakesAtMost (init_hmacs (settings_in self.now) (ScramWay version plus) (Some text.now))
             meter.old meter.new }
+        ensures exactly { OnOk result (TakesExactly (init_hmacs (settings_in self.now) (ScramWay version plus)
+            (Some text.now)) meter.old meter.new) }
     {
         let rules = self.rules(plus);
         let opened = ServerExchange::open(
@@ -209,6 +211,7 @@ impl Server<'_> {
             HasReason (InitRejects (settings_in self.now) PlainWay (Some text.now)) made.0) }
         ensures memory { IfErr result (λ _. InitAllocates (settings_in self.now) PlainWay (Some text.now)) }
         ensures cost { TakesAtMost (init_hmacs (settings_in self.now) PlainWay (Some text.now)) meter.old meter.new }
+        ensures exactly { OnOk result (TakesExactly (init_hmacs (settings_in self.now) PlainWay (Some text.now)) meter.old meter.new) }
     {
         let options = self.options;
         let Some(message) = PlainMessage::read_taken(options.accept_authzid, text) else {
@@ -298,6 +301,8 @@ impl Server<'_> {
             HasReason (InitRejects (settings_in self.now) way (shown response.entry)) made.0) }
         ensures memory { IfErr result (λ _. InitAllocates (settings_in self.now) way (shown response.entry)) }
         ensures cost { TakesAtMost (init_hmacs (settings_in self.now) way (shown response.entry)) meter.old meter.new }
+        ensures exactly { OnOk result (TakesExactly (init_hmacs (settings_in self.now) way (shown response.entry))
+            meter.old meter.new) }
     {
         match (way, response) {
             (Way::Anonymous, _) => {
@@ -334,6 +339,8 @@ impl Server<'_> {
             (settings_in self.now) name.now (shown response.entry)) made.0) }
         ensures cost { TakesAtMost (init_where_hmacs (is_response_asked (stage_of self.now.stage)) (settings_in self.now)
             name.now (shown response.entry)) meter.old meter.new }
+        ensures exactly { OnOk result (TakesExactly (init_where_hmacs (is_response_asked (stage_of self.now.stage))
+            (settings_in self.now) name.now (shown response.entry)) meter.old meter.new) }
     {
         if self.is_response_asked() {
             return Ok((
@@ -370,6 +377,8 @@ impl Server<'_> {
             (ExchangeOpen version plus exchange.now) text.now) }
         ensures cost { TakesAtMost (response_hmacs (settings_in self.now) (ExchangeOpen version plus exchange.now)
             text.now) meter.old meter.new }
+        ensures exactly { OnOk result (TakesExactly (response_hmacs (settings_in self.now)
+            (ExchangeOpen version plus exchange.now) text.now) meter.old meter.new) }
     {
         let rights = &self.options.rights;
         let may_act = rights.may_act(exchange.username(), exchange.acts_for());
@@ -404,6 +413,8 @@ impl Server<'_> {
         ensures memory { IfErr result (λ _. ResponseAllocates (settings_in self.now) (stage_of self.now.stage) text.now) }
         ensures cost { TakesAtMost (response_hmacs (settings_in self.now) (stage_of self.now.stage) text.now)
             meter.old meter.new }
+        ensures exactly { OnOk result (TakesExactly (response_hmacs (settings_in self.now)
+            (stage_of self.now.stage) text.now) meter.old meter.new) }
     {
         match &self.stage {
             Stage::Asked { way, nonce } => {

@@ -158,7 +158,8 @@ impl<'a> Server<'a> {
     /// offer is dropped. The caller vouches for the values: a login that was saved is one.
     ///
     /// The only error is `OutOfMemory`, and only for an open challenge, a signature or a login. The meter, of at most 2^63,
-    /// counts three HMAC values for an open challenge at a server with mock authentication, and none otherwise.
+    /// counts three HMAC values for an open challenge by an offered mechanism at a server with mock authentication, and none
+    /// otherwise.
     pub fn restore(
         alloc: Global,
         records: &'a MultiRecordStore,

@@ -169,7 +169,7 @@ pub enum ServerScramErrorKind {
     #[error("Attribute in the place of an extension")]
     MisplacedAttribute,
 
-    /// The proof does not meet the stored key.
+    /// The proof does not meet the stored key, or the user may not act for the identity that the client named.
     #[error("Authentication failed")]
     AuthenticationFailed,
 

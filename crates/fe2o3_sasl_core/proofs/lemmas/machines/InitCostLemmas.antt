@@ -79,6 +79,11 @@ module _ (provider : Provider) (state : ServerState) (mechanism text : List ℕ)
         (rises A kind before after costs, λ n takes. refused_most A kind before after n costs takes)
 
     -- and exactly, where memory does not run out
+    pub read_takes : (client : ClientFirst) → ReadsClientFirst provider.rules text (Ok client) → (before after : ℕ)
+        → after ≡ before + provider.look_up_cost → (n : ℕ) → Takes n → after ≡ before + n
+    read_takes client reads before after costs n (inl takes) = let all = takes.1 in omega (costs, all, arith)
+    read_takes client reads before after costs n (inr takes) = absurd (takes.0 (is_name, (client, reads)))
+
     unread : (kind : ServerScramErrorKind) (n : ℕ) → ReadsClientFirst provider.rules text (Err kind) → Takes n
         → n ≡ 0
     unread kind n refuses (inl takes) =
@@ -89,6 +94,14 @@ module _ (provider : Provider) (state : ServerState) (mechanism text : List ℕ)
         → FirstCosts {A = A} provider text (Err kind) before after → after ≡ before
     same_meter A OutOfMemory before after other costs = absurd (other refl)
     same_meter A kind before after other costs = costs
+
+    pub unread_takes : (A : Type 0) (kind : ServerScramErrorKind) → kind ≢ OutOfMemory
+        → ReadsClientFirst provider.rules text (Err kind) → (before after : ℕ)
+        → FirstCosts {A = A} provider text (Err kind) before after → (n : ℕ) → Takes n → after ≡ before + n
+    unread_takes A kind told refuses before after costs n takes =
+        let none = unread kind n refuses takes in
+        let same = same_meter A kind before after told costs in
+        omega (none, same, arith)
 
     pub refusal_takes : {X E : Type 0} (A V : Type 0) (Allocates : Type 0) (sends : X → Type 0)
         (view : V → Option (List ℕ)) (kind : ServerScramErrorKind) (sent : Result X E) (before after : ℕ)

@@ -121,7 +121,7 @@ exactly_against Allocates view challenge stored version rules rights text (Err f
     omega (arith, same, none)
 
 -- as many as the acceptor's answer takes
-exactly_from : {V : Type 0} (Allocates : Type 0) (view : V → Option (List ℕ)) (provider : Provider)
+pub exactly_from : {V : Type 0} (Allocates : Type 0) (view : V → Option (List ℕ)) (provider : Provider)
     (state next : ServerState) (text : List ℕ) (result : Result V ServerScramErrorKind) (before after n : ℕ)
     → result ≢ Err OutOfMemory
     → Gives OutOfMemory Allocates view result

@@ -1,5 +1,5 @@
 -- What the parts of a server's answer say of its machine.
-use Rattle.std.proofs.Common.{◌≡◌, inl, inr, ℕ, Bool, List, Option, Some, Result, Ok, Err, sym, subst, refl}
+use Rattle.std.proofs.Common.{◌≡◌, ◌≢◌, inl, inr, ℕ, Bool, List, Option, Some, Result, Ok, Err, sym, subst, refl}
 use Rattle.std.specs.Prelude.{IsAscii, codes}
 use Rattle.fe2o3_sasl_core.proofs.lemmas.frames.SpellingLemmas.{IsAscii-mechanism_of}
 use Rattle.fe2o3_sasl_wire.proofs.lemmas.reading.TextLemmas.{IsAscii-from_is_ascii}
@@ -11,6 +11,7 @@ use Rattle.fe2o3_sasl_core.specs.Events.{Failed, ServerSays}
 use Rattle.fe2o3_sasl_core.specs.Runs.{AcceptorAnswers, SendsCanonical, server_reply}
 use Rattle.std.specs.Prelude.{Vec}
 use Rattle.std.specs.declared.alloc.Global.{Global}
+use Rattle.fe2o3_scram.specs.ClientFinal.{Server}
 use Rattle.fe2o3_scram.specs.Credentials.{with_rights}
 use Rattle.fe2o3_scram.specs.Readings.{Gives}
 use Rattle.fe2o3_scram.specs.ScramServer.{ServerFirstSent, ServerFinalSent}
@@ -18,12 +19,12 @@ use Rattle.fe2o3_scram.specs.ServerFinal.{AnswersClientFinal, FinalCosts}
 use Rattle.fe2o3_scram.specs.ServerFirst.{OpenExchange}
 use Rattle.fe2o3_scram.specs.declared.hmac.ScramVersion.{ScramVersion}
 use Rattle.fe2o3_scram.specs.declared.scram_messages.error.ServerScramErrorKind.{ServerScramErrorKind}
-use Rattle.fe2o3_scram.specs.declared.scram_messages.error.ServerScramErrorKind.TheVariants.{OutOfMemory}
+use Rattle.fe2o3_scram.specs.declared.scram_messages.error.ServerScramErrorKind.TheVariants.{AuthenticationFailed, OutOfMemory}
 use Rattle.fe2o3_sasl_core.specs.Servers.{ExchangeOpen, NotStarted, ServerSettings, ServerStage, provider_by, response_hmacs, exchange_server, way_name}
 use Rattle.fe2o3_sasl_core.specs.declared.server.stage.Move.{Move}
 use Rattle.fe2o3_sasl_core.specs.declared.server.stage.Move.TheVariants as moves
-use Rattle.fe2o3_sasl_core.specs.private.ServerMoves.{TakesAtMost, after, restarted}
-use Rattle.fe2o3_sasl_core.proofs.lemmas.machines.ResponseCostLemmas.{response_costs}
+use Rattle.fe2o3_sasl_core.specs.private.ServerMoves.{TakesAtMost, TakesExactly, after, restarted}
+use Rattle.fe2o3_sasl_core.proofs.lemmas.machines.ResponseCostLemmas.{exactly_from, response_costs}
 use Rattle.fe2o3_sasl_core.specs.declared.events.ServerReply.{ServerReply}
 use Rattle.fe2o3_sasl_core.specs.private.Writing.{Writes}
 use Rattle.fe2o3_sasl_core.specs.declared.server.ways.Way.{Way}
@@ -85,6 +86,43 @@ exchange_costs R settings version plus exchange text (Err kind) before after giv
     (with_rights settings.rights (provider_by settings version plus))
     (ServerFirstSent exchange.challenge exchange.stored) (ServerFirstSent exchange.challenge exchange.stored) text
     (Err kind) before after (gives.0, λ other. (gives.1 other, refl)) costs
+
+-- and exactly, where memory does not run out
+pub exchange_takes : (settings : ServerSettings) (version : ScramVersion) (plus : Bool) (exchange : OpenExchange)
+    (text : List ℕ) (message : Vec ℕ Global) (before after : ℕ)
+    → AnswersClientFinal (exchange_server settings version plus exchange) text (Ok message.items)
+    → FinalCosts (exchange_server settings version plus exchange) text (Ok message) before after
+    → TakesExactly (response_hmacs settings (ExchangeOpen version plus exchange) text) before after
+exchange_takes settings version plus exchange text message before after answers costs = λ n takes.
+    exactly_from (Unit {0}) (λ (message : Vec ℕ Global). Some message.items)
+    (with_rights settings.rights (provider_by settings version plus))
+    (ServerFirstSent exchange.challenge exchange.stored)
+    (ServerFinalSent exchange.challenge.user exchange.challenge.header.acts_for) text (Ok message) before after n
+    (λ e. absurd (cc)) (answers, refl) costs takes
+
+-- (an error but for memory costs the same whichever server it is of)
+costs_of_any : (server other : Server) (text : List ℕ) (kind : ServerScramErrorKind) (before after : ℕ)
+    → kind ≢ OutOfMemory → FinalCosts {A = Vec ℕ Global} other text (Err kind) before after
+    → FinalCosts {A = Vec ℕ Global} server text (Err kind) before after
+costs_of_any server other text AuthenticationFailed before after told costs = costs
+costs_of_any server other text OutOfMemory before after told costs = absurd (told refl)
+costs_of_any server other text kind before after told costs = costs
+
+pub rejected_takes : (settings : ServerSettings) (version : ScramVersion) (plus : Bool) (exchange : OpenExchange)
+    (server : Server) (text : List ℕ) (kind : ServerScramErrorKind) (before after : ℕ) → kind ≢ OutOfMemory
+    → AnswersClientFinal (exchange_server settings version plus exchange) text (Err kind)
+    → FinalCosts {A = Vec ℕ Global} server text (Err kind) before after
+    → TakesExactly (response_hmacs settings (ExchangeOpen version plus exchange) text) before after
+rejected_takes settings version plus exchange server text kind before after other answers costs = λ n takes.
+    exactly_from {V = Vec ℕ Global} (Unit {0}) (λ (message : Vec ℕ Global). Some message.items)
+    (with_rights settings.rights (provider_by settings version plus))
+    (ServerFirstSent exchange.challenge exchange.stored) (ServerFirstSent exchange.challenge exchange.stored) text
+    (Err kind) before after n (λ e. other (told kind e)) ((λ is. tt), λ _. (answers, refl))
+    (costs_of_any (exchange_server settings version plus exchange) server text kind before after other costs) takes
+  where
+    told : (kind : ServerScramErrorKind) → ◌≡◌ {A = Result (Vec ℕ Global) ServerScramErrorKind} (Err kind) (Err OutOfMemory)
+        → kind ≡ OutOfMemory
+    told kind e = cc
 
 -- ---- moves
 

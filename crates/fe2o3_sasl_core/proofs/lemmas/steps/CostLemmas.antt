@@ -1,6 +1,6 @@
 -- What answers and steps cost, from what a meter shows.
-use Rattle.std.proofs.Common.{◌≡◌, ℕ, Bool, List, refl, true, false, Result, Ok, Err, arith}
-use Rattle.std.specs.Prelude.{IsOk, ◌&&◌}
+use Rattle.std.proofs.Common.{◌≡◌, ℕ, Bool, List, refl, subst, true, false, Result, Ok, Err, arith}
+use Rattle.std.specs.Prelude.{IsOk, OnOk, ◌&&◌}
 use Rattle.std.specs.Str.{IsUtf8}
 use Rattle.fe2o3_sasl_wire.specs.declared.sasl_frames.error.Error.{Error}
 use Rattle.fe2o3_sasl_wire.specs.SaslFrames as frames
@@ -9,9 +9,11 @@ use Rattle.fe2o3_scram.specs.ScramClient as client_states
 use Rattle.fe2o3_scram.specs.ScramClient.{ClientSide, ClientState, AnswerCostsIn, expects_signature, is_unsigned}
 use Rattle.fe2o3_scram.specs.ServerFirst.{Client}
 use Rattle.fe2o3_scram.specs.ServerFirstAnswers.{AnswerCosts}
-use Rattle.fe2o3_sasl_core.specs.Costs.{CostsAtMost, AcceptorStepCosts, ProfileCosts, ProfileStepCosts}
+use Rattle.fe2o3_sasl_core.specs.Costs.{CostsAtMost, CostsExactly, AcceptorStepCosts, ProfileCosts, ProfileStepCosts}
+use Rattle.fe2o3_sasl_core.specs.Bodies.{SpellsBody}
 use Rattle.fe2o3_sasl_core.specs.Events.{Given}
 use Rattle.fe2o3_sasl_core.specs.Profiles.{Profile, ScramProfile}
+use Rattle.fe2o3_sasl_core.proofs.lemmas.frames.SpellingLemmas.{one_spelled_frame}
 
 -- ---- profiles
 
@@ -120,3 +122,12 @@ acceptor_step_costs hmacs state event frame n before after reads costs = (Ok fra
 pub unread_acceptor_costs : {S : Type 0} (hmacs : S → SaslFrame → ℕ → Type 0) (state : S) (event : Given)
     (fault : Error) (meter : ℕ) → ReadsBody event.body (Err fault) → AcceptorStepCosts hmacs state event meter meter
 unread_acceptor_costs hmacs state event fault meter reads = (Err fault, reads, refl)
+
+-- a body that spells a frame costs what the frame does
+pub step_costs_exactly : {S X E : Type 0} (hmacs : S → SaslFrame → ℕ → Type 0) (state : S) (body : List ℕ) (frame : SaslFrame)
+    (result : Result X E) (before after : ℕ) → SpellsBody body (Ok frame)
+    → OnOk result (CostsExactly hmacs state frame before after)
+    → OnOk result ((other : SaslFrame) → SpellsBody body (Ok other) → CostsExactly hmacs state other before after)
+step_costs_exactly hmacs state body frame (Ok value) before after spells exactly = λ other is.
+    subst (λ (f : SaslFrame). CostsExactly hmacs state f before after) (one_spelled_frame body frame other spells is) exactly
+step_costs_exactly hmacs state body frame (Err fault) before after spells exactly = tt

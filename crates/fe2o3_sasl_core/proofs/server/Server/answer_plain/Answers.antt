@@ -1,8 +1,8 @@
-use Rattle.std.proofs.Common.{◌∙◌, Some, inl, inr, refl}
+use Rattle.std.proofs.Common.{◌∙◌, Some, arith, inl, inr, refl}
 use Rattle.fe2o3_sasl_core.specs.PlainServer.{parts_of}
 use Rattle.fe2o3_sasl_core.specs.Servers.{UserAuthenticated, plain_by_settings, settings_in}
 use Rattle.fe2o3_sasl_core.specs.declared.server.ways.Way.TheVariants as ways
-use Rattle.fe2o3_sasl_core.proofs.lemmas.machines.PlainServerLemmas.{err_where, most_of_test, not_logged_in}
+use Rattle.fe2o3_sasl_core.proofs.lemmas.machines.PlainServerLemmas.{cost_of_test, err_where, most_of_test, no_test, not_logged_in}
 use Rattle.fe2o3_sasl_core.proofs.server.Server.answer_plain.Goals as goal
 
 pub returns-in_err-to_string-clause-memory : goal.returns-in_err-to_string-clause-memory
@@ -63,5 +63,17 @@ returns-in_ok-copied-clause-cost c =
 pub returns-else-branch-clause-cost : goal.returns-else-branch-clause-cost
 returns-else-branch-clause-cost c =
     most_of_test (plain_by_settings (settings_in c.args.self.now)) c.args.text.now (parts_of c.in-Some.message)
+    c.args.meter.now c.lets_in.new.meter c.in-Some.ensures.0 c.in-Some.ensures.1
+    (rw (c.plain_iterations.ensures, c.for_version.ensures) at c.in_ok-lets_in.ensures.cost)
+
+pub returns-in_ok-copied-clause-exactly : goal.returns-in_ok-copied-clause-exactly
+returns-in_ok-copied-clause-exactly c =
+    cost_of_test (plain_by_settings (settings_in c.args.self.now)) c.args.text.now (parts_of c.in-Some.message)
+    c.args.meter.now c.lets_in.new.meter c.in-Some.ensures.0 c.in-Some.ensures.1
+    (rw (c.plain_iterations.ensures, c.for_version.ensures) at c.in_ok-lets_in.ensures.cost)
+
+pub returns-else-branch-clause-exactly : goal.returns-else-branch-clause-exactly
+returns-else-branch-clause-exactly c =
+    cost_of_test (plain_by_settings (settings_in c.args.self.now)) c.args.text.now (parts_of c.in-Some.message)
     c.args.meter.now c.lets_in.new.meter c.in-Some.ensures.0 c.in-Some.ensures.1
     (rw (c.plain_iterations.ensures, c.for_version.ensures) at c.in_ok-lets_in.ensures.cost)

@@ -16,3 +16,6 @@ returns-in-Open-clause-memory c = rw c.in-Open.is c.conclude.ensures.memory
 
 pub returns-in-Open-clause-cost : goal.returns-in-Open-clause-cost
 returns-in-Open-clause-cost c = rw c.in-Open.is c.conclude.ensures.cost
+
+pub returns-in-Open-clause-exactly : goal.returns-in-Open-clause-exactly
+returns-in-Open-clause-exactly c = rw c.in-Open.is c.conclude.ensures.exactly

@@ -16,3 +16,11 @@ returns-in-Plain-Some-clause-cost c =
 pub returns-in-Scram-Some-clause-cost : goal.returns-in-Scram-Some-clause-cost
 returns-in-Scram-Some-clause-cost c =
     rw (c.in-Scram-Some.is-0, c.in-Scram-Some.is-1) c.answer_scram.ensures.cost
+
+pub returns-in-Plain-Some-clause-exactly : goal.returns-in-Plain-Some-clause-exactly
+returns-in-Plain-Some-clause-exactly c =
+    rw (c.in-Plain-Some.is-0, c.in-Plain-Some.is-1) c.answer_plain.ensures.exactly
+
+pub returns-in-Scram-Some-clause-exactly : goal.returns-in-Scram-Some-clause-exactly
+returns-in-Scram-Some-clause-exactly c =
+    rw (c.in-Scram-Some.is-0, c.in-Scram-Some.is-1) c.answer_scram.ensures.exactly

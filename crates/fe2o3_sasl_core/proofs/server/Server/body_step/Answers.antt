@@ -2,7 +2,7 @@ use Rattle.std.proofs.Common.{refl, Ok, Err}
 use Rattle.fe2o3_sasl_wire.specs.FrameView.{viewed_frame}
 use Rattle.fe2o3_sasl_core.specs.Events.{Given}
 use Rattle.fe2o3_sasl_core.specs.Servers.{sasl_hmacs, sasl_machine, sasl_server}
-use Rattle.fe2o3_sasl_core.proofs.lemmas.steps.CostLemmas.{acceptor_step_costs, unread_acceptor_costs}
+use Rattle.fe2o3_sasl_core.proofs.lemmas.steps.CostLemmas.{acceptor_step_costs, step_costs_exactly, unread_acceptor_costs}
 use Rattle.fe2o3_sasl_core.proofs.lemmas.steps.WrittenStepLemmas.{unreadable}
 use Rattle.fe2o3_sasl_core.proofs.server.Server.body_step.Goals as goal
 
@@ -32,3 +32,9 @@ returns-in-Ok-clause-reason c = (
   (c.in-Ok.field-0-1, c.in-Ok.ensures.reads),
   c.frame_step.ensures.reason,
 )
+
+pub returns-in-Ok-clause-exactly : goal.returns-in-Ok-clause-exactly
+returns-in-Ok-clause-exactly c =
+    step_costs_exactly sasl_hmacs (sasl_server c.args.self.now) c.args.body.now (viewed_frame c.in-Ok.view)
+    c.frame_step.result c.args.meter.now c.frame_step.new.meter (c.in-Ok.field-0-1, c.in-Ok.ensures.reads)
+    c.frame_step.ensures.exactly

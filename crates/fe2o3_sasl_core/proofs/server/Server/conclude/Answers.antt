@@ -1,7 +1,7 @@
 use Rattle.std.proofs.Common.{refl, Ok, Err}
 use Rattle.fe2o3_sasl_core.specs.Servers.{settings_in}
 use Rattle.fe2o3_sasl_core.proofs.lemmas.machines.PlainServerLemmas.{err_where}
-use Rattle.fe2o3_sasl_core.proofs.lemmas.machines.ServerAnswerLemmas.{exchange_costs}
+use Rattle.fe2o3_sasl_core.proofs.lemmas.machines.ServerAnswerLemmas.{exchange_costs, exchange_takes, rejected_takes}
 use Rattle.fe2o3_sasl_core.proofs.server.Server.conclude.Goals as goal
 
 pub returns-in_err-refusal-in-Err-clause-memory : goal.returns-in_err-refusal-in-Err-clause-memory
@@ -95,3 +95,37 @@ returns-in_ok-refusal-in-Err-clause-cost c =
     ) at c.conclude.ensures.cost in
     exchange_costs _ (settings_in c.args.self.now) c.args.version c.args.plus c.args.exchange.now c.args.text.now
     c.conclude.result c.args.meter.now c.conclude.new.meter answers costs
+
+pub returns-then-self-clause-exactly : goal.returns-then-self-clause-exactly
+returns-then-self-clause-exactly c =
+    let answers = rw (
+      c.rules-rules.ensures,
+      c.may_act-may_act.ensures,
+      c.username.ensures,
+      c.acts_for.ensures,
+    ) at c.in-Ok.ensures.answer in
+    exchange_takes (settings_in c.args.self.now) c.args.version c.args.plus c.args.exchange.now c.args.text.now
+    c.in-Ok.message c.args.meter.now c.conclude.new.meter answers c.in-Ok.ensures.cost
+
+pub returns-else-self-clause-exactly : goal.returns-else-self-clause-exactly
+returns-else-self-clause-exactly c =
+    let answers = rw (
+      c.rules-rules.ensures,
+      c.may_act-may_act.ensures,
+      c.username.ensures,
+      c.acts_for.ensures,
+    ) at c.in-Ok.ensures.answer in
+    exchange_takes (settings_in c.args.self.now) c.args.version c.args.plus c.args.exchange.now c.args.text.now
+    c.in-Ok.message c.args.meter.now c.conclude.new.meter answers c.in-Ok.ensures.cost
+
+pub returns-in_ok-refusal-in-Err-clause-exactly : goal.returns-in_ok-refusal-in-Err-clause-exactly
+returns-in_ok-refusal-in-Err-clause-exactly c =
+    let answers = rw (
+      c.rules-rules.ensures,
+      c.may_act-may_act.ensures,
+      c.username.ensures,
+      c.acts_for.ensures,
+    ) at c.in-Err.ensures.answer in
+    let auth = c.in_ok-refusal-in-Err.ensures.auth in
+    rejected_takes (settings_in c.args.self.now) c.args.version c.args.plus c.args.exchange.now _ c.args.text.now
+    c.in-Err.kind c.args.meter.now c.conclude.new.meter auth.0 (answers.1 auth.0) c.in-Err.ensures.cost
