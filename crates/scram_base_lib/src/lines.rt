@@ -1,7 +1,8 @@
 //! The lines of a file of records.
 
-ghost use Rattle.std.specs.Prelude.{◌≡◌, ◌∷◌, [], IfOk};
+ghost use Rattle.std.specs.Prelude.{◌≡◌, ◌≢◌, ◌∷◌, ℕ, List, [], IfErr, IfOk};
 ghost use Rattle.std.specs.String.{string_bytes};
+ghost use Rattle.fe2o3_scram.specs.Escape.{escaped};
 ghost use Rattle.fe2o3_scram.specs.MultiRecordLines.{SpellsMixed, mixed_text};
 
 use crate::backend::Named;
@@ -269,8 +270,13 @@ pub fn of_user(alloc: Global, text: &str, name: &str) -> Result<String, Stop> {
     Ok(own)
 }
 
-/// Returns the name of a valid line, not escaped.
-pub fn unescaped(alloc: Global, name: &str) -> Result<String, Stop> {
+/// Returns the name that a text spells, not escaped (RFC 5802, section 5.1). The errors are `WrongName`, if it spells none,
+/// and `OutOfMemory`.
+pub fn unescaped(alloc: Global, name: &str) -> Result<String, Stop>
+    ensures ok { IfOk result (λ plain. escaped (string_bytes plain) ≡ name.now) }
+    ensures err { IfErr result (λ stop. stop ≢ Stop.OutOfMemory
+        → (stop ≡ Stop.WrongName) × ((plain : List ℕ) → escaped plain ≢ name.now)) }
+{
     match unescape_username(alloc, name) {
         Ok(plain) => Ok(plain.into_owned(alloc)?),
         Err(UnescapeError::OutOfMemory) => Err(Stop::OutOfMemory),

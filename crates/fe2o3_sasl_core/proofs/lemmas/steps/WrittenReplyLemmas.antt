@@ -8,7 +8,7 @@ use Rattle.fe2o3_sasl_wire.specs.SaslFrames as frames
 use Rattle.fe2o3_sasl_wire.specs.SaslFrames.{SaslFrame, canonical}
 use Rattle.fe2o3_sasl_core.specs.Events.{Started, Answered, Reported, Refused}
 use Rattle.fe2o3_sasl_core.specs.Runs.{ProfileReplies, SendsCanonical}
-use Rattle.fe2o3_sasl_core.specs.Profiles.{Profile, ScramProfile, profile_name, initial_response, after_init, MessageProfile, PolicyProfile}
+use Rattle.fe2o3_sasl_core.specs.Profiles.{Profile, ScramProfile, profile_name, initial_response, after_init, MessageProfile}
 use Rattle.fe2o3_sasl_core.specs.ProfileMachine.{OfferAnswers, profile_machine, ChallengeAllocates, FrameAllocates, StepAllocates, IsStarted, IsChallengeDue, ProfileAnswers}
 use Rattle.fe2o3_scram.specs.ScramClient as client_states
 use Rattle.fe2o3_scram.specs.ScramClient.{ClientSide, ClientState, ReachesSaltIn, expects_signature}

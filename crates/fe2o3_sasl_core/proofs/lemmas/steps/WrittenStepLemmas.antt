@@ -1,5 +1,5 @@
 -- A step over a body, in the cases of what the body spells.
-use Rattle.std.proofs.Common.{ℕ, Option, List, refl, inl, inr, Ok, Err}
+use Rattle.std.proofs.Common.{ℕ, Option, List, refl, inl, Ok, Err}
 use Rattle.fe2o3_sasl_wire.specs.declared.sasl_frames.error.Error.{Error}
 use Rattle.fe2o3_sasl_wire.specs.declared.sasl_frames.error.Error.TheVariants as faults
 use Rattle.fe2o3_sasl_wire.specs.Owned.{RefusesView}

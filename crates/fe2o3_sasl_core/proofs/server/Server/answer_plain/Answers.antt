@@ -1,8 +1,8 @@
-use Rattle.std.proofs.Common.{◌∙◌, Some, arith, inl, inr, refl}
+use Rattle.std.proofs.Common.{◌∙◌, Some, inl, inr, refl}
 use Rattle.fe2o3_sasl_core.specs.PlainServer.{parts_of}
 use Rattle.fe2o3_sasl_core.specs.Servers.{UserAuthenticated, plain_by_settings, settings_in}
 use Rattle.fe2o3_sasl_core.specs.declared.server.ways.Way.TheVariants as ways
-use Rattle.fe2o3_sasl_core.proofs.lemmas.machines.PlainServerLemmas.{cost_of_test, err_where, most_of_test, no_test, not_logged_in}
+use Rattle.fe2o3_sasl_core.proofs.lemmas.machines.PlainServerLemmas.{cost_of_test, err_where, most_of_test, not_logged_in}
 use Rattle.fe2o3_sasl_core.proofs.server.Server.answer_plain.Goals as goal
 
 pub returns-in_err-to_string-clause-memory : goal.returns-in_err-to_string-clause-memory
