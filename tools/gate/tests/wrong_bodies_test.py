@@ -81,6 +81,12 @@ def edit(old, new, *more):
     )
 
 
+class EditsOfThisRepository(unittest.TestCase):
+    def test_each_can_be_planted(self):
+        bad = [line for crate in wrong_bodies.libraries([]) for line in wrong_bodies.bodies_of(crate, "")[1]]
+        self.assertEqual(bad, [])
+
+
 class WrongBodies(unittest.TestCase):
     def setUp(self):
         room = tempfile.TemporaryDirectory()
