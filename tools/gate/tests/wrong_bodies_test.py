@@ -198,6 +198,17 @@ class WrongBodies(unittest.TestCase):
         self.assertIn("proofs/key/Key/clear/Proof.antt", texts)
         self.assertIn("proofs/more/KeyKeeps/keep/Proof.antt", texts)
 
+    def test_a_type_of_two_modules(self):
+        for name in ("one", "two"):
+            with open(f"{self.crate}/src/{name}.rt", "w", encoding="utf-8") as it:
+                it.write("struct Lock {\n    bits: u32,\n}\n\nimpl Lock {\n    fn open(&self) {\n        turn(self);\n    }\n}\n")
+        with open(f"{self.crate}/src/more.rt", "w", encoding="utf-8") as it:
+            it.write("impl Lock {\n    fn shut(&self) {\n        turn(self);\n    }\n}\n")
+        texts = wrong_bodies.by_contract("numbers", {}, ["numbers::half"])
+        self.assertIn("proofs/one/Lock/open/Proof.antt", texts)
+        self.assertIn("proofs/two/Lock/open/Proof.antt", texts)
+        self.assertNotIn("shut", " ".join(texts))
+
     def test_a_proof_file_alone_that_no_longer_fits(self):
         body = self.read(edit("    x / 2", "    x / 3"))
         names = "./proofs/half/Answers.antt:7:3: error: `returns`: `quotient` is not in scope"

@@ -78,11 +78,11 @@ module _ (login : Login) (provider : Provider) (password salt : List ℕ) (count
         }
 
 -- two clients one of which has logged in end in one side, which has selected its profile
-logged_in : (selection : Selection) (hostname : Option (List ℕ)) (profile : Profile) (sent : List ℕ) (side last : Side Profile)
-    → side.progress ≡ Authenticated → EndAlike selection hostname profile sent side last
+logged_in : (selection : Selection) (hostname : Option (List ℕ)) (calls : List Call) (profile : Profile) (sent : List ℕ)
+    (side last : Side Profile) → side.progress ≡ Authenticated → EndAlike selection hostname calls profile sent side last
     → IsChosen last.state × (last ≡ side)
-logged_in selection hostname profile sent side last logged (inl chosen) = chosen
-logged_in selection hostname profile sent side last logged (inr (no_init, nothing, closed, kept, is)) =
+logged_in selection hostname calls profile sent side last logged (inl chosen) = chosen
+logged_in selection hostname calls profile sent side last logged (inr (no_init, nothing, closed, kept, is)) =
     absurd (closed_is_not_logged_in _ (sym closed ∙ logged))
 
 pub unaltered_policy_clients_log_in : UnalteredPolicyClientsLogIn
@@ -93,7 +93,8 @@ unaltered_policy_clients_log_in selection login provider password salt count cli
     joined.client_sent joined.server_sent server holds wide.client_limit wide.server_nonces joined.server_takes) selected
     joined.client_takes)
   where
-    go : (side : Side Profile) × EndAlike selection login.hostname (scram_profile login) joined.client_sent side client
+    go : (side : Side Profile)
+        × EndAlike selection login.hostname joined.client_calls (scram_profile login) joined.client_sent side client
         × Calls (ClientReceives login.hostname) (fresh joined.client_limit (scram_profile login)) joined.client_calls
         joined.server_sent joined.client_sent side []
         → IsChosen client.state × ((both : Joined login provider client server) × BothLogIn both salt count)
@@ -115,7 +116,8 @@ unaltered_policy_clients_log_in selection login provider password salt count cli
           server_nonces = wide.server_nonces;
         }) in
         let (chosen, same) =
-        logged_in selection login.hostname (scram_profile login) joined.client_sent side client log_in.client_progress alike in (
+        logged_in selection login.hostname joined.client_calls (scram_profile login) joined.client_sent side client
+        log_in.client_progress alike in (
           chosen,
           subst (λ (s : Side Profile). (b : Joined login provider s server) × BothLogIn b salt count) (sym same) (both, log_in),
         )
@@ -163,7 +165,7 @@ joined_policy_sides_exist selection login provider password salt count client_li
             },
             sides.client_called,
             sides.server_called,
-            ap (λ (s : Side Profile). s.progress) (logged_in selection login.hostname (scram_profile login)
+            ap (λ (s : Side Profile). s.progress) (logged_in selection login.hostname joined.client_calls (scram_profile login)
                 joined.client_sent sides.client client sides.client_progress alike).1 ∙ sides.client_progress,
             sides.server_progress,
           ),
