@@ -74,7 +74,7 @@ SelectedClientsActAsProfile = (selection : Selection) (hostname : Option (List �
     → Calls (ClientReceives hostname) (fresh limit (PolicyProfile selection)) calls stream sent last rest
     → IsChosen last.state → ActsAsSelected selection hostname limit calls stream sent rest last
 
--- the init of this profile, with the nonce of one of these calls, has no body, because it is too large
+-- the init of this profile, with the nonce of one of these calls, has no body, for its size has more than 32 bits
 abbrev pub HasNoInit : Option (List ℕ) → List Call → Profile → Type 0
 HasNoInit hostname calls profile = (nonce : List ℕ) × NoncesOf calls (nonce ∷ [])
     × (canonical (frames.Init (profile_name profile) (initial_response profile nonce) hostname) ≡ None)
@@ -255,7 +255,8 @@ pub record TakesPolicyFrames {selection : Selection} {hostname : Option (List �
     pub server_nonces : AllByRecursion HasNonce joined.server_calls
 
 -- a client and a SCRAM server that are joined both log in, if the client selects the profile of a login from the server's one
--- mechanism, and that login meets the premises of `UnalteredSidesLogIn`. The client has selected that profile
+-- mechanism, and that login meets the premises of `UnalteredSidesLogIn`. The client has selected that profile, and with the
+-- same calls and the same bytes the two are joined as `Joined` says
 abbrev pub UnalteredPolicyClientsLogIn : Type 0
 UnalteredPolicyClientsLogIn = (selection : Selection) (login : Login) (provider : Provider) (password salt : List ℕ)
     (count : ℕ) (client : Side Profile) (server : Side Acceptor)
@@ -263,9 +264,12 @@ UnalteredPolicyClientsLogIn = (selection : Selection) (login : Login) (provider 
     → IsSelected selection (acceptor_names (ScramAcceptor provider Initial)) (scram_profile login) → IsLogin login
     → HoldsLogin (sides_of login [] [] provider [] []) password salt count → FitsFrames login salt
     → TakesPolicyFrames joined
-    → IsChosen client.state × ((both : Joined login provider client server) × BothLogIn both salt count)
+    → IsChosen client.state × ((both : Joined login provider client server)
+    × (both.client_calls ≡ joined.client_calls) × (both.server_calls ≡ joined.server_calls)
+    × (both.client_sent ≡ joined.client_sent) × (both.server_sent ≡ joined.server_sent) × BothLogIn both salt count)
 
--- a client and a server that are joined exist, for all calls that are enough for the bytes of the login (`AreEnough`)
+-- a client and a server that are joined exist, with all such limits, and with all calls that are enough for the bytes of the
+-- login (`AreEnough`)
 abbrev pub JoinedPolicySidesExist : Type 0
 JoinedPolicySidesExist = (selection : Selection) (login : Login) (provider : Provider) (password salt : List ℕ)
     (count client_limit server_limit : ℕ) (client_calls server_calls : List Call)
@@ -275,6 +279,7 @@ JoinedPolicySidesExist = (selection : Selection) (login : Login) (provider : Pro
     → AllByRecursion HasNonce server_calls → AreEnough 1544 4 client_calls → AreEnough 1032 3 server_calls
     → (client : Side Profile) × (server : Side Acceptor)
     × ((joined : JoinedByPolicy selection login.hostname provider client server) × TakesPolicyFrames joined
+    × (joined.client_limit ≡ client_limit) × (joined.server_limit ≡ server_limit)
     × (joined.client_calls ≡ client_calls) × (joined.server_calls ≡ server_calls)
     × (client.progress ≡ Authenticated) × (server.progress ≡ Authenticated))
 

@@ -90,7 +90,8 @@ first_nonce : (calls : List Call) (nonce : List ℕ) (others : List (List ℕ)) 
     → NoncesOf calls (nonce ∷ [])
 first_nonce [] nonce others is = absurd (cc)
 first_nonce (call ∷ calls) nonce others (inl of) = inl (first_nonce calls nonce others of)
-first_nonce (call ∷ calls) nonce others (inr (more, is, of)) = inr ([], head nonce call.nonce others more is, no_nonces calls)
+first_nonce (call ∷ calls) nonce others (inr (more, is, of)) =
+    inr ([], head nonce call.nonce others more is, no_nonces calls)
   where
     head : (one other : List ℕ) (ones more : List (List ℕ)) → (one ∷ ones) ≡ (other ∷ more) → (one ∷ []) ≡ (other ∷ [])
     head one other ones more same = cc
@@ -139,7 +140,8 @@ module _ (hostname : Option (List ℕ)) (selection : Selection) (limit : ℕ) wh
     where
     -- no offer was read, and the client has closed
     no_offer : (why : CloseReason) (n : ℕ) (sent : List ℕ) (next last : Side Profile) → Closed hostname why n tail sent next last
-        → next.state ≡ PolicyProfile selection → LeftOver turns.Mechanisms limit tail (Failed why) → PolicyEnds calls taken sent last
+        → next.state ≡ PolicyProfile selection → LeftOver turns.Mechanisms limit tail (Failed why)
+        → PolicyEnds calls taken sent last
     no_offer why n sent next last ends kept left = inl (
       ends.silent,
       (λ logged. closed_is_not_logged_in why (sym ends.progress ∙ logged)),
@@ -207,10 +209,10 @@ module _ (hostname : Option (List ℕ)) (selection : Selection) (limit : ℕ) wh
             fits : Fits limit (length (first_body tail) + 4)
             fits = body_fits tail whole one
 
-            at : (names : List (List ℕ)) → SelectsNoneAt hostname selection event answer after names why
+            selects_none : (names : List (List ℕ)) → SelectsNoneAt hostname selection event answer after names why
                 → SelectsNoneOf selection hostname calls names (Failed why)
-            at names (inl (none, is)) = inl (none, ap (λ (w : CloseReason). Failed w) is)
-            at names (inr (profile, selected, none, is)) = inr (
+            selects_none names (inl (none, is)) = inl (none, ap (λ (w : CloseReason). Failed w) is)
+            selects_none names (inr (profile, selected, none, is)) = inr (
               profile,
               selected,
               (nonce, first_nonce calls nonce nonces of, none),
@@ -232,7 +234,7 @@ module _ (hostname : Option (List ℕ)) (selection : Selection) (limit : ℕ) wh
                 fits = fits;
                 spells = spells;
                 carried = carried ∙ ap (λ l. sasl_header ++ l) (ends.all ∙ one);
-                closed = subst (SelectsNoneOf selection hostname calls names) (sym ends.progress) (at names none);
+                closed = subst (SelectsNoneOf selection hostname calls names) (sym ends.progress) (selects_none names none);
                 state = ends.state ∙ state;
               }))),
             )
@@ -260,8 +262,8 @@ module _ (hostname : Option (List ℕ)) (selection : Selection) (limit : ℕ) wh
     (λ logged. authenticated_is_not_in_progress (sym logged ∙ ap (λ (s : Side Profile). s.progress) is)),
     inl (part, refl, is),
   )
-  policy_ends calls (nonce ∷ nonces) taken sent last framed_so of (k, first, next, later, wants, no_part, receives, more, all) =
-      go receives
+  policy_ends calls (nonce ∷ nonces) taken sent last framed_so of
+      (k, first, next, later, wants, no_part, receives, more, all) = go receives
     where
       go : Receives (ClientSideAnswers hostname) (fresh limit (PolicyProfile selection)) taken nonce k first next
           → PolicyEnds calls taken sent last
@@ -291,7 +293,8 @@ module _ (hostname : Option (List ℕ)) (selection : Selection) (limit : ℕ) wh
           }) in
           subst (λ (l : List ℕ). PolicyEnds calls taken l last)
           (sym (all ∙ ap (λ l. l ++ later) (s ∙ ap (λ (a : SideOutput). a.sent) opens)))
-          (list_ends calls taken (drop 8 taken) (sym (take-append-drop 8 taken) ∙ ap (λ l. l ++ drop 8 taken) header) framed_so
-          nonces later last (later_nonces calls nonce nonces of) (subst (λ (n : ℕ). Negotiates (ClientSideAnswers hostname)
+          (list_ends calls taken (drop 8 taken) (sym (take-append-drop 8 taken) ∙ ap (λ l. l ++ drop 8 taken) header)
+          framed_so nonces later last (later_nonces calls nonce nonces of)
+          (subst (λ (n : ℕ). Negotiates (ClientSideAnswers hostname)
           (waiting limit [] (PolicyProfile selection)) nonces (drop n taken) later last) t
           (subst (λ (n : Side Profile). Negotiates (ClientSideAnswers hostname) n nonces (drop k taken) later last) opened more)))

@@ -232,7 +232,8 @@ module _ (selection : Selection) (hostname : Option (List ℕ)) (limit : ℕ) (c
           first
 
       go : (taken : List ℕ) → stream ≡ taken ++ rest → EndsLike profile (PolicyProfile selection) side last
-          → PolicyEnds hostname selection limit calls taken sent last → EndAlike selection hostname calls profile sent side last
+          → PolicyEnds hostname selection limit calls taken sent last
+          → EndAlike selection hostname calls profile sent side last
       go taken all (inl same) ends = inl (subst (λ (s : Side Profile). IsChosen s.state) (sym same) chosen, same)
       go taken all (inr (kept, is)) (inr offer) =
           policy_is_not selection last (ap (λ (s : Side Profile). s.state) is) offer.chosen
