@@ -149,7 +149,8 @@ def told_path(crate, path, text, head):
     impl = TOLD_IMPL.match(text, blocks[-1].start()) if blocks else None
     if not impl or len(head[1]) != 4:
         return ""
-    modules = {module} if impl[1] else modules_of_types(ROOT, crate).get(impl[3], {module})
+    defined = modules_of_types(ROOT, crate).get(impl[3], {module})
+    modules = {module} if impl[1] or module in defined else defined
     if len(modules) != 1:
         return ""
     trait = (impl[1] or "").rpartition("::")[2] + (impl[2] or "")[:1].upper() + (impl[2] or "")[1:]

@@ -1,7 +1,7 @@
 -- What any number of calls of a client by a policy, which selects its mechanism from the server's offer, do over a stream,
 -- divided in any way (AMQP 1.0, part 5, sections 5.3.2 and 5.3.3.2; RFC 5802, sections 3 and 5). Each law is the contract of a
 -- clause in `policy_clients`.
-use Rattle.std.specs.Prelude.{◌≡◌, ◌≢◌, ◌⊎◌, ◌+◌, ◌*◌, ◌<◌, ◌≤◌, ◌^◌, ◌++◌, ℕ, false, Option, Some, None, List, [], length, Ok}
+use Rattle.std.specs.Prelude.{◌≡◌, ◌≢◌, ◌⊎◌, ◌+◌, ◌*◌, ◌<◌, ◌≤◌, ◌^◌, ◌++◌, ℕ, false, Option, Some, None, List, [], ◌∷◌, length, Ok}
 use Rattle.std.specs.List.{AllByRecursion}
 use Rattle.std.specs.Str.{IsUtf8}
 use Rattle.fe2o3_sasl_wire.specs.SaslFrames as frames
@@ -30,7 +30,7 @@ use Rattle.fe2o3_sasl_negotiation.specs.ClientNegotiation.{ClientCosts, ClientRe
 use Rattle.fe2o3_sasl_negotiation.specs.Connections.{IsHeaderPart, IsOtherHeader, LeftOver, fresh}
 use Rattle.fe2o3_sasl_negotiation.specs.CostLaws.{MeteredCalls}
 use Rattle.fe2o3_sasl_negotiation.specs.Framing.{Fits, framed, sasl_header}
-use Rattle.fe2o3_sasl_negotiation.specs.Laws.{Call, Calls}
+use Rattle.fe2o3_sasl_negotiation.specs.Laws.{Call, Calls, NoncesOf}
 use Rattle.fe2o3_sasl_negotiation.specs.Negotiations.{Side}
 use Rattle.fe2o3_sasl_negotiation.specs.PolicyLaws.{side_in_state}
 use Rattle.fe2o3_sasl_negotiation.specs.Retries.{RetriedCalls}
@@ -74,16 +74,16 @@ SelectedClientsActAsProfile = (selection : Selection) (hostname : Option (List �
     → Calls (ClientReceives hostname) (fresh limit (PolicyProfile selection)) calls stream sent last rest
     → IsChosen last.state → ActsAsSelected selection hostname limit calls stream sent rest last
 
--- the init of this profile has no body, because it is too large
-abbrev pub HasNoInit : Option (List ℕ) → Profile → Type 0
-HasNoInit hostname profile = (nonce : List ℕ)
+-- the init of this profile, with the nonce of one of these calls, has no body, for its size has more than 32 bits
+abbrev pub HasNoInit : Option (List ℕ) → List Call → Profile → Type 0
+HasNoInit hostname calls profile = (nonce : List ℕ) × NoncesOf calls (nonce ∷ [])
     × (canonical (frames.Init (profile_name profile) (initial_response profile nonce) hostname) ≡ None)
 
 -- two clients end alike, the first of this profile, and the second by the policy: in one side. Or the init has no body, and both
 -- have closed without it, each in the state in which it began
-abbrev pub EndAlike : Selection → Option (List ℕ) → Profile → List ℕ → Side Profile → Side Profile → Type 0
-EndAlike selection hostname profile sent side last = (IsChosen last.state × (last ≡ side))
-    ⊎ (HasNoInit hostname profile × (sent ≡ []) × (side.progress ≡ Failed (ProfileRefused (FrameFault TooLarge)))
+abbrev pub EndAlike : Selection → Option (List ℕ) → List Call → Profile → List ℕ → Side Profile → Side Profile → Type 0
+EndAlike selection hostname calls profile sent side last = (IsChosen last.state × (last ≡ side))
+    ⊎ (HasNoInit hostname calls profile × (sent ≡ []) × (side.progress ≡ Failed (ProfileRefused (FrameFault TooLarge)))
     × (side.state ≡ profile) × (last ≡ side_in_state side (PolicyProfile selection)))
 
 -- and the reverse: calls of a fresh client of a profile, which is selected from the offer that they read, are calls of a new
@@ -94,7 +94,7 @@ SelectedProfilesActAsClient = (selection : Selection) (hostname : Option (List �
     (stream sent rest : List ℕ) (side : Side Profile) (names : List (List ℕ)) (profile : Profile) → limit < 2 ^ 32
     → ReadsOffer limit stream rest names → IsSelected selection names profile
     → Calls (ClientReceives hostname) (fresh limit profile) calls stream sent side rest
-    → (last : Side Profile) × EndAlike selection hostname profile sent side last
+    → (last : Side Profile) × EndAlike selection hostname calls profile sent side last
     × Calls (ClientReceives hostname) (fresh limit (PolicyProfile selection)) calls stream sent last rest
 
 -- a new client that has read an offer from which a profile is selected has selected it, and acts as a client of it
@@ -103,7 +103,7 @@ OfferedClientsSelect = (selection : Selection) (hostname : Option (List ℕ)) (l
     (stream sent rest : List ℕ) (last : Side Profile) (names : List (List ℕ)) (profile : Profile) → limit < 2 ^ 32
     → ReadsOffer limit stream rest names → IsSelected selection names profile
     → Calls (ClientReceives hostname) (fresh limit (PolicyProfile selection)) calls stream sent last rest
-    → (side : Side Profile) × EndAlike selection hostname profile sent side last
+    → (side : Side Profile) × EndAlike selection hostname calls profile sent side last
     × Calls (ClientReceives hostname) (fresh limit profile) calls stream sent side rest
 
 -- an offer has one such profile at most, and none where the client selects none
@@ -129,29 +129,29 @@ pub record HasNoOffer (selection : Selection) (limit : ℕ) (taken : List ℕ) (
   }
 
 -- a client that selects none of these mechanisms has closed, or one that selects a profile whose init has no body
-abbrev pub SelectsNoneOf : Selection → Option (List ℕ) → List (List ℕ) → Progress → Type 0
-SelectsNoneOf selection hostname names progress =
+abbrev pub SelectsNoneOf : Selection → Option (List ℕ) → List Call → List (List ℕ) → Progress → Type 0
+SelectsNoneOf selection hostname calls names progress =
     (NoneIsSelected selection names × (progress ≡ Failed (ProfileRefused NotImplemented)))
-    ⊎ ((profile : Profile) × IsSelected selection names profile × HasNoInit hostname profile
+    ⊎ ((profile : Profile) × IsSelected selection names profile × HasNoInit hostname calls profile
     × (progress ≡ Failed (ProfileRefused (FrameFault TooLarge))))
 
 -- the client has closed at such an offer, and has taken nothing after it
-pub record SelectsNone (selection : Selection) (hostname : Option (List ℕ)) (limit : ℕ) (taken : List ℕ)
-    (last : Side Profile) : Type 0 where
+pub record SelectsNone (selection : Selection) (hostname : Option (List ℕ)) (limit : ℕ) (calls : List Call)
+    (taken : List ℕ) (last : Side Profile) : Type 0 where
   pub names : List (List ℕ)
   pub body : List ℕ
   pub fits : Fits limit (length body + 4)
   pub spells : SpellsBody body (Ok (frames.Mechanisms names))
   pub carried : taken ≡ sasl_header ++ framed body
-  pub closed : SelectsNoneOf selection hostname names last.progress
+  pub closed : SelectsNoneOf selection hostname calls names last.progress
   pub state : last.state ≡ PolicyProfile selection
 
 -- what a client that has selected no profile has taken: a part of a header, another header, no whole offer, or an offer from
 -- which it selects none, or none that it can send
-abbrev pub IsUnselected : Selection → Option (List ℕ) → ℕ → List ℕ → Side Profile → Type 0
-IsUnselected selection hostname limit taken last = IsHeaderPart limit (PolicyProfile selection) taken [] last
+abbrev pub IsUnselected : Selection → Option (List ℕ) → ℕ → List Call → List ℕ → Side Profile → Type 0
+IsUnselected selection hostname limit calls taken last = IsHeaderPart limit (PolicyProfile selection) taken [] last
     ⊎ IsOtherHeader (PolicyProfile selection) taken last ⊎ HasNoOffer selection limit taken last
-    ⊎ SelectsNone selection hostname limit taken last
+    ⊎ SelectsNone selection hostname limit calls taken last
 
 -- calls of a new client that has selected no profile send nothing after its header, and have not logged in
 abbrev pub UnselectedClientsSendNothing : Type 0
@@ -160,7 +160,7 @@ UnselectedClientsSendNothing = (selection : Selection) (hostname : Option (List 
     → Calls (ClientReceives hostname) (fresh limit (PolicyProfile selection)) calls stream sent last rest
     → ¬ IsChosen last.state
     → (taken : List ℕ) × (stream ≡ taken ++ rest) × (sent ≡ []) × (last.progress ≢ Authenticated)
-    × IsUnselected selection hostname limit taken last
+    × IsUnselected selection hostname limit calls taken last
 
 -- ---- a client that has selected SCRAM
 
@@ -255,7 +255,8 @@ pub record TakesPolicyFrames {selection : Selection} {hostname : Option (List �
     pub server_nonces : AllByRecursion HasNonce joined.server_calls
 
 -- a client and a SCRAM server that are joined both log in, if the client selects the profile of a login from the server's one
--- mechanism, and that login meets the premises of `UnalteredSidesLogIn`. The client has selected that profile
+-- mechanism, and that login meets the premises of `UnalteredSidesLogIn`. The client has selected that profile, and with the
+-- same calls and the same bytes the two are joined as `Joined` says
 abbrev pub UnalteredPolicyClientsLogIn : Type 0
 UnalteredPolicyClientsLogIn = (selection : Selection) (login : Login) (provider : Provider) (password salt : List ℕ)
     (count : ℕ) (client : Side Profile) (server : Side Acceptor)
@@ -263,9 +264,12 @@ UnalteredPolicyClientsLogIn = (selection : Selection) (login : Login) (provider 
     → IsSelected selection (acceptor_names (ScramAcceptor provider Initial)) (scram_profile login) → IsLogin login
     → HoldsLogin (sides_of login [] [] provider [] []) password salt count → FitsFrames login salt
     → TakesPolicyFrames joined
-    → IsChosen client.state × ((both : Joined login provider client server) × BothLogIn both salt count)
+    → IsChosen client.state × ((both : Joined login provider client server)
+    × (both.client_calls ≡ joined.client_calls) × (both.server_calls ≡ joined.server_calls)
+    × (both.client_sent ≡ joined.client_sent) × (both.server_sent ≡ joined.server_sent) × BothLogIn both salt count)
 
--- a client and a server that are joined exist, for all calls that are enough for the bytes of the login (`AreEnough`)
+-- a client and a server that are joined exist, with all such limits, and with all calls that are enough for the bytes of the
+-- login (`AreEnough`)
 abbrev pub JoinedPolicySidesExist : Type 0
 JoinedPolicySidesExist = (selection : Selection) (login : Login) (provider : Provider) (password salt : List ℕ)
     (count client_limit server_limit : ℕ) (client_calls server_calls : List Call)
@@ -275,6 +279,7 @@ JoinedPolicySidesExist = (selection : Selection) (login : Login) (provider : Pro
     → AllByRecursion HasNonce server_calls → AreEnough 1544 4 client_calls → AreEnough 1032 3 server_calls
     → (client : Side Profile) × (server : Side Acceptor)
     × ((joined : JoinedByPolicy selection login.hostname provider client server) × TakesPolicyFrames joined
+    × (joined.client_limit ≡ client_limit) × (joined.server_limit ≡ server_limit)
     × (joined.client_calls ≡ client_calls) × (joined.server_calls ≡ server_calls)
     × (client.progress ≡ Authenticated) × (server.progress ≡ Authenticated))
 

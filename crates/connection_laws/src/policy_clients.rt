@@ -17,9 +17,9 @@ ghost use Rattle.connection_laws.specs.PolicyClients.{JoinedPolicySidesExist, Lo
 /// - `offered`: a client that has read a list of mechanisms from which a profile is selected has selected it.
 /// - `one`: a list of mechanisms has one such profile at most.
 ///
-/// If the init of the profile is too large to be a frame, both clients close with `Mechanism(Frame(TooLarge))` and send
-/// nothing, and the client by the policy has selected none (`EndAlike`). All laws of a client of the profile then hold of a
-/// client that has selected it.
+/// If the init of the profile has no body, for its size has more than 32 bits, both clients close with
+/// `Mechanism(Frame(TooLarge))` and send nothing, and the client by the policy has selected none (`EndAlike`). The nonce of
+/// that init is that of one of the calls. All laws of a client of the profile hold of a client that has selected it.
 pub fn selected()
     ensures acts { SelectedClientsActAsProfile }
     ensures reverse { SelectedProfilesActAsClient }
@@ -36,8 +36,8 @@ pub fn selected()
 /// - the header of SASL and a part of a frame, which it holds;
 /// - the header of SASL and a size or a frame that it does not answer, and has closed;
 /// - the header of SASL and a list of mechanisms from which it selects none, and has closed with `Mechanism(NotImplemented)`;
-/// - the header of SASL and a list of mechanisms from which it selects a profile whose init is too large, and has closed with
-///   `Mechanism(Frame(TooLarge))`.
+/// - the header of SASL and a list of mechanisms from which it selects a profile whose init has no body, with the nonce of
+///   one of the calls, and has closed with `Mechanism(Frame(TooLarge))`.
 pub fn unselected()
     ensures { UnselectedClientsSendNothing }
 {}
@@ -62,8 +62,9 @@ pub fn scram()
 ///
 /// - `log_in`: the client selects the profile of a login from the server's mechanism. The other premises are those of
 ///   [`unaltered`](crate::unaltered::unaltered) for that login, and that sizes of frames have 32 bits. Then the two sides are
-///   such as `unaltered` speaks of, so that they mean one login.
-/// - `exist`: such a client and such a server exist, for all calls that are enough for the bytes of the login.
+///   such as `unaltered` speaks of, with the same calls and the same bytes, so that they mean one login.
+/// - `exist`: such a client and such a server exist, with all such limits, and with all calls that are enough for the bytes
+///   of the login.
 pub fn unaltered()
     ensures log_in { UnalteredPolicyClientsLogIn }
     ensures exist { JoinedPolicySidesExist }

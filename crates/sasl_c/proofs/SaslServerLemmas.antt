@@ -1,6 +1,6 @@
 -- What structs show of a server of a connection, and of which server they are (AMQP 1.0, part 5, section 5.3.2).
 use Rattle.std.proofs.Common.{arith, refl, sym, ap, inl, inr, ◌∙◌, ◌≡◌, ◌≢◌, ◌≤◌, ◌<◌, ◌⊎◌, ◌+◌, ◌*◌, ◌∷◌, ◌++◌, ℕ, List, [], length}
-use Rattle.std.specs.Prelude.{Bool, true, false, MatchOption, Option, Err}
+use Rattle.std.specs.Prelude.{Bool, true, false, MatchBool, Err}
 use Rattle.std.specs.Str.{IsUtf8}
 use Rattle.std.proofs.lemmas.List.{append-nil, append_assoc}
 use Rattle.fe2o3_scram.specs.declared.hmac.ScramVersion.{ScramVersion}
@@ -455,20 +455,18 @@ no_server config next (inr none) few server is =
     no_state (side_in next).progress (side_in next).state none server.scram is.0.1
 
 -- what a struct shows of a login that goes on, or is complete
-pub going_on : (progress : Progress) (stage : KeptStage) (answer : Option ScramStruct) → progress ≡ InProgress
-    → MatchOption answer ((scram : ScramStruct) → ¬ ShowsStage scram stage) (λ scram. ShowsStage scram stage)
-    → MatchOption answer ((scram : ScramStruct) → ¬ ShowsProgress scram progress stage)
-    (λ scram. ShowsProgress scram progress stage)
-going_on progress stage answer is held =
-    carried (λ (s : Progress). MatchOption answer ((scram : ScramStruct) → ¬ ShowsProgress scram s stage)
-    (λ scram. ShowsProgress scram s stage)) InProgress progress (sym is) held
+pub going_on : (progress : Progress) (stage : KeptStage) (fits : Bool) (scram : ScramStruct) → progress ≡ InProgress
+    → MatchBool fits (ShowsStage scram stage) ((other : ScramStruct) → ¬ ShowsStage other stage)
+    → MatchBool fits (ShowsProgress scram progress stage) ((other : ScramStruct) → ¬ ShowsProgress other progress stage)
+going_on progress stage fits scram is held =
+    carried (λ (s : Progress). MatchBool fits (ShowsProgress scram s stage) ((other : ScramStruct)
+    → ¬ ShowsProgress other s stage)) InProgress progress (sym is) held
 
-pub logged_in : (progress : Progress) (stage : KeptStage) (answer : Option ScramStruct) → progress ≡ Authenticated
-    → MatchOption answer ((scram : ScramStruct) → ¬ ShowsStage scram stage) (λ scram. ShowsStage scram stage)
-    → MatchOption answer ((scram : ScramStruct) → ¬ ShowsProgress scram progress stage)
-    (λ scram. ShowsProgress scram progress stage)
-logged_in progress stage answer is held =
-    carried (λ (s : Progress). MatchOption answer ((scram : ScramStruct) → ¬ ShowsProgress scram s stage)
-    (λ scram. ShowsProgress scram s stage)) Authenticated progress (sym is) held
+pub logged_in : (progress : Progress) (stage : KeptStage) (fits : Bool) (scram : ScramStruct) → progress ≡ Authenticated
+    → MatchBool fits (ShowsStage scram stage) ((other : ScramStruct) → ¬ ShowsStage other stage)
+    → MatchBool fits (ShowsProgress scram progress stage) ((other : ScramStruct) → ¬ ShowsProgress other progress stage)
+logged_in progress stage fits scram is held =
+    carried (λ (s : Progress). MatchBool fits (ShowsProgress scram s stage) ((other : ScramStruct)
+    → ¬ ShowsProgress other s stage)) Authenticated progress (sym is) held
 
 pub ruleset shown = (going_on, logged_in)

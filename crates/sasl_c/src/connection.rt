@@ -1,6 +1,6 @@
 //! A side of a connection as a struct between calls (AMQP 1.0, part 5, section 5.3.2).
 
-ghost use Rattle.std.specs.Prelude.{◌≡◌, ◌≢◌, ◌<◌, Bool, length, IfOk, IfErr, IfSome, MatchOption};
+ghost use Rattle.std.specs.Prelude.{◌≡◌, ◌≢◌, ◌<◌, Bool, length, IfOk, IfErr, MatchBool, MatchOption};
 ghost use Rattle.fe2o3_sasl_negotiation.specs.declared.progress.Expected.{Expected as ExpectedUnit};
 ghost use Rattle.fe2o3_sasl_negotiation.specs.declared.progress.Progress.TheVariants.{InProgress};
 ghost use Rattle.fe2o3_sasl_negotiation.specs.Negotiations.{Side, after_end_of_input};
@@ -8,9 +8,10 @@ ghost use Rattle.fe2o3_sasl_negotiation.specs.Snapshot.{NamesNone};
 ghost use Rattle.fe2o3_scram.specs.Readings.{IsFirst};
 ghost use Rattle.sasl_c.specs.Connection.{Keeps, accepts_extended, kept_bytes, with_end_of_input, closed_status, code_status, expected_number, frame_status, profile_status, side_tests, connection_struct};
 
-use crate::arrays::{head, padded};
+use crate::arrays::{fill, head};
 use crate::flags::{flag_number, is_set};
 use crate::status::Status;
+use bytes::BytesMut;
 use fe2o3_sasl_core::ProfileError;
 use fe2o3_sasl_negotiation::{CloseReason, Expected, FrameKind, Progress, Snapshot};
 use fe2o3_sasl_wire::{Error, SaslCode};
@@ -50,6 +51,16 @@ pub struct Connection {
     /// bytes is that of the frame as received. Otherwise a data offset above 2 ends the login with FE2O3_NO_SASL_FRAME,
     /// as one below 2 or after the end of the frame does in any case. A call that receives bytes writes 0 or 1.
     pub extended_headers: u32,
+}
+
+/// What a call makes of received bytes.
+#[derive(Drop)]
+pub struct ReceiveResult {
+    /// How many it takes.
+    pub taken: usize,
+
+    /// The bytes to send.
+    pub sent: BytesMut,
 }
 
 /// The number of what is expected.
@@ -176,13 +187,20 @@ pub extern "C" fn fe2o3_sasl_end_of_input(connection: &mut Connection)
 }
 
 impl Connection {
-    /// The struct that keeps these values, or `None` where more than 512 bytes are held.
-    pub fn of(kept: &Snapshot<'_>) -> Option<Connection>
-        ensures keeps { MatchOption result (512 < length kept.now.held.now)
-            (λ connection. Keeps connection kept.now.progress kept.now.expected kept.now.held.now) }
-        ensures writes { IfSome result (λ connection.
-            connection ≡ connection_struct kept.now.extended_headers kept.now.progress kept.now.expected
-            kept.now.held.now) }
+    /// Returns whether the struct has room for these values: at most 512 bytes are held.
+    pub fn has_room(kept: &Snapshot<'_>) -> bool
+        ensures { MatchBool result (length (kept_bytes kept.now.progress kept.now.held.now) ≤ 512)
+            (512 < length kept.now.held.now) }
+    {
+        kept_bytes(&kept.progress, kept.held).len() <= 512
+    }
+
+    /// Turns the struct into that which keeps these values.
+    pub fn keep(&mut self, kept: &Snapshot<'_>)
+        requires { length (kept_bytes kept.now.progress kept.now.held.now) ≤ 512 }
+        ensures keeps { Keeps self.new kept.now.progress kept.now.expected kept.now.held.now }
+        ensures writes { self.new ≡ connection_struct kept.now.extended_headers kept.now.progress kept.now.expected
+            kept.now.held.now }
     {
         let (progress, why) = match kept.progress {
             Progress::InProgress => (0, 0),
@@ -190,14 +208,12 @@ impl Connection {
             Progress::Failed(why) => (2, of_closed(why).number()),
         };
         let held = kept_bytes(&kept.progress, kept.held);
-        Some(Connection {
-            progress,
-            why,
-            expected: number_of(kept.expected),
-            held: padded(held)?,
-            held_len: held.len() as u32,
-            extended_headers: flag_number(kept.extended_headers),
-        })
+        self.progress = progress;
+        self.why = why;
+        self.expected = number_of(kept.expected);
+        self.held_len = held.len() as u32;
+        self.extended_headers = flag_number(kept.extended_headers);
+        fill(&mut self.held, held);
     }
 
     /// What the struct keeps of a side that wants more bytes. `Ended` where it wants none, and `InvalidSnapshot` where no

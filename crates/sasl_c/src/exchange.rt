@@ -1,13 +1,13 @@
 //! How far the login of a server has come, as the struct of a SCRAM server holds it.
 
-ghost use Rattle.std.specs.Prelude.{◌≡◌, ◌≢◌, ◌<◌, ◌⊎◌, List, ℕ, Option, IfSome, MatchOption, length};
+ghost use Rattle.std.specs.Prelude.{◌≡◌, ◌≢◌, ◌<◌, ◌⊎◌, List, ℕ, Option, MatchBool, MatchOption, length};
 ghost use Rattle.fe2o3_sasl_core.specs.SavedServers.{saved_login, saved_stage, way_for};
 ghost use Rattle.fe2o3_sasl_wire.specs.FrameView.{shown};
 ghost use Rattle.sasl_c.specs.Server.{HasAsked, HasSigned, IdentityHasRoom, ShowsSigned, ShowsStage, ShowsUser, asked_struct, signed_struct, stage_struct, struct_where};
 ghost use Rattle.fe2o3_sasl_core.specs.declared.server.ways.Way.{Way as WayOf};
 ghost use Rattle.sasl_c.specs.declared.server.ScramServer.{ScramServer as ScramStruct};
 
-use crate::arrays::{fill, head, padded};
+use crate::arrays::{fill, head};
 use crate::server::{ScramServer, identity_text};
 use crate::status::number_of;
 use fe2o3_sasl_core::{Mechanism, SavedLogin, SavedStage};
@@ -74,89 +74,101 @@ impl ScramServer {
         }
     }
 
-    /// Returns the struct of a server that has sent its signature to this user in a challenge, who acts for this identity,
-    /// or `None` if a name does not fit.
+    /// Turns the struct into that of a server that has sent its signature to this user in a challenge, who acts for this
+    /// identity. If a name does not fit, returns false, and nothing changes.
     #[tactic(auto, using(crate::proofs::IdentityLemmas::signs))]
-    fn signed(user: &str, acts_for: Option<&str>) -> Option<ScramServer>
-        ensures user { MatchOption result ((256 < length user.now) ⊎ ¬ IdentityHasRoom (shown acts_for.entry))
-            (λ server. HasSigned server user.now (shown acts_for.entry)) }
-        ensures writes { IfSome result (λ server. server ≡ signed_struct user.now (shown acts_for.entry)) }
+    fn hold_signed(&mut self, user: &str, acts_for: Option<&str>) -> bool
+        ensures user { MatchBool result (HasSigned self.new user.now (shown acts_for.entry))
+            ((256 < length user.now) ⊎ ¬ IdentityHasRoom (shown acts_for.entry)) }
+        ensures writes { MatchBool result (self.new ≡ signed_struct user.now (shown acts_for.entry)) (self.new ≡ self.old) }
     {
         let _ = identity_text(acts_for);
-        let server = ScramServer::of_user(4, user, acts_for)?;
-        Some(server)
+        if !self.hold_user(4, user, acts_for) {
+            return false;
+        }
+        true
     }
 
-    /// Returns the struct of a server that has asked an init of this mechanism, with this nonce, for its initial response.
-    fn asked(mechanism: Mechanism, nonce: &[u8; 32]) -> ScramServer
-        ensures shows { HasAsked result (way_for mechanism) nonce.now }
-        ensures writes { result ≡ asked_struct (way_for mechanism) nonce.now }
+    /// Turns the struct into that of a server that has asked an init of this mechanism, with this nonce, for its initial
+    /// response.
+    fn hold_asked(&mut self, mechanism: Mechanism, nonce: &[u8; 32])
+        ensures shows { HasAsked self.new (way_for mechanism) nonce.now }
+        ensures writes { self.new ≡ asked_struct (way_for mechanism) nonce.now }
     {
-        ScramServer::asking(mechanism, nonce)
+        self.ask(mechanism, nonce);
     }
 
-    /// Returns the struct of such a server, as it is written.
+    /// Writes the struct of such a server.
     #[tactic(auto, using(crate::proofs::ExchangeLemmas::asks))]
-    fn asking(mechanism: Mechanism, nonce: &[u8; 32]) -> ScramServer
-        ensures { result ≡ asked_struct (way_for mechanism) nonce.now }
+    fn ask(&mut self, mechanism: Mechanism, nonce: &[u8; 32])
+        ensures { self.new ≡ asked_struct (way_for mechanism) nonce.now }
     {
         let name = mechanism.name().as_bytes();
-        let mut server = ScramServer::fresh();
-        server.state = 5;
-        server.nonce_len = 32;
-        server.first_len = name.len() as u32;
-        fill(&mut server.nonce, nonce);
-        fill(&mut server.first, name);
-        server
+        self.clear();
+        self.state = 5;
+        self.nonce_len = 32;
+        self.first_len = name.len() as u32;
+        fill(&mut self.nonce, nonce);
+        fill(&mut self.first, name);
     }
 
-    /// Returns the struct of a server that has sent its signature to the user of a login, or `None` if a name does not fit.
+    /// Turns the struct into that of a server that has sent its signature to the user of a login. If there is none or a name
+    /// does not fit, returns false, and nothing changes.
     #[tactic(auto, using(crate::proofs::ExchangeLemmas::of_login))]
-    fn signed_by(login: &SavedLogin<'_>) -> Option<ScramServer>
-        ensures shows { MatchOption result
-            ((server : ScramStruct) → ¬ ShowsSigned server (saved_login login.now).user (saved_login login.now).acts_for)
-            (λ server. ShowsSigned server (saved_login login.now).user (saved_login login.now).acts_for) }
-        ensures writes { IfSome result (λ server.
-            server ≡ struct_where 4 (saved_login login.now).user (saved_login login.now).acts_for) }
+    fn sign_for(&mut self, login: &SavedLogin<'_>) -> bool
+        ensures shows { MatchBool result
+            (ShowsSigned self.new (saved_login login.now).user (saved_login login.now).acts_for) ((server : ScramStruct)
+            → ¬ ShowsSigned server (saved_login login.now).user (saved_login login.now).acts_for) }
+        ensures writes { MatchBool result
+            (self.new ≡ struct_where 4 (saved_login login.now).user (saved_login login.now).acts_for) (self.new ≡ self.old) }
     {
         match login.user {
-            Some(user) => ScramServer::signed(user, login.acts_for),
-            None => None,
+            Some(user) => self.hold_signed(user, login.acts_for),
+            None => false,
         }
     }
 
-    /// Returns the struct of a server that has logged in the user of a login, or nobody, or `None` if a name does not fit.
+    /// Turns the struct into that of a server that has logged in the user of a login, or nobody. If a name does not fit,
+    /// returns false, and nothing changes.
     #[tactic(auto, using(crate::proofs::ExchangeLemmas::of_login))]
-    fn logged_in_by(login: &SavedLogin<'_>) -> Option<ScramServer>
-        ensures shows { MatchOption result
-            ((server : ScramStruct) → ¬ ShowsUser server (saved_login login.now).user (saved_login login.now).acts_for)
-            (λ server. ShowsUser server (saved_login login.now).user (saved_login login.now).acts_for) }
-        ensures writes { IfSome result (λ server.
-            server ≡ struct_where 2 (saved_login login.now).user (saved_login login.now).acts_for) }
+    fn log_in_for(&mut self, login: &SavedLogin<'_>) -> bool
+        ensures shows { MatchBool result
+            (ShowsUser self.new (saved_login login.now).user (saved_login login.now).acts_for) ((server : ScramStruct)
+            → ¬ ShowsUser server (saved_login login.now).user (saved_login login.now).acts_for) }
+        ensures writes { MatchBool result
+            (self.new ≡ struct_where 2 (saved_login login.now).user (saved_login login.now).acts_for) (self.new ≡ self.old) }
     {
         match login.user {
-            Some(user) => ScramServer::logged_in(user, login.acts_for),
-            None => Some(ScramServer::fresh()),
+            Some(user) => self.hold_authenticated(user, login.acts_for),
+            None => {
+                self.clear();
+                true
+            }
         }
     }
 
-    /// Returns the struct of a server whose login has come this far, or `None` if a text does not fit.
+    /// Turns the struct into that of a server whose login has come this far. If a text does not fit, returns false, and
+    /// nothing changes. The fields are written in place, since copies of the struct would be a measurable part of a login.
     #[tactic(auto, using(crate::proofs::ExchangeLemmas::of_stage))]
-    pub fn of_stage(stage: &SavedStage<'_>) -> Option<ScramServer>
-        ensures shows { MatchOption result ((server : ScramStruct) → ¬ ShowsStage server (saved_stage stage.now))
-            (λ server. ShowsStage server (saved_stage stage.now)) }
-        ensures writes { IfSome result (λ server. server ≡ stage_struct (saved_stage stage.now)) }
+    pub fn hold_stage(&mut self, stage: &SavedStage<'_>) -> bool
+        ensures shows { MatchBool result (ShowsStage self.new (saved_stage stage.now))
+            ((server : ScramStruct) → ¬ ShowsStage server (saved_stage stage.now)) }
+        ensures writes { MatchBool result (self.new ≡ stage_struct (saved_stage stage.now)) (self.new ≡ self.old) }
     {
         match stage {
-            SavedStage::NotStarted => Some(ScramServer::fresh()),
+            SavedStage::NotStarted => {
+                self.clear();
+                true
+            }
             SavedStage::ResponseAsked { mechanism, nonce } => {
-                Some(ScramServer::asked(*mechanism, nonce))
+                self.hold_asked(*mechanism, nonce);
+                true
             }
             SavedStage::ChallengeOpen { version, challenge } => {
-                ScramServer::of(number_of(*version), challenge)
+                self.hold_challenge(number_of(*version), challenge)
             }
-            SavedStage::SignatureSent(login) => ScramServer::signed_by(login),
-            SavedStage::Authenticated(login) => ScramServer::logged_in_by(login),
+            SavedStage::SignatureSent(login) => self.sign_for(login),
+            SavedStage::Authenticated(login) => self.log_in_for(login),
         }
     }
 }

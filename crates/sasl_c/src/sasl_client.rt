@@ -1,6 +1,6 @@
 //! The client's side of a connection as a struct between calls.
 
-ghost use Rattle.std.specs.Prelude.{◌≡◌, ◌≢◌, ◌≤◌, ◌^◌, List, [], ℕ, Ok, Err, length, replicate, option_map, string_bytes, IfOk, IfErr, IfSome, OnErr, MatchOption, MatchResult};
+ghost use Rattle.std.specs.Prelude.{◌≡◌, ◌≢◌, ◌≤◌, ◌^◌, List, [], ℕ, Ok, Err, length, replicate, option_map, string_bytes, IfOk, IfErr, IfSome, OnErr, MatchBool, MatchOption, MatchResult};
 ghost use Rattle.fe2o3_sasl_core.specs.PlainWords.{ArePlainWords};
 ghost use Rattle.fe2o3_sasl_core.specs.Profiles.{PlainProfile, after_init};
 ghost use Rattle.fe2o3_sasl_core.specs.SaslProfile.{profile_of};
@@ -19,7 +19,7 @@ ghost use Rattle.sasl_c.specs.declared.status.WriteError.TheVariants.{RoomTooSma
 
 use crate::arrays::put;
 use crate::client::ScramClient;
-use crate::connection::Connection;
+use crate::connection::{Connection, ReceiveResult};
 use crate::flags::is_set;
 use crate::login::Login;
 use crate::plain::words_of;
@@ -258,21 +258,24 @@ fn scram_of(profile: &SaslProfile) -> Option<ScramClient>
 }
 
 impl SaslClient {
-    /// Returns the structs of a side.
-    fn of(side: &ClientNegotiation) -> Option<SaslClient>
+    /// Turns the structs into those of a side. If a text has no room in them, returns false, and nothing changes.
+    fn hold(&mut self, side: &ClientNegotiation) -> bool
         ensures state { (login : LoginStruct) → ProfileIsReached login (client_side side.now).state
             → (client_side side.now).limit ≡ 512 → length (client_side side.now).held ≤ 512
-            → MatchOption result ⊥ (λ client. IsClient login client (client_side side.now)) }
-        ensures writes { IfSome result (λ client. WritesSide (extended_in side.now) client (client_side side.now)) }
+            → MatchBool result (IsClient login self.new (client_side side.now)) ⊥ }
+        ensures writes { MatchBool result (WritesSide (extended_in side.now) self.new (client_side side.now))
+            (self.new ≡ self.old) }
     {
         let kept = side.snapshot();
-        let Some(connection) = Connection::of(&kept) else {
-            return None;
-        };
+        if !Connection::has_room(&kept) {
+            return false;
+        }
         let Some(scram) = scram_of(side.profile()) else {
-            return None;
+            return false;
         };
-        Some(SaslClient { connection, scram })
+        self.connection.keep(&kept);
+        self.scram = scram;
+        true
     }
 
     /// Restores the side from the structs.
@@ -309,24 +312,12 @@ pub extern "C" fn fe2o3_sasl_client_open(out: &mut [u8], out_len: &mut usize) ->
     text_number(put(&<[u8; 8]>::from(ProtocolHeader::sasl()), out, out_len))
 }
 
-/// The result of received bytes.
-#[derive(Drop)]
-struct ReceiveResult {
-    /// How many bytes were used.
-    taken: usize,
-
-    /// The bytes to send.
-    sent: BytesMut,
-
-    /// The structs then.
-    next: SaslClient,
-}
-
-/// Returns the result of received bytes for a side, and its structs after them. `InvalidSnapshot` says that it has none,
+/// Takes bytes for a side, and turns the structs into those of the side after them. `InvalidSnapshot` says that it has none,
 /// which does not happen to a side that was restored from structs.
 fn taken(
     alloc: Global,
     side: &mut ClientNegotiation,
+    client: &mut SaslClient,
     bytes: &[u8],
     nonce: &[u8; 32],
     meter: &mut Meter,
@@ -335,44 +326,45 @@ fn taken(
     ensures ok { IfOk result (λ made. (login : LoginStruct) (before : Structs) → IsClient login before (client_side side.old)
         → (client_side side.old).progress ≡ InProgress → ClientTakes (extended_in side.old) (hostname_in side.old)
         (client_side side.old) bytes.now nonce.now made.taken made.sent.items (client_side side.new)
-        × IsClient login made.next (client_side side.new) × (length made.sent.items ≤ 512)
-        × WritesSide (extended_in side.old) made.next (client_side side.new)) }
+        × IsClient login client.new (client_side side.new) × (length made.sent.items ≤ 512)
+        × WritesSide (extended_in side.old) client.new (client_side side.new)) }
     ensures err { IfErr result (λ status. status ≢ StatusOutOfMemory → (login : LoginStruct) (before : Structs)
         → IsClient login before (client_side side.old) → (client_side side.old).progress ≢ InProgress) }
+    ensures stays { OnErr result (client.new ≡ client.old) }
 {
     let mut sent = BytesMut::new(alloc);
     let received = side.receive(alloc, bytes, nonce, meter, &mut sent)?;
-    let Some(next) = SaslClient::of(side) else {
+    if !client.hold(side) {
         return Err(Status::InvalidSnapshot);
-    };
+    }
     Ok(ReceiveResult {
         taken: received.taken,
         sent,
-        next,
     })
 }
 
-/// Returns the result of received bytes for a client.
+/// Takes bytes, and turns the structs into those of the client after them. An error leaves them unchanged.
 fn received(
     alloc: Global,
     login: &SaslLogin<'_>,
-    client: &SaslClient,
+    client: &mut SaslClient,
     bytes: &[u8],
     nonce: &[u8; 32],
     meter: &mut Meter,
 ) -> Result<ReceiveResult, Status>
     requires { meter.old ≤ 2 ^ 63 }
-    ensures ok { IfOk result (λ made. ReceivesAsClient login.now bytes.now nonce.now client.now made.next made.taken
+    ensures ok { IfOk result (λ made. ReceivesAsClient login.now bytes.now nonce.now client.old client.new made.taken
         (Ok made.sent.items)) }
     ensures fits { IfOk result (λ made. length made.sent.items ≤ 512) }
-    ensures err { IfErr result (λ status. status ≢ StatusOutOfMemory → IsNoClient login.now client.now status) }
-    ensures memory { AsksWhere (ReadsClient login.now client.now) result }
+    ensures err { IfErr result (λ status. status ≢ StatusOutOfMemory → IsNoClient login.now client.old status) }
+    ensures stays { OnErr result (client.new ≡ client.old) }
+    ensures memory { AsksWhere (ReadsClient login.now client.old) result }
 {
     let mut side = match client.read(alloc, login) {
         Ok(side) => side,
         Err(status) => return Err(status),
     };
-    let made = taken(alloc, &mut side, bytes, nonce, meter);
+    let made = taken(alloc, &mut side, client, bytes, nonce, meter);
     drop(side);
     made
 }
@@ -409,7 +401,6 @@ fn receive(
     };
     put(&made.sent, out, out_len)?;
     *taken = made.taken;
-    *client = made.next;
     Ok(())
 }
 

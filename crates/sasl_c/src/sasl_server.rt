@@ -1,13 +1,13 @@
 //! The server's side of a connection, as a struct between its calls.
 
-ghost use Rattle.std.specs.Prelude.{◌≡◌, ◌≢◌, ◌<◌, ◌≤◌, ◌⊎◌, ◌+◌, ◌^◌, ℕ, List, IfOk, IfErr, IfSome, OnErr, OnOk, MatchOption, MatchResult, length};
+ghost use Rattle.std.specs.Prelude.{◌≡◌, ◌≢◌, ◌<◌, ◌≤◌, ◌^◌, ℕ, List, IfOk, IfErr, OnErr, OnOk, MatchBool, MatchResult, length};
 ghost use Rattle.std.specs.Str.{IsUtf8};
 ghost use Rattle.fe2o3_scram.specs.Mixed.{MultiRecords};
 ghost use Rattle.fe2o3_scram.specs.Readings.{IsFirst, NoneHolds};
 ghost use Rattle.fe2o3_sasl_core.specs.Servers.{offers_any, sasl_server, settings_with};
 ghost use Rattle.fe2o3_sasl_negotiation.specs.declared.progress.Progress.TheVariants.{InProgress};
 ghost use Rattle.fe2o3_sasl_negotiation.specs.Snapshot.{IsServerKept, side_of};
-ghost use Rattle.fe2o3_sasl_negotiation.specs.Sides.{ServerConnectionSide, extended_in, server_side};
+ghost use Rattle.fe2o3_sasl_negotiation.specs.Sides.{extended_in, server_side};
 ghost use Rattle.sasl_c.specs.Rejections.{state_of};
 ghost use Rattle.sasl_c.specs.Rules.{channels_of};
 ghost use Rattle.sasl_c.specs.SaslServer.{AddsRecord, AreSettings, HasNoServerWords, HasLongSalt, HasNone, IsChoice, IsNoConfig, IsPrepared, NotReceived, Received, RestoresStage, HasOptions, ServerTakes, ShowRecords, ShowsBy, choice_tests, config_tests, extra_for, mechanisms_for, mock_of, plain_version_for, settings_for, struct_by, version_of_unknown};
@@ -16,7 +16,7 @@ ghost use Rattle.sasl_c.specs.Status.{AsksWhere};
 ghost use Rattle.sasl_c.specs.declared.status.Status.TheVariants.{OutOfMemory as StatusOutOfMemory, InvalidSnapshot as StatusInvalidSnapshot, TooLong as StatusTooLong};
 
 use crate::acting::acting_rights;
-use crate::connection::Connection;
+use crate::connection::{Connection, ReceiveResult};
 use crate::flags::{is_set, split, split_passwords};
 use crate::records::ScramRecord;
 use crate::rejections::LoggedServer;
@@ -495,87 +495,60 @@ fn restore<A: AuthenticatedUser + Drop>(
 }
 
 impl SaslServer {
-    /// The structs of a side, or `None` where a text has no room in them.
-    fn of<A: Shows>(side: &ServerNegotiation<A>) -> Option<SaslServer>
-        ensures shows { MatchOption result (HasNone A.state A.shows side.now)
-            (λ server. ShowsBy A.state A.shows server side.now) }
-        ensures writes { IfSome result (λ server. server ≡ struct_by A.state A.written_for side.now) }
+    /// Turns the structs into those of a side. If a text has no room in them, returns false, and nothing changes.
+    fn hold<A: Shows>(&mut self, side: &ServerNegotiation<A>) -> bool
+        ensures shows { MatchBool result (ShowsBy A.state A.shows self.new side.now) (HasNone A.state A.shows side.now) }
+        ensures writes { MatchBool result (self.new ≡ struct_by A.state A.written_for side.now) (self.new ≡ self.old) }
     {
-        let Some(connection) = Connection::of(&side.snapshot()) else {
-            return None;
-        };
-        let Some(scram) = side.acceptor().shown(side.progress()) else {
-            return None;
-        };
-        Some(SaslServer { connection, scram })
+        let kept = side.snapshot();
+        if !Connection::has_room(&kept) {
+            return false;
+        }
+        if !side.acceptor().show(side.progress(), &mut self.scram) {
+            return false;
+        }
+        self.connection.keep(&kept);
+        true
     }
 }
 
-/// What a call makes of bytes.
-#[derive(Drop)]
-pub struct ReceiveResult {
-    /// How many it takes.
-    pub taken: usize,
-
-    /// What is to be sent.
-    pub sent: BytesMut,
-
-    /// The structs then.
-    pub next: SaslServer,
-}
-
-/// Restores a side that waits, which takes bytes, and saves it.
-fn taken<A: Shows + Drop>(
-    alloc: Global,
-    acceptor: A,
-    kept: &Snapshot<'_>,
-    bytes: &[u8],
-    nonce: &[u8; 32],
-    meter: &mut Meter,
+/// Saves a side that has taken bytes.
+fn saved<A: Shows + Drop>(
+    call: RestoredResult<A>,
+    server: &mut SaslServer,
 ) -> Result<ReceiveResult, Status>
-    requires meter { meter.old ≤ 2 ^ 63 }
-    requires wanting { kept.now.progress ≡ InProgress }
-    ensures ok { IfOk result (λ made. (next : ServerConnectionSide A) × ServerTakes kept.now.extended_headers A.names A.machine
-        (side_of kept.now (A.state acceptor)) bytes.now nonce.now made.taken made.sent.items (server_side A.state next)
-        × (extended_in next ≡ kept.now.extended_headers) × ShowsBy A.state A.shows made.next next
-        × (made.next ≡ struct_by A.state A.written_for next)) }
-    ensures err { IfErr result (λ status. status ≢ StatusOutOfMemory
-        → ((status ≡ StatusInvalidSnapshot) × ¬ IsServerKept kept.now)
-        ⊎ ((status ≡ StatusTooLong) × ((next : ServerConnectionSide A) × (taken : ℕ) × (sent : List ℕ)
-        × ServerTakes kept.now.extended_headers A.names A.machine (side_of kept.now (A.state acceptor)) bytes.now nonce.now
-        taken sent (server_side A.state next) × HasNone A.state A.shows next))) }
+    ensures ok { IfOk result (λ made. (made.taken ≡ call.taken) × (made.sent.items ≡ call.sent.items)
+        × ShowsBy A.state A.shows server.new call.side × (server.new ≡ struct_by A.state A.written_for call.side)) }
+    ensures err { IfErr result (λ status. (status ≡ StatusTooLong) × HasNone A.state A.shows call.side
+        × (server.new ≡ server.old)) }
 {
-    let call = match restore(alloc, acceptor, kept, bytes, nonce, meter) {
-        Ok(call) => call,
-        Err(status) => return Err(status),
-    };
-    let Some(next) = SaslServer::of(&call.side) else {
+    if !server.hold(&call.side) {
         return Err(Status::TooLong);
-    };
+    }
     Ok(ReceiveResult {
         taken: call.taken,
         sent: call.sent,
-        next,
     })
 }
 
-/// Returns what a server makes of bytes.
+/// Takes bytes, and turns the structs into those of the side after them. An error leaves them unchanged.
 #[tactic(auto, using(crate::proofs::ServerCallLemmas::without_memory))]
 pub fn received(
     alloc: Global,
     config: &SaslServerConfig<'_>,
-    server: &SaslServer,
+    server: &mut SaslServer,
     bytes: &[u8],
     nonce: &[u8; 32],
     meter: &mut Meter,
 ) -> Result<ReceiveResult, Status>
     requires { meter.old ≤ 2 ^ 63 }
-    ensures ok { IfOk result (λ made. Received config.now bytes.now nonce.now server.now made.next made.taken
+    ensures ok { IfOk result (λ made. Received config.now bytes.now nonce.now server.old server.new made.taken
         made.sent.items) }
     ensures fits { IfOk result (λ made. length made.sent.items ≤ 520) }
     ensures err { IfErr result (λ status. status ≢ StatusOutOfMemory
-        → NotReceived config.now bytes.now nonce.now server.now status) }
-    ensures memory { AsksWhere (NoneHolds (side_tests server.now.connection) × NoneHolds (config_tests config.now)) result }
+        → NotReceived config.now bytes.now nonce.now server.old status) }
+    ensures stays { OnErr result (server.new ≡ server.old) }
+    ensures memory { AsksWhere (NoneHolds (side_tests server.old.connection) × NoneHolds (config_tests config.now)) result }
 {
     let kept = match server.connection.read() {
         Ok(kept) => kept,
@@ -589,7 +562,11 @@ pub fn received(
         Ok(acceptor) => acceptor,
         Err(status) => return Err(status),
     };
-    match taken(alloc, acceptor, &kept, bytes, nonce, meter) {
+    let call = match restore(alloc, acceptor, &kept, bytes, nonce, meter) {
+        Ok(call) => call,
+        Err(status) => return Err(status),
+    };
+    match saved(call, server) {
         Ok(made) => Ok(made),
         Err(status) => Err(status),
     }

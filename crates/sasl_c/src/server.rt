@@ -1,6 +1,6 @@
 //! A SCRAM server whose state is a struct between its calls.
 
-ghost use Rattle.std.specs.Prelude.{◌≡◌, ◌≢◌, ◌<◌, ◌≤◌, ◌↔◌, ◌⊎◌, ℕ, List, Option, IsTrue, length, take, IfSome, MatchOption};
+ghost use Rattle.std.specs.Prelude.{◌≡◌, ◌≢◌, ◌<◌, ◌≤◌, ◌↔◌, ◌⊎◌, ℕ, List, Option, IsTrue, length, take, MatchBool, MatchOption};
 ghost use Rattle.std.specs.Str.{IsUtf8};
 ghost use Rattle.fe2o3_sasl_wire.specs.FrameView.{shown};
 ghost use Rattle.fe2o3_scram.specs.ServerFirst.{ServerChallenge};
@@ -65,92 +65,89 @@ pub struct ScramServer {
 }
 
 impl ScramServer {
-    /// Returns the struct of a server without an open challenge and without an authenticated user.
-    pub fn fresh() -> ScramServer
-        ensures state { result.state ≡ 0 }
-        ensures writes { result ≡ fresh_server_struct }
+    /// Turns the struct into that of a server without an open challenge and without an authenticated user.
+    pub fn clear(&mut self)
+        ensures state { self.new.state ≡ 0 }
+        ensures writes { self.new ≡ fresh_server_struct }
     {
-        ScramServer {
-            state: 0,
-            version: 0,
-            user_len: 0,
-            bare_len: 0,
-            nonce_len: 0,
-            first_len: 0,
-            acts_for_len: 0,
-            rejection: 0,
-            user: [0; 256],
-            bare: [0; 1024],
-            nonce: [0; 512],
-            first: [0; 1024],
-            acts_for: [0; 256],
-        }
+        self.state = 0;
+        self.version = 0;
+        self.user_len = 0;
+        self.bare_len = 0;
+        self.nonce_len = 0;
+        self.first_len = 0;
+        self.acts_for_len = 0;
+        self.rejection = 0;
+        self.user.fill(0);
+        self.bare.fill(0);
+        self.nonce.fill(0);
+        self.first.fill(0);
+        self.acts_for.fill(0);
     }
 
-    /// Returns the struct of a server that has rejected a login, for the reason of this number.
-    pub fn rejected(rejection: u32) -> ScramServer
-        ensures state { result.state ≡ 0 }
-        ensures writes { result ≡ rejected_struct rejection }
+    /// Turns the struct into that of a server that has rejected a login, for the reason of this number.
+    pub fn reject(&mut self, rejection: u32)
+        ensures state { self.new.state ≡ 0 }
+        ensures writes { self.new ≡ rejected_struct rejection }
     {
-        let mut server = ScramServer::fresh();
-        server.rejection = rejection;
-        server
+        self.clear();
+        self.rejection = rejection;
     }
 
-    /// Returns the struct of a server that keeps only a user and an identity, the first bytes of these arrays, in this
-    /// state.
-    fn with_names(
+    /// Turns the struct into that of a server that keeps only a user and an identity, the first bytes of these arrays, in
+    /// this state.
+    fn hold_names(
+        &mut self,
         state: u32,
-        user: [u8; 256],
+        user: &[u8; 256],
         user_len: u32,
-        acts_for: [u8; 256],
+        acts_for: &[u8; 256],
         acts_for_len: u32,
-    ) -> ScramServer
-        ensures { result ≡ user_struct state user_len user acts_for_len acts_for }
+    )
+        ensures { self.new ≡ user_struct state user_len user.now acts_for_len acts_for.now }
     {
-        ScramServer {
-            state,
-            version: 0,
-            user_len,
-            bare_len: 0,
-            nonce_len: 0,
-            first_len: 0,
-            acts_for_len,
-            rejection: 0,
-            user,
-            bare: [0; 1024],
-            nonce: [0; 512],
-            first: [0; 1024],
-            acts_for,
-        }
+        self.clear();
+        self.state = state;
+        self.user_len = user_len;
+        self.acts_for_len = acts_for_len;
+        self.user = *user;
+        self.acts_for = *acts_for;
     }
 
-    /// Returns the struct of a server that keeps only this user and the identity that it acts for, in this state, or `None`
-    /// if a name does not fit.
-    pub fn of_user(state: u32, user: &str, acts_for: Option<&str>) -> Option<ScramServer>
-        ensures { MatchOption result ((256 < length user.now) ⊎ ¬ IdentityHasRoom (shown acts_for.entry))
-            (λ server. (length user.now ≤ 256) × IdentityHasRoom (shown acts_for.entry)
-            × (server ≡ named_struct state user.now (shown acts_for.entry))) }
+    /// Turns the struct into that of a server that keeps only this user and the identity that it acts for, in this state. If
+    /// a name does not fit, returns false, and nothing changes.
+    pub fn hold_user(&mut self, state: u32, user: &str, acts_for: Option<&str>) -> bool
+        ensures room { MatchBool result ((length user.now ≤ 256) × IdentityHasRoom (shown acts_for.entry))
+            ((256 < length user.now) ⊎ ¬ IdentityHasRoom (shown acts_for.entry)) }
+        ensures writes { MatchBool result (self.new ≡ named_struct state user.now (shown acts_for.entry))
+            (self.new ≡ self.old) }
     {
-        let name = padded(user.as_bytes())?;
+        let Some(name) = padded(user.as_bytes()) else {
+            return false;
+        };
         if !identity_fits(acts_for) {
-            return None;
+            return false;
         }
         let identity = identity_text(acts_for);
         let mut named = [0; 256];
         fill(&mut named, identity.as_bytes());
-        Some(ScramServer::with_names(state, name, user.len() as u32, named, identity.len() as u32))
+        self.hold_names(state, &name, user.len() as u32, &named, identity.len() as u32);
+        true
     }
 
-    /// Returns the struct of a server that has authenticated this user for this identity, or `None` if a name does not fit.
+    /// Turns the struct into that of a server that has authenticated this user for this identity. If a name does not fit,
+    /// returns false, and nothing changes.
     #[tactic(auto, using(crate::proofs::IdentityLemmas::logged_in))]
-    pub fn logged_in(user: &str, acts_for: Option<&str>) -> Option<ScramServer>
-        ensures user { MatchOption result ((256 < length user.now) ⊎ ¬ IdentityHasRoom (shown acts_for.entry))
-            (λ server. IsLoggedIn server user.now (shown acts_for.entry)) }
-        ensures writes { IfSome result (λ server. server ≡ authenticated_struct user.now (shown acts_for.entry)) }
+    pub fn hold_authenticated(&mut self, user: &str, acts_for: Option<&str>) -> bool
+        ensures user { MatchBool result (IsLoggedIn self.new user.now (shown acts_for.entry))
+            ((256 < length user.now) ⊎ ¬ IdentityHasRoom (shown acts_for.entry)) }
+        ensures writes { MatchBool result (self.new ≡ authenticated_struct user.now (shown acts_for.entry))
+            (self.new ≡ self.old) }
     {
-        let server = ScramServer::of_user(2, user, acts_for)?;
-        Some(server)
+        if !self.hold_user(2, user, acts_for) {
+            return false;
+        }
+        true
     }
 
     /// Turns the struct into that of a server that has authenticated the user of the challenge, which keeps only the names
@@ -164,23 +161,22 @@ impl ScramServer {
     {
         let user = cleared(&self.user, self.user_len);
         let acts_for = cleared(&self.acts_for, self.acts_for_len);
-        *self = ScramServer::with_names(2, user, self.user_len, acts_for, self.acts_for_len);
+        self.hold_names(2, &user, self.user_len, &acts_for, self.acts_for_len);
     }
 
-    /// Returns the struct of a server with this open challenge, by the hash of this number, or `None` if a text of the
-    /// challenge does not fit.
-    pub fn of(version: u32, challenge: &OpenChallenge<'_>) -> Option<ScramServer>
-        ensures open { MatchOption result (¬ ChallengeHasRoom (challenge_kept challenge.now))
-            (λ server. ChallengeHasRoom (challenge_kept challenge.now) × (server.version ≡ version)
-            × IsOpen server (challenge_kept challenge.now)) }
-        ensures writes { IfSome result (λ server. server ≡ open_struct version (challenge_kept challenge.now)) }
+    /// Turns the struct into that of a server with this open challenge, by the hash of this number. If a text of the
+    /// challenge does not fit, returns false, and nothing changes.
+    pub fn hold_challenge(&mut self, version: u32, challenge: &OpenChallenge<'_>) -> bool
+        ensures open { MatchBool result (ChallengeHasRoom (challenge_kept challenge.now) × (self.new.version ≡ version)
+            × IsOpen self.new (challenge_kept challenge.now)) (¬ ChallengeHasRoom (challenge_kept challenge.now)) }
+        ensures writes { MatchBool result (self.new ≡ open_struct version (challenge_kept challenge.now))
+            (self.new ≡ self.old) }
     {
         if !fits(challenge) {
-            return None;
+            return false;
         }
-        let mut server = ScramServer::fresh();
-        server.open(version, challenge);
-        Some(server)
+        self.open(version, challenge);
+        true
     }
 
     /// Turns the struct into that of a server with this open challenge, by the hash of this number.

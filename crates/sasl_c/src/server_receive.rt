@@ -82,7 +82,6 @@ fn receive_known(
     };
     put(&made.sent, out, out_len)?;
     *taken = made.taken;
-    *server = made.next;
     Ok(())
 }
 

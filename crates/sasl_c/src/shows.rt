@@ -1,6 +1,6 @@
 //! What the struct of a SCRAM server shows of an acceptor.
 
-ghost use Rattle.std.specs.Prelude.{◌≡◌, IfSome, MatchOption};
+ghost use Rattle.std.specs.Prelude.{◌≡◌, MatchBool};
 ghost use Rattle.fe2o3_sasl_core.specs.SavedServers.{kept_stage, saved_stage};
 ghost use Rattle.fe2o3_sasl_negotiation.specs.declared.progress.Progress.{Progress as ProgressOf};
 ghost use Rattle.sasl_c.specs.Rejections.{state_of};
@@ -12,21 +12,27 @@ use crate::server::ScramServer;
 use fe2o3_sasl_core::{AuthenticatedUser, Rejection, SavedStage};
 use fe2o3_sasl_negotiation::Progress;
 
-/// Returns the struct of SCRAM for a login of this progress, or `None` if a text does not fit.
+/// Turns the struct of SCRAM into that for a login of this progress. If a text does not fit, returns false, and nothing
+/// changes.
 #[tactic(auto, using(crate::proofs::SaslServerLemmas::shown))]
-fn shown(
+fn show(
     progress: Progress,
     stage: &SavedStage<'_>,
     rejection: Option<Rejection>,
-) -> Option<ScramServer>
-    ensures shows { MatchOption result ((scram : ScramStruct) → ¬ ShowsProgress scram progress (saved_stage stage.now))
-        (λ scram. ShowsProgress scram progress (saved_stage stage.now)) }
-    ensures writes { IfSome result (λ scram. scram ≡ progress_struct progress (saved_stage stage.now) rejection) }
+    scram: &mut ScramServer,
+) -> bool
+    ensures shows { MatchBool result (ShowsProgress scram.new progress (saved_stage stage.now))
+        ((other : ScramStruct) → ¬ ShowsProgress other progress (saved_stage stage.now)) }
+    ensures writes { MatchBool result (scram.new ≡ progress_struct progress (saved_stage stage.now) rejection)
+        (scram.new ≡ scram.old) }
 {
     match progress {
-        Progress::InProgress => ScramServer::of_stage(stage),
-        Progress::Authenticated => ScramServer::of_stage(stage),
-        Progress::Failed(_) => Some(ScramServer::rejected(rejection_number(rejection))),
+        Progress::InProgress => scram.hold_stage(stage),
+        Progress::Authenticated => scram.hold_stage(stage),
+        Progress::Failed(_) => {
+            scram.reject(rejection_number(rejection));
+            true
+        }
     }
 }
 
@@ -36,11 +42,11 @@ pub trait Shows: AuthenticatedUser {
 
     ghost written_for: { ProgressOf → Self → ScramStruct };
 
-    /// Returns the struct for a login of this progress, or `None` if a text does not fit.
-    fn shown(&self, progress: Progress) -> Option<ScramServer>
-        ensures shows { MatchOption result ((scram : ScramStruct) → ¬ shows scram progress self.now)
-            (λ scram. shows scram progress self.now) }
-        ensures writes { IfSome result (λ scram. scram ≡ written_for progress self.now) };
+    /// Turns the struct into that for a login of this progress. If a text does not fit, returns false, and nothing changes.
+    fn show(&self, progress: Progress, scram: &mut ScramServer) -> bool
+        ensures shows { MatchBool result (shows scram.new progress self.now)
+            ((other : ScramStruct) → ¬ shows other progress self.now) }
+        ensures writes { MatchBool result (scram.new ≡ written_for progress self.now) (scram.new ≡ scram.old) };
 }
 
 impl Shows for LoggedServer<'_> {
@@ -48,7 +54,7 @@ impl Shows for LoggedServer<'_> {
 
     ghost written_for = { λ progress logged. state_struct progress (state_of logged) };
 
-    fn shown(&self, progress: Progress) -> Option<ScramServer> {
-        shown(progress, &self.server.saved(), self.server.last_rejection())
+    fn show(&self, progress: Progress, scram: &mut ScramServer) -> bool {
+        show(progress, &self.server.saved(), self.server.last_rejection(), scram)
     }
 }

@@ -81,6 +81,12 @@ def edit(old, new, *more):
     )
 
 
+class EditsOfThisRepository(unittest.TestCase):
+    def test_each_can_be_planted(self):
+        bad = [line for crate in wrong_bodies.libraries([]) for line in wrong_bodies.bodies_of(crate, "")[1]]
+        self.assertEqual(bad, [])
+
+
 class WrongBodies(unittest.TestCase):
     def setUp(self):
         room = tempfile.TemporaryDirectory()
@@ -191,6 +197,17 @@ class WrongBodies(unittest.TestCase):
         self.assertIn("proofs/key/Key/drop/Proof.antt", texts)
         self.assertIn("proofs/key/Key/clear/Proof.antt", texts)
         self.assertIn("proofs/more/KeyKeeps/keep/Proof.antt", texts)
+
+    def test_a_type_of_two_modules(self):
+        for name in ("one", "two"):
+            with open(f"{self.crate}/src/{name}.rt", "w", encoding="utf-8") as it:
+                it.write("struct Lock {\n    bits: u32,\n}\n\nimpl Lock {\n    fn open(&self) {\n        turn(self);\n    }\n}\n")
+        with open(f"{self.crate}/src/more.rt", "w", encoding="utf-8") as it:
+            it.write("impl Lock {\n    fn shut(&self) {\n        turn(self);\n    }\n}\n")
+        texts = wrong_bodies.by_contract("numbers", {}, ["numbers::half"])
+        self.assertIn("proofs/one/Lock/open/Proof.antt", texts)
+        self.assertIn("proofs/two/Lock/open/Proof.antt", texts)
+        self.assertNotIn("shut", " ".join(texts))
 
     def test_a_proof_file_alone_that_no_longer_fits(self):
         body = self.read(edit("    x / 2", "    x / 3"))

@@ -12,7 +12,7 @@ use Rattle.fe2o3_sasl_core.specs.private.Writing.{is_by_policy}
 use Rattle.fe2o3_sasl_negotiation.specs.ClientNegotiation.{ClientSideAnswers}
 use Rattle.fe2o3_sasl_negotiation.specs.Connections.{LeftOver, Unanswered, fresh}
 use Rattle.fe2o3_sasl_negotiation.specs.Framing.{Fits, IsWhole, framed, sasl_header, size_of}
-use Rattle.fe2o3_sasl_negotiation.specs.Laws.{Negotiates}
+use Rattle.fe2o3_sasl_negotiation.specs.Laws.{Call, Negotiates, NoncesOf}
 use Rattle.fe2o3_sasl_negotiation.specs.Negotiations.{Ends, Receives, Side, SideOutput}
 use Rattle.fe2o3_sasl_negotiation.specs.declared.progress.CloseReason.{CloseReason}
 use Rattle.fe2o3_sasl_negotiation.specs.declared.progress.CloseReason.TheVariants.{FrameSize, ProtocolHeaderMismatch}
@@ -24,7 +24,7 @@ use Rattle.fe2o3_sasl_negotiation.proofs.lemmas.PolicyLawLemmas.{waiting}
 use Rattle.fe2o3_sasl_negotiation.proofs.lemmas.SelectedProfileLemmas.{selected_ordinary}
 use Rattle.fe2o3_sasl_negotiation.proofs.lemmas.UnitLemmas.{length-framed}
 use Rattle.connection_laws.specs.PolicyClients.{IsChosen, IsUnselected, SelectsNoneOf}
-use Rattle.connection_laws.proofs.lemmas.PolicyOfferLemmas.{Selects, Silent, policy_replies}
+use Rattle.connection_laws.proofs.lemmas.PolicyOfferLemmas.{Selects, SelectsNoneAt, Silent, policy_replies}
 use Rattle.connection_laws.proofs.lemmas.ProfileKindLemmas.{call_kind, chosen_like}
 
 -- ---- a client of a selected profile
@@ -80,6 +80,32 @@ module _ (hostname : Option (List ℕ)) where
         state = ap (λ (s : Side Profile). s.state) same;
       }
 
+-- ---- the nonces of some of these calls
+
+no_nonces : (calls : List Call) → NoncesOf calls []
+no_nonces [] = refl
+no_nonces (call ∷ calls) = inl (no_nonces calls)
+
+first_nonce : (calls : List Call) (nonce : List ℕ) (others : List (List ℕ)) → NoncesOf calls (nonce ∷ others)
+    → NoncesOf calls (nonce ∷ [])
+first_nonce [] nonce others is = absurd (cc)
+first_nonce (call ∷ calls) nonce others (inl of) = inl (first_nonce calls nonce others of)
+first_nonce (call ∷ calls) nonce others (inr (more, is, of)) =
+    inr ([], head nonce call.nonce others more is, no_nonces calls)
+  where
+    head : (one other : List ℕ) (ones more : List (List ℕ)) → (one ∷ ones) ≡ (other ∷ more) → (one ∷ []) ≡ (other ∷ [])
+    head one other ones more same = cc
+
+later_nonces : (calls : List Call) (nonce : List ℕ) (others : List (List ℕ)) → NoncesOf calls (nonce ∷ others)
+    → NoncesOf calls others
+later_nonces [] nonce others is = absurd (cc)
+later_nonces (call ∷ calls) nonce others (inl of) = inl (later_nonces calls nonce others of)
+later_nonces (call ∷ calls) nonce others (inr (more, is, of)) =
+    inl (subst (NoncesOf calls) (tail call.nonce nonce more others (sym is)) of)
+  where
+    tail : (one other : List ℕ) (ones more : List (List ℕ)) → (one ∷ ones) ≡ (other ∷ more) → ones ≡ more
+    tail one other ones more same = cc
+
 module _ (hostname : Option (List ℕ)) (selection : Selection) (limit : ℕ) where
   -- the first frame that was taken is an offer, from which the client has selected this profile
   pub record Offered (taken : List ℕ) (last : Side Profile) : Type 0 where
@@ -98,9 +124,9 @@ module _ (hostname : Option (List ℕ)) (selection : Selection) (limit : ℕ) wh
       → take (size_of tail) tail ≡ framed (first_body tail)
 
   -- what a client by the policy has taken and sent
-  abbrev pub PolicyEnds : List ℕ → List ℕ → Side Profile → Type 0
-  PolicyEnds taken sent last = ((sent ≡ []) × (last.progress ≢ Authenticated)
-      × IsUnselected selection hostname limit taken last) ⊎ Offered taken last
+  abbrev pub PolicyEnds : List Call → List ℕ → List ℕ → Side Profile → Type 0
+  PolicyEnds calls taken sent last = ((sent ≡ []) × (last.progress ≢ Authenticated)
+      × IsUnselected selection hostname limit calls taken last) ⊎ Offered taken last
 
   -- its body has an allowed size
   pub body_fits : (tail : List ℕ) → IsWhole (Frame turns.Mechanisms) limit tail
@@ -110,10 +136,12 @@ module _ (hostname : Option (List ℕ)) (selection : Selection) (limit : ℕ) wh
 
   -- ---- after the header
 
-  module _ (taken tail : List ℕ) (carried : taken ≡ sasl_header ++ tail) (framed_so : IsFramed taken) where
+  module _ (calls : List Call) (taken tail : List ℕ) (carried : taken ≡ sasl_header ++ tail) (framed_so : IsFramed taken)
+    where
     -- no offer was read, and the client has closed
     no_offer : (why : CloseReason) (n : ℕ) (sent : List ℕ) (next last : Side Profile) → Closed hostname why n tail sent next last
-        → next.state ≡ PolicyProfile selection → LeftOver turns.Mechanisms limit tail (Failed why) → PolicyEnds taken sent last
+        → next.state ≡ PolicyProfile selection → LeftOver turns.Mechanisms limit tail (Failed why)
+        → PolicyEnds calls taken sent last
     no_offer why n sent next last ends kept left = inl (
       ends.silent,
       (λ logged. closed_is_not_logged_in why (sym ends.progress ∙ logged)),
@@ -126,11 +154,11 @@ module _ (hostname : Option (List ℕ)) (selection : Selection) (limit : ℕ) wh
       }))),
     )
 
-    list_ends : (nonces : List (List ℕ)) (sent : List ℕ) (last : Side Profile)
+    list_ends : (nonces : List (List ℕ)) (sent : List ℕ) (last : Side Profile) → NoncesOf calls nonces
         → Negotiates (ClientSideAnswers hostname) (waiting limit [] (PolicyProfile selection)) nonces tail sent last
-        → PolicyEnds taken sent last
-    list_ends [] sent last (nothing, inr (ended, none, is)) = absurd (ended refl)
-    list_ends [] sent last (nothing, inl (going, part, is)) =
+        → PolicyEnds calls taken sent last
+    list_ends [] sent last of (nothing, inr (ended, none, is)) = absurd (ended refl)
+    list_ends [] sent last of (nothing, inl (going, part, is)) =
         let progress = ap (λ (s : Side Profile). s.progress) is in inl (
           nothing,
           (λ logged. authenticated_is_not_in_progress (sym logged ∙ progress)),
@@ -142,7 +170,7 @@ module _ (hostname : Option (List ℕ)) (selection : Selection) (limit : ℕ) wh
             waits = λ _. is;
           }))),
         )
-    list_ends (nonce ∷ nonces) sent last (k, first, next, later, wants, no_part, receives, more, all) = go receives
+    list_ends (nonce ∷ nonces) sent last of (k, first, next, later, wants, no_part, receives, more, all) = go receives
       where
         event : Given
         event = record { body = first_body tail; nonce = nonce }
@@ -150,7 +178,7 @@ module _ (hostname : Option (List ℕ)) (selection : Selection) (limit : ℕ) wh
         by : (answer : SideOutput) (after : Profile) → IsWhole (Frame turns.Mechanisms) limit tail
             → Ends (waiting limit [] (PolicyProfile selection)) (size_of tail) answer after k first next
             → Silent hostname selection event answer after ⊎ Selects hostname selection event answer after
-            → PolicyEnds taken sent last
+            → PolicyEnds calls taken sent last
         by answer after whole done (inr selects) = inr (record {
           tail = tail;
           carried = carried;
@@ -181,10 +209,20 @@ module _ (hostname : Option (List ℕ)) (selection : Selection) (limit : ℕ) wh
             fits : Fits limit (length (first_body tail) + 4)
             fits = body_fits tail whole one
 
+            selects_none : (names : List (List ℕ)) → SelectsNoneAt hostname selection event answer after names why
+                → SelectsNoneOf selection hostname calls names (Failed why)
+            selects_none names (inl (none, is)) = inl (none, ap (λ (w : CloseReason). Failed w) is)
+            selects_none names (inr (profile, selected, none, is)) = inr (
+              profile,
+              selected,
+              (nonce, first_nonce calls nonce nonces of, none),
+              ap (λ (w : CloseReason). Failed w) is,
+            )
+
             answered : ((spelled : Result SaslFrame Error) × SpellsBody (first_body tail) spelled
                 × Unanswered turns.Mechanisms spelled why)
                 ⊎ ((names : List (List ℕ)) × SpellsBody (first_body tail) (Ok (frames.Mechanisms names))
-                × SelectsNoneOf selection hostname names (Failed why)) → PolicyEnds taken sent last
+                × SelectsNoneAt hostname selection event answer after names why) → PolicyEnds calls taken sent last
             answered (inl (spelled, spells, unanswered)) = no_offer why (size_of tail) sent next last ends state
                 (inr (inr (first_body tail, spelled, why, ends.all ∙ one, fits, spells, unanswered, refl)))
             answered (inr (names, spells, none)) = inl (
@@ -196,13 +234,13 @@ module _ (hostname : Option (List ℕ)) (selection : Selection) (limit : ℕ) wh
                 fits = fits;
                 spells = spells;
                 carried = carried ∙ ap (λ l. sasl_header ++ l) (ends.all ∙ one);
-                closed = subst (SelectsNoneOf selection hostname names) (sym ends.progress) none;
+                closed = subst (SelectsNoneOf selection hostname calls names) (sym ends.progress) (selects_none names none);
                 state = ends.state ∙ state;
               }))),
             )
 
         go : Receives (ClientSideAnswers hostname) (waiting limit [] (PolicyProfile selection)) tail nonce k first next
-            → PolicyEnds taken sent last
+            → PolicyEnds calls taken sent last
         go (inl (part, waits)) = absurd (no_part part)
         go (inr (inl (refused, (t, s, is)))) =
             let ends = closed hostname FrameSize 4 k nonces next last tail sent first later t s
@@ -214,20 +252,21 @@ module _ (hostname : Option (List ℕ)) (selection : Selection) (limit : ℕ) wh
 
   -- ---- from the first byte
 
-  pub policy_ends : (nonces : List (List ℕ)) (taken sent : List ℕ) (last : Side Profile) → IsFramed taken
+  pub policy_ends : (calls : List Call) (nonces : List (List ℕ)) (taken sent : List ℕ) (last : Side Profile)
+      → IsFramed taken → NoncesOf calls nonces
       → Negotiates (ClientSideAnswers hostname) (fresh limit (PolicyProfile selection)) nonces taken sent last
-      → PolicyEnds taken sent last
-  policy_ends [] taken sent last framed_so (nothing, inr (ended, none, is)) = absurd (ended refl)
-  policy_ends [] taken sent last framed_so (nothing, inl (going, part, is)) = inl (
+      → PolicyEnds calls taken sent last
+  policy_ends calls [] taken sent last framed_so of (nothing, inr (ended, none, is)) = absurd (ended refl)
+  policy_ends calls [] taken sent last framed_so of (nothing, inl (going, part, is)) = inl (
     nothing,
     (λ logged. authenticated_is_not_in_progress (sym logged ∙ ap (λ (s : Side Profile). s.progress) is)),
     inl (part, refl, is),
   )
-  policy_ends (nonce ∷ nonces) taken sent last framed_so (k, first, next, later, wants, no_part, receives, more, all) =
-      go receives
+  policy_ends calls (nonce ∷ nonces) taken sent last framed_so of
+      (k, first, next, later, wants, no_part, receives, more, all) = go receives
     where
       go : Receives (ClientSideAnswers hostname) (fresh limit (PolicyProfile selection)) taken nonce k first next
-          → PolicyEnds taken sent last
+          → PolicyEnds calls taken sent last
       go (inl (part, waits)) = absurd (no_part part)
       go (inr (inl (refused, ends))) = absurd refused
       go (inr (inr (answer, after, whole, (inl (other, shut), same), (t, s, is)))) =
@@ -252,9 +291,10 @@ module _ (hostname : Option (List ℕ)) (selection : Selection) (limit : ℕ) wh
             held = [];
             state = same i;
           }) in
-          subst (λ (l : List ℕ). PolicyEnds taken l last)
+          subst (λ (l : List ℕ). PolicyEnds calls taken l last)
           (sym (all ∙ ap (λ l. l ++ later) (s ∙ ap (λ (a : SideOutput). a.sent) opens)))
-          (list_ends taken (drop 8 taken) (sym (take-append-drop 8 taken) ∙ ap (λ l. l ++ drop 8 taken) header) framed_so
-          nonces later last (subst (λ (n : ℕ). Negotiates (ClientSideAnswers hostname)
+          (list_ends calls taken (drop 8 taken) (sym (take-append-drop 8 taken) ∙ ap (λ l. l ++ drop 8 taken) header)
+          framed_so nonces later last (later_nonces calls nonce nonces of)
+          (subst (λ (n : ℕ). Negotiates (ClientSideAnswers hostname)
           (waiting limit [] (PolicyProfile selection)) nonces (drop n taken) later last) t
           (subst (λ (n : Side Profile). Negotiates (ClientSideAnswers hostname) n nonces (drop k taken) later last) opened more)))

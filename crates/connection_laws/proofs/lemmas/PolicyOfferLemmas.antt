@@ -6,7 +6,7 @@ use Rattle.fe2o3_sasl_wire.specs.declared.sasl_frames.error.Error.{Error}
 use Rattle.fe2o3_sasl_wire.specs.declared.sasl_frames.error.Error.TheVariants.{TooLarge}
 use Rattle.fe2o3_sasl_core.specs.Bodies.{SpellsBody, carried}
 use Rattle.fe2o3_sasl_core.specs.Events.{ClientSays, Given, Refused, Started}
-use Rattle.fe2o3_sasl_core.specs.ProfileMachine.{IsSelected, OfferAnswers}
+use Rattle.fe2o3_sasl_core.specs.ProfileMachine.{IsSelected, NoneIsSelected, OfferAnswers}
 use Rattle.fe2o3_sasl_core.specs.Profiles.{PolicyProfile, Profile, Selection, accepts_signature_by_challenge, after_init}
 use Rattle.fe2o3_sasl_core.specs.Runs.{ProfileGives, Replies}
 use Rattle.fe2o3_sasl_core.specs.declared.sasl_profile.error.ProfileError.{ProfileError}
@@ -21,9 +21,7 @@ use Rattle.fe2o3_sasl_negotiation.specs.declared.progress.CloseReason.{CloseReas
 use Rattle.fe2o3_sasl_negotiation.specs.declared.progress.CloseReason.TheVariants.{MalformedFrame, Mechanism as ProfileRefused, UnexpectedFrame}
 use Rattle.fe2o3_sasl_negotiation.specs.declared.progress.Expected.TheVariants.{Frame}
 use Rattle.fe2o3_sasl_negotiation.specs.declared.progress.FrameKind.TheVariants as turns
-use Rattle.fe2o3_sasl_negotiation.specs.declared.progress.Progress.TheVariants.{Failed}
 use Rattle.fe2o3_sasl_negotiation.proofs.lemmas.SelectedProfileLemmas.{selected_is_for, selected_ordinary}
-use Rattle.connection_laws.specs.PolicyClients.{SelectsNoneOf}
 
 -- a client of the first profile answers a frame so, and one of the second, with the same bytes: both by the init of this
 -- profile, which they are of then, or it has none, and both close and keep their profiles
@@ -131,12 +129,17 @@ module _ (hostname : Option (List ℕ)) (names : List (List ℕ)) (event : Given
 -- ---- a client by a policy
 
 module _ (hostname : Option (List ℕ)) (selection : Selection) (event : Given) (answer : SideOutput) (next : Profile) where
+  -- from these mechanisms it selects no profile, or one that has no init with this nonce
+  abbrev pub SelectsNoneAt : List (List ℕ) → CloseReason → Type 0
+  SelectsNoneAt names why = (NoneIsSelected selection names × (why ≡ ProfileRefused NotImplemented))
+      ⊎ ((profile : Profile) × IsSelected selection names profile
+      × (canonical (init_of hostname event.nonce profile) ≡ None) × (why ≡ ProfileRefused (FrameFault TooLarge)))
+
   -- it selects no profile that has an init, and closes
   abbrev pub Silent : Type 0
   Silent = (why : CloseReason) × (answer ≡ closes why (Frame turns.Mechanisms)) × (next ≡ PolicyProfile selection)
       × (((spelled : Result SaslFrame Error) × SpellsBody event.body spelled × Unanswered turns.Mechanisms spelled why)
-      ⊎ ((names : List (List ℕ)) × SpellsBody event.body (Ok (frames.Mechanisms names))
-      × SelectsNoneOf selection hostname names (Failed why)))
+      ⊎ ((names : List (List ℕ)) × SpellsBody event.body (Ok (frames.Mechanisms names)) × SelectsNoneAt names why))
 
   -- or it answers like the profile that it selects
   pub record Selects : Type 0 where
@@ -193,7 +196,7 @@ module _ (hostname : Option (List ℕ)) (selection : Selection) (event : Given) 
             ProfileRefused (FrameFault TooLarge),
             closed,
             kept,
-            inr (names, spells, inr (profile, selected, (event.nonce, none), refl)),
+            inr (names, spells, inr (profile, selected, none, refl)),
           )
 
 -- ---- both

@@ -23,7 +23,7 @@ use Rattle.fe2o3_sasl_negotiation.specs.declared.progress.Expected.TheVariants.{
 use Rattle.fe2o3_sasl_negotiation.specs.declared.progress.FrameKind.TheVariants as turns
 use Rattle.fe2o3_sasl_negotiation.specs.declared.progress.Progress.TheVariants.{Authenticated, Failed}
 use Rattle.fe2o3_sasl_negotiation.proofs.lemmas.ConnectionLemmas.{first_body}
-use Rattle.fe2o3_sasl_negotiation.proofs.lemmas.CutLemmas.{cuts_do_not_matter, nothing_is_part}
+use Rattle.fe2o3_sasl_negotiation.proofs.lemmas.CutLemmas.{cuts_with_nonces, nothing_is_part}
 use Rattle.fe2o3_sasl_negotiation.proofs.lemmas.FramingLemmas.{size_of-append}
 use Rattle.fe2o3_sasl_negotiation.proofs.lemmas.PieceLemmas.{is_framed}
 use Rattle.fe2o3_sasl_negotiation.proofs.lemmas.SelectedProfileLemmas.{selected_ordinary}
@@ -48,12 +48,12 @@ policy_is_not : {A : Type 0} (selection : Selection) (side : Side Profile) → s
     → IsChosen side.state → A
 policy_is_not selection side is chosen = absurd (subst IsChosen is chosen)
 
-unselected_state : (selection : Selection) (hostname : Option (List ℕ)) (limit : ℕ) (taken : List ℕ) (last : Side Profile)
-    → IsUnselected selection hostname limit taken last → last.state ≡ PolicyProfile selection
-unselected_state selection hostname limit taken last (inl part) = ap (λ (s : Side Profile). s.state) part.2
-unselected_state selection hostname limit taken last (inr (inl other)) = other.3
-unselected_state selection hostname limit taken last (inr (inr (inl unread))) = unread.state
-unselected_state selection hostname limit taken last (inr (inr (inr none))) = none.state
+unselected_state : (selection : Selection) (hostname : Option (List ℕ)) (limit : ℕ) (calls : List Call) (taken : List ℕ)
+    (last : Side Profile) → IsUnselected selection hostname limit calls taken last → last.state ≡ PolicyProfile selection
+unselected_state selection hostname limit calls taken last (inl part) = ap (λ (s : Side Profile). s.state) part.2
+unselected_state selection hostname limit calls taken last (inr (inl other)) = other.3
+unselected_state selection hostname limit calls taken last (inr (inr (inl unread))) = unread.state
+unselected_state selection hostname limit calls taken last (inr (inr (inr none))) = none.state
 
 -- ---- the first frame
 
@@ -95,10 +95,10 @@ module _ (selection : Selection) (hostname : Option (List ℕ)) (limit : ℕ) (c
   frames_are taken all = bytes_framed hostname selection limit taken (subst (λ (l : List ℕ). IsBytes l)
       (ap (take (length taken)) all ∙ take_at taken rest (length taken) refl) (IsBytes-take (length taken) stream are))
 
-  ends : (taken : List ℕ) × (stream ≡ taken ++ rest) × PolicyEnds hostname selection limit taken sent last
-  ends = let (taken, nonces, all, units) = cuts_do_not_matter (ClientSideAnswers hostname)
+  ends : (taken : List ℕ) × (stream ≡ taken ++ rest) × PolicyEnds hostname selection limit calls taken sent last
+  ends = let (taken, nonces, all, units, of) = cuts_with_nonces (ClientSideAnswers hostname)
       (fresh limit (PolicyProfile selection)) last calls stream sent rest (nothing_is_part Header limit) made in
-      (taken, all, policy_ends hostname selection limit nonces taken sent last (frames_are taken all) units)
+      (taken, all, policy_ends hostname selection limit calls nonces taken sent last (frames_are taken all) of units)
 
   offered : (taken : List ℕ) → stream ≡ taken ++ rest → Offered hostname selection limit taken last
       → ActsAsSelected selection hostname limit calls stream sent rest last
@@ -140,19 +140,19 @@ pub selected_clients_act_as_profile : SelectedClientsActAsProfile
 selected_clients_act_as_profile selection hostname limit calls stream sent rest last are made chosen =
     go (ends selection hostname limit calls stream sent rest last are made)
   where
-    go : (taken : List ℕ) × (stream ≡ taken ++ rest) × PolicyEnds hostname selection limit taken sent last
+    go : (taken : List ℕ) × (stream ≡ taken ++ rest) × PolicyEnds hostname selection limit calls taken sent last
         → ActsAsSelected selection hostname limit calls stream sent rest last
     go (taken, all, inl (nothing, not, is)) =
-        policy_is_not selection last (unselected_state selection hostname limit taken last is) chosen
+        policy_is_not selection last (unselected_state selection hostname limit calls taken last is) chosen
     go (taken, all, inr offer) = offered selection hostname limit calls stream sent rest last are made taken all offer
 
 pub unselected_clients_send_nothing : UnselectedClientsSendNothing
 unselected_clients_send_nothing selection hostname limit calls stream sent rest last are made not_chosen =
     go (ends selection hostname limit calls stream sent rest last are made)
   where
-    go : (taken : List ℕ) × (stream ≡ taken ++ rest) × PolicyEnds hostname selection limit taken sent last
+    go : (taken : List ℕ) × (stream ≡ taken ++ rest) × PolicyEnds hostname selection limit calls taken sent last
         → (taken : List ℕ) × (stream ≡ taken ++ rest) × (sent ≡ []) × (last.progress ≢ Authenticated)
-        × IsUnselected selection hostname limit taken last
+        × IsUnselected selection hostname limit calls taken last
     go (taken, all, inl (nothing, not, is)) = (taken, all, nothing, not, is)
     go (taken, all, inr offer) = absurd (not_chosen offer.chosen)
 
@@ -181,8 +181,8 @@ module _ (selection : Selection) (hostname : Option (List ℕ)) (limit : ℕ) (c
 
   -- a client that has selected none has closed, because its init has no body
   too_large : (taken : List ℕ) (last : Side Profile) → stream ≡ taken ++ rest
-      → IsUnselected selection hostname limit taken last
-      → HasNoInit hostname profile × (last.progress ≡ Failed (ProfileRefused (FrameFault TooLarge)))
+      → IsUnselected selection hostname limit calls taken last
+      → HasNoInit hostname calls profile × (last.progress ≡ Failed (ProfileRefused (FrameFault TooLarge)))
   too_large taken last all (inl part) =
       absurd (part_is_short limit (PolicyProfile selection) taken [] (framed offer.body ++ offer.more) last part
       (front taken all))
@@ -210,20 +210,20 @@ module _ (selection : Selection) (hostname : Option (List ℕ)) (limit : ℕ) (c
       again : IsSelected selection none.names profile
       again = subst (λ (n : List (List ℕ)). IsSelected selection n profile) same selected
 
-      go : SelectsNoneOf selection hostname none.names last.progress
-          → HasNoInit hostname profile × (last.progress ≡ Failed (ProfileRefused (FrameFault TooLarge)))
+      go : SelectsNoneOf selection hostname calls none.names last.progress
+          → HasNoInit hostname calls profile × (last.progress ≡ Failed (ProfileRefused (FrameFault TooLarge)))
       go (inl (nothing, is)) = absurd (selected_of_some selection none.names profile again nothing)
       go (inr (other, is, no_init, closed)) =
-          (subst (HasNoInit hostname) (one_selected selection none.names profile other again is) no_init, closed)
+          (subst (HasNoInit hostname calls) (one_selected selection none.names profile other again is) no_init, closed)
 
   -- how a client of the profile and one by the policy end
   ends_alike : (side last : Side Profile) → Calls (ClientReceives hostname) (fresh limit profile) calls stream sent side rest
       → Calls (ClientReceives hostname) (fresh limit (PolicyProfile selection)) calls stream sent last rest
-      → EndsLike profile (PolicyProfile selection) side last → EndAlike selection hostname profile sent side last
+      → EndsLike profile (PolicyProfile selection) side last → EndAlike selection hostname calls profile sent side last
   ends_alike side last made policy_made like =
-      let (taken, nonces, all, units) = cuts_do_not_matter (ClientSideAnswers hostname)
+      let (taken, nonces, all, units, of) = cuts_with_nonces (ClientSideAnswers hostname)
       (fresh limit (PolicyProfile selection)) last calls stream sent rest (nothing_is_part Header limit) policy_made in
-      go taken all like (policy_ends hostname selection limit nonces taken sent last (offer_framed taken all) units)
+      go taken all like (policy_ends hostname selection limit calls nonces taken sent last (offer_framed taken all) of units)
     where
       chosen : IsChosen side.state
       chosen =
@@ -232,7 +232,8 @@ module _ (selection : Selection) (hostname : Option (List ℕ)) (limit : ℕ) (c
           first
 
       go : (taken : List ℕ) → stream ≡ taken ++ rest → EndsLike profile (PolicyProfile selection) side last
-          → PolicyEnds hostname selection limit taken sent last → EndAlike selection hostname profile sent side last
+          → PolicyEnds hostname selection limit calls taken sent last
+          → EndAlike selection hostname calls profile sent side last
       go taken all (inl same) ends = inl (subst (λ (s : Side Profile). IsChosen s.state) (sym same) chosen, same)
       go taken all (inr (kept, is)) (inr offer) =
           policy_is_not selection last (ap (λ (s : Side Profile). s.state) is) offer.chosen

@@ -1,6 +1,6 @@
 -- A client by a policy and a SCRAM server that are joined log in: `unaltered_policy_clients_log_in`, and
 -- `joined_policy_sides_exist`.
-use Rattle.std.proofs.Common.{Option, ◌≡◌, ◌<◌, ◌≤◌, ◌^◌, ℕ, List, [], ◌∷◌, ◌++◌, length, sym, ◌∙◌, ap, subst, inl, inr, arith, Ok}
+use Rattle.std.proofs.Common.{Option, ◌≡◌, ◌<◌, ◌≤◌, ◌^◌, ℕ, List, [], ◌∷◌, ◌++◌, length, refl, sym, ◌∙◌, ap, subst, inl, inr, arith, Ok}
 use Rattle.std.proofs.lemmas.List.{append-nil}
 use Rattle.std.specs.List.{AllByRecursion}
 use Rattle.fe2o3_sasl_wire.specs.SaslFrames as frames
@@ -78,11 +78,11 @@ module _ (login : Login) (provider : Provider) (password salt : List ℕ) (count
         }
 
 -- two clients one of which has logged in end in one side, which has selected its profile
-logged_in : (selection : Selection) (hostname : Option (List ℕ)) (profile : Profile) (sent : List ℕ) (side last : Side Profile)
-    → side.progress ≡ Authenticated → EndAlike selection hostname profile sent side last
+logged_in : (selection : Selection) (hostname : Option (List ℕ)) (calls : List Call) (profile : Profile) (sent : List ℕ)
+    (side last : Side Profile) → side.progress ≡ Authenticated → EndAlike selection hostname calls profile sent side last
     → IsChosen last.state × (last ≡ side)
-logged_in selection hostname profile sent side last logged (inl chosen) = chosen
-logged_in selection hostname profile sent side last logged (inr (no_init, nothing, closed, kept, is)) =
+logged_in selection hostname calls profile sent side last logged (inl chosen) = chosen
+logged_in selection hostname calls profile sent side last logged (inr (no_init, nothing, closed, kept, is)) =
     absurd (closed_is_not_logged_in _ (sym closed ∙ logged))
 
 pub unaltered_policy_clients_log_in : UnalteredPolicyClientsLogIn
@@ -93,10 +93,13 @@ unaltered_policy_clients_log_in selection login provider password salt count cli
     joined.client_sent joined.server_sent server holds wide.client_limit wide.server_nonces joined.server_takes) selected
     joined.client_takes)
   where
-    go : (side : Side Profile) × EndAlike selection login.hostname (scram_profile login) joined.client_sent side client
+    go : (side : Side Profile)
+        × EndAlike selection login.hostname joined.client_calls (scram_profile login) joined.client_sent side client
         × Calls (ClientReceives login.hostname) (fresh joined.client_limit (scram_profile login)) joined.client_calls
         joined.server_sent joined.client_sent side []
-        → IsChosen client.state × ((both : Joined login provider client server) × BothLogIn both salt count)
+        → IsChosen client.state × ((both : Joined login provider client server)
+        × (both.client_calls ≡ joined.client_calls) × (both.server_calls ≡ joined.server_calls)
+        × (both.client_sent ≡ joined.client_sent) × (both.server_sent ≡ joined.server_sent) × BothLogIn both salt count)
     go (side, alike, made) =
         let both : Joined login provider side server = record {
           client_limit = joined.client_limit;
@@ -115,9 +118,13 @@ unaltered_policy_clients_log_in selection login provider password salt count cli
           server_nonces = wide.server_nonces;
         }) in
         let (chosen, same) =
-        logged_in selection login.hostname (scram_profile login) joined.client_sent side client log_in.client_progress alike in (
+        logged_in selection login.hostname joined.client_calls (scram_profile login) joined.client_sent side client
+        log_in.client_progress alike in (
           chosen,
-          subst (λ (s : Side Profile). (b : Joined login provider s server) × BothLogIn b salt count) (sym same) (both, log_in),
+          subst (λ (s : Side Profile). (b : Joined login provider s server) × (b.client_calls ≡ joined.client_calls)
+              × (b.server_calls ≡ joined.server_calls) × (b.client_sent ≡ joined.client_sent)
+              × (b.server_sent ≡ joined.server_sent) × BothLogIn b salt count) (sym same)
+              (both, refl, refl, refl, refl, log_in),
         )
 
 pub joined_policy_sides_exist : JoinedPolicySidesExist
@@ -129,6 +136,7 @@ joined_policy_sides_exist selection login provider password salt count client_li
     go : JoinedSides login provider client_limit server_limit client_calls server_calls
         → (client : Side Profile) × (server : Side Acceptor)
         × ((joined : JoinedByPolicy selection login.hostname provider client server) × TakesPolicyFrames joined
+        × (joined.client_limit ≡ client_limit) × (joined.server_limit ≡ server_limit)
         × (joined.client_calls ≡ client_calls) × (joined.server_calls ≡ server_calls)
         × (client.progress ≡ Authenticated) × (server.progress ≡ Authenticated))
     go sides =
@@ -161,10 +169,13 @@ joined_policy_sides_exist selection login provider password salt count client_li
               client_nonces = sides.takes.client_nonces;
               server_nonces = sides.takes.server_nonces;
             },
+            sides.client_limited,
+            sides.server_limited,
             sides.client_called,
             sides.server_called,
-            ap (λ (s : Side Profile). s.progress) (logged_in selection login.hostname (scram_profile login)
-                joined.client_sent sides.client client sides.client_progress alike).1 ∙ sides.client_progress,
+            ap (λ (s : Side Profile). s.progress) (logged_in selection login.hostname joined.client_calls
+                (scram_profile login) joined.client_sent sides.client client sides.client_progress alike).1
+                ∙ sides.client_progress,
             sides.server_progress,
           ),
         )
