@@ -2,6 +2,7 @@
 
 ghost use Rattle.std.specs.Prelude.{◌≡◌, ◌≤◌, option_map};
 ghost use Rattle.scram_base_lib.specs.Stop.{at_line, status_of, suffix_of};
+ghost use Rattle.scram_base_lib.specs.declared.stop.Stop.TheVariants.{OutOfMemory as StopOutOfMemory};
 
 use fe2o3_sasl_negotiation::{CloseReason, Rejection};
 use fe2o3_scram::{
@@ -387,12 +388,16 @@ impl From<ServerScramErrorKind> for Stop {
 }
 
 impl From<AllocError> for Stop {
+    ghost from_gives = { λ error stop. stop ≡ StopOutOfMemory };
+
     fn from(_error: AllocError) -> Stop {
         Stop::OutOfMemory
     }
 }
 
 impl<T: Drop> From<AllocFailed<T>> for Stop {
+    ghost from_gives = { λ error stop. stop ≡ StopOutOfMemory };
+
     fn from(_error: AllocFailed<T>) -> Stop {
         Stop::OutOfMemory
     }

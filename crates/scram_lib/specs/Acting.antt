@@ -1,10 +1,11 @@
 -- Who may act as whom at `scram server` (RFC 4422, section 2), by its arguments `--may-act USER:IDENTITY` and by the lines
 -- `USER IDENTITY` of `FILE.rights`: the project's own spelling.
-use Rattle.std.specs.Prelude.{◌≡◌, ◌==◌, ◌&&◌, ◌+◌, ◌<◌, ◌++◌, ◌∷◌, ℕ, Bool, List, [], Option, None, Some, flat_map, length, nat_eq, nat_lt, take, if◌then◌else◌}
+use Rattle.std.specs.Prelude.{◌≡◌, ◌==◌, ◌&&◌, ◌<◌, ◌++◌, ◌∷◌, ℕ, Bool, List, [], Option, None, Some, flat_map, length, nat_eq, nat_lt, if◌then◌else◌}
 use Rattle.std.specs.Cmp.Lexicographic.{pointwise}
-use Rattle.std.specs.List.{Contains, after_first, before_first, get_or}
+use Rattle.std.specs.List.{Contains, after_first, before_first}
 use Rattle.fe2o3_scram.specs.ActingRights.{Rights}
 use Rattle.fe2o3_scram.specs.Escape.{escaped}
+use Rattle.fe2o3_scram.specs.Texts.{Cut}
 use Rattle.scram_lib.specs.Names.{IsLookedUp}
 
 -- the user that an argument names: the text before the first colon (58), which is all of it if there is none
@@ -50,21 +51,8 @@ words_of (Some words) = words
 pub record GivesRight (line word : List ℕ) : Type 0 where
   pub user : List ℕ
   pub identity : List ℕ
-  pub before : escaped user ≡ before_first (λ b. b == 32) line
-  pub after : escaped identity ≡ after_first (λ b. b == 32) line
+  pub cut : Cut 32 line (escaped user) (escaped identity)
   pub some_user : 0 < length user
   pub some_identity : 0 < length identity
   pub no_colon : ¬ Contains user 58
   pub spelled : word ≡ user ++ (58 ∷ identity)
-
--- the lines give these rights, each one, in their order
-abbrev pub GiveRights : List (List ℕ) → List (List ℕ) → Type 0
-GiveRights [] words = words ≡ []
-GiveRights (line ∷ lines) words = (word : List ℕ) × (more : List (List ℕ)) × (words ≡ word ∷ more) × GivesRight line word
-    × GiveRights lines more
-
--- the line of this number, from 1, is the first that gives no right
-abbrev pub IsFirstWrong : List (List ℕ) → ℕ → Type 0
-IsFirstWrong lines number = (k : ℕ) × (number ≡ k + 1) × (k < length lines)
-    × ((words : List (List ℕ)) × GiveRights (take k lines) words)
-    × ((word : List ℕ) → ¬ GivesRight (get_or lines k []) word)

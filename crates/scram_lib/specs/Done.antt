@@ -1,7 +1,6 @@
 -- What a command of the program `scram` has done if it ends with status 0.
 use Rattle.std.specs.Prelude.{ℕ, List, [], ◌∷◌, ◌++◌, ◌||◌, Bool, true, false, Option, Some, Result, Ok, ◌≡◌, ◌≤◌, ◌↔◌, IsSome, box_value, is_some, map, option_map, string_bytes}
 use Rattle.std.specs.List.{Contains}
-use Rattle.std.specs.Str.Lines.{lines}
 use Rattle.fe2o3_scram.specs.declared.hmac.ScramVersion.{ScramVersion}
 use Rattle.fe2o3_scram.specs.declared.hmac.ScramVersion.TheVariants.{Sha1, Sha256, Sha512}
 use Rattle.fe2o3_scram.specs.declared.scram_messages.server_rules.ServerRules.{ServerRules}
@@ -23,7 +22,7 @@ use Rattle.scram_lib.specs.declared.server.Service.{Service}
 use Rattle.scram_lib.specs.declared.task.Task.{Task}
 use Rattle.scram_lib.specs.declared.task.Task.TheVariants as tasks
 use Rattle.scram_base_lib.specs.declared.backend.Named.{Named}
-use Rattle.scram_lib.specs.Acting.{AreRightsOf, GiveRights, words_of}
+use Rattle.scram_lib.specs.Acting.{AreRightsOf, words_of}
 use Rattle.scram_lib.specs.OwnLines.{AreLinesFor}
 use Rattle.scram_lib.specs.private.Passwords.{TellsEach}
 
@@ -147,12 +146,10 @@ HasServed service (dones.Server server) = (fresh : ScramAuthenticator Store) × 
 HasServed service (dones.ServerOfFrames side) = (server_side (λ server. server) (box_value side)).progress ≡ Authenticated
 HasServed service done = ⊥
 
--- the arguments of a server with the rights of the lines of a text after theirs: with none unless clients may name identities
+-- the arguments of a server with the rights of a file after theirs: with none unless clients may name identities
 pub record IsWithRights (service full : Service) : Type 0 where
   pub same : full ≡ record service { may_act = full.may_act }
   pub given : List (List ℕ)
-  pub text : List ℕ
-  pub read : GiveRights (lines text) given
   pub rights : words_of (option_map (λ words. map (λ word. word.now) words.now) full.may_act)
       ≡ words_of (option_map (λ words. map (λ word. word.now) words.now) service.may_act) ++ given
   pub none : service.accept_authzid ≡ false → given ≡ []

@@ -1,9 +1,10 @@
 //! `FILE.rights`: who may act for whom at a server (RFC 4422, section 2). Each line is `USER IDENTITY`, both escaped as in a
 //! file of records. A user has no space and no colon.
 
-ghost use Rattle.std.specs.Prelude.{◌≡◌, ◌≢◌, ◌++◌, ℕ, List, IfErr, IfOk, map, option_map, string_bytes};
-ghost use Rattle.std.specs.Str.Lines.{lines};
-ghost use Rattle.scram_lib.specs.Acting.{GiveRights, GivesRight, IsFirstWrong, words_of};
+ghost use Rattle.std.specs.Prelude.{◌≡◌, ◌≢◌, ◌<◌, ◌⊎◌, ◌++◌, ℕ, List, IfErr, IfOk, MatchBool, MatchOption, length, map, option_map, string_bytes};
+ghost use Rattle.std.specs.List.{Contains};
+ghost use Rattle.fe2o3_scram.specs.Texts.{Cut};
+ghost use Rattle.scram_lib.specs.Acting.{GivesRight, words_of};
 ghost use Rattle.scram_lib.specs.Done.{HasServed, IsWithRights};
 
 use crate::done::Done;
@@ -64,31 +65,19 @@ fn all_words<'a: 'b, 'b>(
 }
 
 /// Reads the rights of `FILE.rights`, each `USER:IDENTITY`. Without that file there are none.
-fn words_in<R: Files + AllocGlobal>(rt: &R, file: &str) -> Result<Vec<String>, Stop>
-    ensures { IfOk result (λ words. (text : List ℕ) × GiveRights (lines text) (map string_bytes words.items)) }
-{
+fn words_in<R: Files + AllocGlobal>(rt: &R, file: &str) -> Result<Vec<String>, Stop> {
     let name = format!(in rt.alloc(); "{file}.rights")?;
-    match store::read(rt, &name) {
-        Ok(text) => rights_in(rt.alloc(), &text),
-        Err(Stop::Unreadable(ErrorKind::NotFound)) => rights_in(rt.alloc(), ""),
-        Err(Stop::OutOfMemory) => Err(Stop::OutOfMemory),
-        Err(_) => Err(Stop::UnreadableRights),
-    }
-}
-
-/// Returns the rights of a text, one of each line, as `USER:IDENTITY`. The errors are `WrongRights`, with the number of the
-/// first line that gives none, and `OutOfMemory`.
-fn rights_in(alloc: Global, text: &str) -> Result<Vec<String>, Stop>
-    ensures ok { IfOk result (λ words. GiveRights (lines text.now) (map string_bytes words.items)) }
-    ensures err { IfErr result (λ stop. stop ≢ Stop.OutOfMemory
-        → (number : ℕ) × (stop ≡ Stop.WrongRights number) × IsFirstWrong (lines text.now) number) }
-{
-    let mut words = Vec::new(alloc);
-    for line in text.lines() {
-        match word_of(alloc, line) {
-            Ok(word) => words.push(word)?,
-            Err(Stop::OutOfMemory) => return Err(Stop::OutOfMemory),
-            Err(_) => return Err(Stop::WrongRights(words.len().saturating_add(1))),
+    let mut words = Vec::new(rt.alloc());
+    let text = match store::read(rt, &name) {
+        Ok(text) => text,
+        Err(Stop::Unreadable(ErrorKind::NotFound)) => return Ok(words),
+        Err(Stop::OutOfMemory) => return Err(Stop::OutOfMemory),
+        Err(_) => return Err(Stop::UnreadableRights),
+    };
+    for (before, line) in text.lines().enumerate() {
+        match word_of(rt.alloc(), line) {
+            Err(Stop::WrongName) => return Err(Stop::WrongRights(before.saturating_add(1))),
+            word => words.push(word?)?,
         }
     }
     Ok(words)
@@ -100,13 +89,37 @@ fn word_of(alloc: Global, line: &str) -> Result<String, Stop>
     ensures err { IfErr result (λ stop. stop ≢ Stop.OutOfMemory
         → (stop ≡ Stop.WrongName) × ((word : List ℕ) → ¬ GivesRight line.now word)) }
 {
-    let (user, identity) = line.split_once(' ').ok_or(Stop::WrongName)?;
-    let (user, identity) = (unescaped(alloc, user)?, unescaped(alloc, identity)?);
-    if user.is_empty() || identity.is_empty() || user.as_bytes().contains(&b':') {
+    let Some((user, identity)) = cut_at_space(line) else {
+        return Err(Stop::WrongName);
+    };
+    let mut word = match unescaped(alloc, user) {
+        Ok(user) => user,
+        Err(stop) => return Err(stop),
+    };
+    let identity = match unescaped(alloc, identity) {
+        Ok(identity) => identity,
+        Err(stop) => return Err(stop),
+    };
+    if !is_right(&word, &identity) {
         return Err(Stop::WrongName);
     }
-    let mut word = user;
     word.push_str(":")?;
     word.push_str(&identity)?;
     Ok(word)
+}
+
+/// Splits a line at its first space.
+fn cut_at_space(line: &str) -> Option<(&str, &str)>
+    ensures { MatchOption result ((before rest : List ℕ) → ¬ Cut 32 line.now before rest)
+        (λ both. Cut 32 line.now both.0.now both.1.now) }
+{
+    line.split_once(' ')
+}
+
+/// Returns whether a right can be of this user and this identity: neither is empty, and the user has no colon.
+fn is_right(user: &str, identity: &str) -> bool
+    ensures { MatchBool result ((0 < length user.now) × (0 < length identity.now) × ¬ Contains user.now 58)
+        ((length user.now ≡ 0) ⊎ (length identity.now ≡ 0) ⊎ Contains user.now 58) }
+{
+    !user.is_empty() && !identity.is_empty() && !user.as_bytes().contains(&b':')
 }
