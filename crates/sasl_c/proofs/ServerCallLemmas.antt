@@ -312,23 +312,30 @@ module _ (config : Config) (bytes nonce : List ℕ) (before : Struct) (kept : Sn
       carried (λ (b : Bool). ServerTakes b server_names server_machine taken_side bytes nonce taken sent (side_in next))
       kept.extended_headers (accepts_extended before.connection) extended held
 
-  pub answered : (after : Struct) (taken : ℕ) (sent : List ℕ)
-      → (next : ServerConnectionSide Served) × Follows taken sent next × (extended_in next ≡ kept.extended_headers)
-      × ShowsBy state_of Shown after next × (after ≡ struct_by state_of written_for next)
-      → Received config bytes nonce before after taken sent
-  answered after taken sent (next, held, flag, shows, written) =
-      received config bytes nonce before after taken_side (side_in next) taken sent is wants (takes taken sent next held)
+  -- an answer, of a side that this one can be, and the structs of that
+  abbrev Answered : Struct → ℕ → List ℕ → Type 0
+  Answered after taken sent = (next : ServerConnectionSide Served) × Follows taken sent next
+      × (extended_in next ≡ kept.extended_headers) × ShowsBy state_of Shown after next
+      × (after ≡ struct_by state_of written_for next)
+
+  pub answered : (after : Struct) (taken : ℕ) (sent : List ℕ) (made_taken : ℕ) (made_sent : List ℕ)
+      → made_taken ≡ taken → made_sent ≡ sent → Answered after taken sent
+      → Received config bytes nonce before after made_taken made_sent
+  answered after taken sent made_taken made_sent as_many same (next, held, flag, shows, written) =
+      carried (λ (n : ℕ). Received config bytes nonce before after n made_sent) taken made_taken (sym as_many)
+      (carried (Received config bytes nonce before after taken) sent made_sent (sym same)
+      (received config bytes nonce before after taken_side (side_in next) taken sent is wants (takes taken sent next held)
       (is_server config after next shows
       (behind_serves config before kept.extended_headers taken_side (side_in next) bytes nonce taken sent is wants held)
       (behind_limit config before kept.extended_headers taken_side (side_in next) bytes nonce taken sent is wants held))
       (carried (λ (b : Bool). after ≡ side_struct b (side_in next)) (extended_in next) (accepts_extended before.connection)
-      (flag ∙ extended) (writes_side after next written))
+      (flag ∙ extended) (writes_side after next written))))
 
-  pub short_answer : (after : Struct) (taken : ℕ) (sent : List ℕ)
-      → (next : ServerConnectionSide Served) × Follows taken sent next × (extended_in next ≡ kept.extended_headers)
-      × ShowsBy state_of Shown after next × (after ≡ struct_by state_of written_for next) → length sent ≤ 520
-  short_answer after taken sent (next, held, flag, shows, written) =
-      behind_short config before kept.extended_headers taken_side (side_in next) bytes nonce taken sent is wants held
+  pub short_answer : (after : Struct) (taken : ℕ) (sent : List ℕ) (made_taken : ℕ) (made_sent : List ℕ)
+      → made_taken ≡ taken → made_sent ≡ sent → Answered after taken sent → length made_sent ≤ 520
+  short_answer after taken sent made_taken made_sent as_many same (next, held, flag, shows, written) =
+      carried (λ (s : List ℕ). length s ≤ 520) sent made_sent (sym same)
+      (behind_short config before kept.extended_headers taken_side (side_in next) bytes nonce taken sent is wants held)
 
   pub unanswered : (status : Status) → NamesNone kept → ((status ≡ statuses.InvalidSnapshot) × ¬ IsServerKept kept)
       ⊎ ((status ≡ statuses.TooLong) × ((next : ServerConnectionSide Served) × (taken : ℕ) × (sent : List ℕ)

@@ -66,7 +66,7 @@ pub struct SaslServerConfig<'a> {
 
     /// Whether `username`, `records` and `identities` are what your store has of the user whom the bytes claim. 0 is no,
     /// any other value yes. If it is 0 and the bytes claim a user, `fe2o3_sasl_server_receive` returns
-    /// FE2O3_NEEDS_RECORDS. If they claim none, these fields play no part.
+    /// FE2O3_NEEDS_RECORDS. If they claim none, these fields are only tested for UTF-8.
     pub looked_up: u32,
 
     /// The name of the user whose records these are, without escapes.
