@@ -1,6 +1,6 @@
 //! The client's side of a connection as a struct between calls.
 
-ghost use Rattle.std.specs.Prelude.{◌≡◌, ◌≢◌, ◌≤◌, ◌^◌, List, [], ℕ, Ok, Err, length, replicate, option_map, string_bytes, IfOk, IfErr, IfSome, OnErr, MatchBool, MatchOption, MatchResult};
+ghost use Rattle.std.specs.Prelude.{◌≡◌, ◌≢◌, ◌≤◌, ◌^◌, [], Ok, Err, length, replicate, option_map, string_bytes, IfOk, IfErr, IfSome, OnErr, MatchBool, MatchOption, MatchResult};
 ghost use Rattle.fe2o3_sasl_core.specs.PlainWords.{ArePlainWords};
 ghost use Rattle.fe2o3_sasl_core.specs.Profiles.{PlainProfile, after_init};
 ghost use Rattle.fe2o3_sasl_core.specs.SaslProfile.{profile_of};
