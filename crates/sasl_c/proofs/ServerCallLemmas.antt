@@ -29,7 +29,7 @@ use Rattle.sasl_c.specs.declared.status.Status.{Status}
 use Rattle.sasl_c.specs.declared.status.Status.TheVariants as statuses
 use Rattle.sasl_c.specs.Connection.{Keeps, KeepsNoPart, accepts_extended, side_tests, KeepsNoPartOf}
 use Rattle.sasl_c.specs.Rejections.{Logged, server_machine, server_names, state_of}
-use Rattle.sasl_c.specs.SaslServer.{AreSettings, HasNone, IsNoConfig, IsNoServer, IsServer, NotReceived, Received, ServerIsReached, ServerTakes, ShowsBy, ShowsSide, ShowsState, config_tests, side_in, side_struct, struct_by}
+use Rattle.sasl_c.specs.SaslServer.{AreSettings, HasNone, IsNoConfig, IsNoServer, IsServer, NotReceived, Received, RestoresStage, ServerIsReached, ServerTakes, ShowsBy, ShowsSide, ShowsState, config_tests, side_in, side_struct, struct_by}
 use Rattle.sasl_c.proofs.CallSettingLemmas.{of_base}
 use Rattle.sasl_c.proofs.ClientReplyLemmas.{answers_read, part_short}
 use Rattle.sasl_c.proofs.SaslClientLemmas.{one_due, tests_without_memory}
@@ -329,7 +329,7 @@ none_first (test ∷ tests) status none (inl wrong) = none.0 wrong.0
 none_first (test ∷ tests) status none (inr (not, first)) = none_first tests status none.1 first
 
 -- a configuration has one server
-pub one_setting : (config : Config) (settings other : ServerSettings) → AreSettings config settings
+one_setting : (config : Config) (settings other : ServerSettings) → AreSettings config settings
     → AreSettings config other → other ≡ settings
 one_setting config settings other are too = of_base config config settings other (record {
   mechanisms = refl;
@@ -341,7 +341,7 @@ one_setting config settings other are too = of_base config config settings other
   authzid = refl;
 }) (record { username = refl; records = refl; identities = refl }) are too
 
-pub is_config : (config : Config) (settings : ServerSettings) → AreSettings config settings → offers_any settings ≡ true
+is_config : (config : Config) (settings : ServerSettings) → AreSettings config settings → offers_any settings ≡ true
     → NoneHolds (config_tests config) → (status : Status) → ¬ IsNoConfig config status
 unfolding IsNoConfig
 is_config config settings are offers none status (inl first) = none_first (config_tests config) status none first
@@ -367,13 +367,20 @@ is_no_fault config before kept keeps wants limit fine is status (inr (none, inr 
 module _ (config : Config) (bytes nonce : List ℕ) (before : Struct) (kept : Snapshot) (state : Logged)
     (keeps : Keeps before.connection kept.progress kept.expected kept.held.now) (wants : kept.progress ≡ InProgress)
     (limit : kept.limit ≡ 512) (extended : kept.extended_headers ≡ accepts_extended before.connection)
-    (known : ServerIsReached config InProgress state × ShowsState before.scram InProgress state)
-    (fine : (why : Status) → ¬ IsNoConfig config why) where
+    (settings : ServerSettings) (meant : state.server.settings ≡ settings) (are : AreSettings config settings)
+    (offers : offers_any settings ≡ true) (tested : NoneHolds (config_tests config)) (quiet : state.rejection ≡ None)
+    (restores : RestoresStage before.scram state.server) where
   abbrev taken_side : Side Logged
   taken_side = side_of kept state
 
+  reached : ServerIsReached config InProgress state
+  reached = (carried (AreSettings config) settings state.server.settings (sym meant) are, quiet)
+
   is : IsServer config before taken_side
-  is = taken_up config before kept state keeps wants limit known.0 known.1
+  is = taken_up config before kept state keeps wants limit reached restores
+
+  is_fine : (why : Status) → ¬ IsNoConfig config why
+  is_fine = is_config config settings are offers tested
 
   -- a side that it can be behind these bytes
   abbrev Follows : ℕ → List ℕ → ServerConnectionSide Served → Type 0
@@ -401,7 +408,7 @@ module _ (config : Config) (bytes nonce : List ℕ) (before : Struct) (kept : Sn
       carried (λ (n : ℕ). Received config bytes nonce before after n made_sent) taken made_taken (sym as_many)
       (carried (Received config bytes nonce before after taken) sent made_sent (sym same)
       (received config bytes nonce before after taken_side (side_in next) taken sent
-      (is_no_fault config before kept keeps wants limit fine is_kept) is wants (takes taken sent next held)
+      (is_no_fault config before kept keeps wants limit is_fine is_kept) is wants (takes taken sent next held)
       (is_server config after next shows
       (behind_serves config before kept.extended_headers taken_side (side_in next) bytes nonce taken sent is wants held)
       (behind_goes config before kept.extended_headers taken_side (side_in next) bytes nonce taken sent is wants held)
@@ -419,7 +426,7 @@ module _ (config : Config) (bytes nonce : List ℕ) (before : Struct) (kept : Sn
       ⊎ ((status ≡ statuses.TooLong) × ((next : ServerConnectionSide Served) × (taken : ℕ) × (sent : List ℕ)
       × Follows taken sent next × HasNone state_of Shown next)) → NotReceived config bytes nonce before status
   unanswered status mock (inl wrong) =
-      not_kept config bytes nonce before kept state status keeps wants limit mock known.0 fine wrong
+      not_kept config bytes nonce before kept state status keeps wants limit mock reached is_fine wrong
   unanswered status mock (inr (same, (next, taken, sent, held, none))) =
       carried (NotReceived config bytes nonce before) statuses.TooLong status (sym same)
       (too_long config bytes nonce before taken_side (side_in next) taken sent is wants (takes taken sent next held)

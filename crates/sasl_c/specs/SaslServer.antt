@@ -173,7 +173,8 @@ abbrev pub AreSettings : Config → ServerSettings → Type 0
 AreSettings config settings = (choice : Choice) × (records : MultiRecords) × IsChoice config.mechanisms config.flags choice
     × HasRecords config records × (settings ≡ settings_for config choice records)
 
--- the servers that a configuration can reach while more bytes are expected: those with its settings that have rejected nothing
+-- the servers that a configuration can reach while more bytes are expected: those with its settings, which have rejected
+-- nothing
 abbrev pub ServerIsReached : Config → Progress → Logged → Type 0
 ServerIsReached config InProgress logged = AreSettings config logged.server.settings × (logged.rejection ≡ None)
 ServerIsReached config Authenticated logged = Unit {0}
