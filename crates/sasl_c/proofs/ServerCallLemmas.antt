@@ -328,7 +328,7 @@ none_first [] status none first = first
 none_first (test ∷ tests) status none (inl wrong) = none.0 wrong.0
 none_first (test ∷ tests) status none (inr (not, first)) = none_first tests status none.1 first
 
--- a configuration has one server
+-- a configuration has one server, by its settings
 one_setting : (config : Config) (settings other : ServerSettings) → AreSettings config settings
     → AreSettings config other → other ≡ settings
 one_setting config settings other are too = of_base config config settings other (record {
@@ -395,7 +395,7 @@ module _ (config : Config) (bytes nonce : List ℕ) (before : Struct) (kept : Sn
       carried (λ (b : Bool). ServerTakes b server_names server_machine taken_side bytes nonce taken sent (side_in next))
       kept.extended_headers (accepts_extended before.connection) extended held
 
-  -- an answer, of a side that this one can be, and the structs of that
+  -- a side after these bytes, and the structs that are written for it
   abbrev Answered : Struct → ℕ → List ℕ → Type 0
   Answered after taken sent = (next : ServerConnectionSide Served) × Follows taken sent next
       × (extended_in next ≡ kept.extended_headers) × ShowsBy state_of Shown after next
