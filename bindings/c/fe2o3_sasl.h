@@ -981,8 +981,8 @@ struct fe2o3_scram_server {
     /* Why the last frame was answered by the outcome Auth, for the server's log only: one of enum fe2o3_rejection, or the
      * error of a SCRAM message, one of enum fe2o3_status. Written by `fe2o3_sasl_server_receive`. */
     uint32_t rejection;
-    /* The user name, without escapes. While a challenge is open the client only claims it; afterwards it is
-     * authenticated. */
+    /* The user name, without escapes. It is authenticated in the state FE2O3_SCRAM_SERVER_AUTHENTICATED only; before, the
+     * client claims it. */
     uint8_t user[256];
     /* The client-first message without its GS2 header. */
     uint8_t bare[1024];
@@ -1279,9 +1279,9 @@ struct fe2o3_connection {
     /* How far the login is: one of enum fe2o3_progress.
      *
      * After an outcome frame, a client has FE2O3_AUTHENTICATED if the code is FE2O3_CODE_OK and, for SCRAM, the frame
-     * holds the expected ServerSignature. The other mechanisms do not authenticate the server. Otherwise it has
-     * FE2O3_FAILED. A server has FE2O3_AUTHENTICATED once it writes an outcome with FE2O3_CODE_OK, and FE2O3_FAILED
-     * once it writes another one. */
+     * holds the expected ServerSignature, or has no data and a challenge held it before (`signature_by_challenge`). The
+     * other mechanisms do not authenticate the server. Otherwise it has FE2O3_FAILED. A server has FE2O3_AUTHENTICATED
+     * once it writes an outcome with FE2O3_CODE_OK, and FE2O3_FAILED once it writes another one. */
     uint32_t progress;
     /* Why the login failed: a status, such as FE2O3_REFUSED_AUTH for an outcome with FE2O3_CODE_AUTH, or
      * FE2O3_CLIENT_SERVER_SIGNATURE_MISMATCH for a server that is not authenticated. FE2O3_OK unless `progress` is
@@ -1312,8 +1312,9 @@ struct fe2o3_sasl_login {
     /* The hostname of the init frame. If empty, the init has none. */
     const uint8_t *hostname;
     size_t hostname_len;
-    /* The user and the secret. PLAIN uses the name and the password. FE2O3_ANONYMOUS_AS and FE2O3_EXTERNAL_AS use the
-     * name, which may be empty. ANONYMOUS and EXTERNAL use nothing of it. */
+    /* The user and the secret. PLAIN uses the name, the password, `acts_for` and `strict`. FE2O3_ANONYMOUS_AS and
+     * FE2O3_EXTERNAL_AS use the name, which may be empty. ANONYMOUS and EXTERNAL use nothing of it. These four return
+     * FE2O3_NOT_IMPLEMENTED for an `acts_for` that is not empty. */
     struct fe2o3_login login;
 };
 /* All zeros. */
@@ -1384,7 +1385,7 @@ struct fe2o3_sasl_server_config {
     size_t mock_secret_len;
     /* Whether `username`, `records` and `identities` are what your store has of the user whom the bytes claim. 0 is no,
      * any other value yes. If it is 0 and the bytes claim a user, `fe2o3_sasl_server_receive` returns
-     * FE2O3_NEEDS_RECORDS. If they claim none, these fields play no part. */
+     * FE2O3_NEEDS_RECORDS. If they claim none, these fields are only tested for UTF-8. */
     uint32_t looked_up;
     /* The name of the user whose records these are, without escapes. */
     const uint8_t *username;

@@ -727,8 +727,8 @@ pub struct ScramServer {
     /// constants, or the error of a SCRAM message, one of the `status` constants. Written by
     /// `fe2o3_sasl_server_receive`.
     pub rejection: u32,
-    /// The user name, without escapes. While a challenge is open the client only claims it; afterwards it is
-    /// authenticated.
+    /// The user name, without escapes. It is authenticated in the state SCRAM_SERVER_AUTHENTICATED only; before, the
+    /// client claims it.
     pub user: [u8; 256],
     /// The client-first message without its GS2 header.
     pub bare: [u8; 1024],
@@ -809,8 +809,9 @@ pub struct Connection {
     /// How far the login is: one of the `progress` constants.
     ///
     /// After an outcome frame, a client has AUTHENTICATED if the code is CODE_OK and, for SCRAM, the frame holds the
-    /// expected ServerSignature. The other mechanisms do not authenticate the server. Otherwise it has FAILED. A server
-    /// has AUTHENTICATED once it writes an outcome with CODE_OK, and FAILED once it writes another one.
+    /// expected ServerSignature, or has no data and a challenge held it before (`signature_by_challenge`). The other
+    /// mechanisms do not authenticate the server. Otherwise it has FAILED. A server has AUTHENTICATED once it writes an
+    /// outcome with CODE_OK, and FAILED once it writes another one.
     pub progress: u32,
     /// Why the login failed: a status, such as REFUSED_AUTH for an outcome with CODE_AUTH, or
     /// CLIENT_SERVER_SIGNATURE_MISMATCH for a server that is not authenticated. OK unless `progress` is FAILED.
@@ -839,8 +840,9 @@ pub struct SaslLogin {
     /// The hostname of the init frame. If empty, the init has none.
     pub hostname: *const u8,
     pub hostname_len: usize,
-    /// The user and the secret. PLAIN uses the name and the password. ANONYMOUS_AS and EXTERNAL_AS use the name, which
-    /// may be empty. ANONYMOUS and EXTERNAL use nothing of it.
+    /// The user and the secret. PLAIN uses the name, the password, `acts_for` and `strict`. ANONYMOUS_AS and
+    /// EXTERNAL_AS use the name, which may be empty. ANONYMOUS and EXTERNAL use nothing of it. These four return
+    /// NOT_IMPLEMENTED for an `acts_for` that is not empty.
     pub login: Login,
 }
 
@@ -884,7 +886,7 @@ pub struct SaslServerConfig {
     pub mock_secret_len: usize,
     /// Whether `username`, `records` and `identities` are what your store has of the user whom the bytes claim. 0 is
     /// no, any other value yes. If it is 0 and the bytes claim a user, `fe2o3_sasl_server_receive` returns
-    /// NEEDS_RECORDS. If they claim none, these fields play no part.
+    /// NEEDS_RECORDS. If they claim none, these fields are only tested for UTF-8.
     pub looked_up: u32,
     /// The name of the user whose records these are, without escapes.
     pub username: *const u8,

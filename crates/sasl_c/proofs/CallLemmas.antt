@@ -113,7 +113,7 @@ shows_written settings scram stage kept shows same written = by (kept_by setting
 shows_next : (scram : ScramStruct) (stands : Progress) (other : Logged) (stage : ServerStage)
     → ShowsState scram stands other → scram ≡ state_struct stands other → Looks stage other.server.stage
     → ShowsProgress scram stands (kept_stage stage)
-shows_next scram InProgress other stage (kept, shows, same) written looks =
+shows_next scram InProgress other stage (kept, unfinished, shows, same) written looks =
     shown_alike scram stage other.server.stage looks
     (shows_written other.server.settings scram other.server.stage kept shows same written)
 shows_next scram Authenticated other stage shows written looks = shown_alike scram stage other.server.stage looks shows
@@ -179,7 +179,7 @@ module _ (accepts : Bool) (settings : ServerSettings) where
       → other.progress ≡ InProgress → AreSettings config other.state.server.settings
   unfolding IsServer
   settings_of config before other is wants =
-      subst (λ (s : Progress). ServerIsReached config s other.state) wants is.2
+      (subst (λ (s : Progress). ServerIsReached config s other.state) wants is.2).0
 
   pub goes_on : (before : Struct) (side : Side ServerAt) (other : Side Logged) → side ≡ at other side.state
       → other.progress ≡ InProgress → side.progress ≡ InProgress
@@ -195,8 +195,8 @@ module _ (accepts : Bool) (settings : ServerSettings) where
       let has = of.goes going in
       let restores = restores_of config before other is wants in
       restored_looks settings records rights mock plain before.scram side.state.stage other.state.server.stage restores.0 has.1
-      has.2 has.0 (shows_going before.scram side.progress (kept_stage side.state.stage) going of.stands.login) restores.1
-      (restores.2 ∙ ap (λ (s : ServerSettings). restored_stage s restores.0) meant)
+      has.2 has.0 (shows_going before.scram side.progress (kept_stage side.state.stage) going of.stands.login) restores.2
+      (restores.3 ∙ ap (λ (s : ServerSettings). restored_stage s restores.0) meant)
 
   -- a call is one of the connection's side
   pub call_step : (config : Config) (before after : Struct) (bytes nonce : List ℕ) (taken : ℕ) (sent : List ℕ)
@@ -206,7 +206,8 @@ module _ (accepts : Bool) (settings : ServerSettings) where
       → (next : Side ServerAt) × ServerTakes accepts offer_of sasl_machine side bytes nonce taken sent next
       × IsOfSide accepts settings after next
   unfolding Received
-  call_step config before after bytes nonce taken sent side of alike (other, next, is, wants, takes, serves, written) =
+  call_step config before after bytes nonce taken sent side of alike
+      (none, (other, next, is, wants, takes, serves, written)) =
       let meets = alike other is wants in
       let looks = looks_of config before side other of is wants meets.0 meets.1 meets.2 meets.3 meets.4 in
       let same = same_side config before side other of is wants in
@@ -315,7 +316,7 @@ is_first settings server is = record {
 pub zeros_are_fresh : ZerosAreFresh
 unfolding IsServer ShowsSide
 zeros_are_fresh config settings server are is =
-    ((keeps_first server is, (KeptNothing, shows_first server is, refl)), refl, are)
+    ((keeps_first server is, (KeptNothing, tt, shows_first server is, refl)), refl, (are, refl))
 
 -- ---- one user
 
@@ -379,7 +380,7 @@ module _ (settings : ServerSettings) where
       let has = of.goes (goes_on accepts settings before side other one wants) in
       let restores = restores_of accepts settings config before other is wants in
       let again = restored_so settings other.state.server.stage restores.0
-      (restores.2 ∙ ap (λ (s : ServerSettings). restored_stage s restores.0) same) in (
+      (restores.3 ∙ ap (λ (s : ServerSettings). restored_stage s restores.0) same) in (
         settings.records,
         settings.rights,
         settings.mock,

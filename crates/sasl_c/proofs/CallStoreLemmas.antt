@@ -323,7 +323,7 @@ one_store base settings (own, are, same) accepts config before bytes side other 
     let has = of.goes going in
     let restores = restores_of accepts settings config before other is wants in
     let again = restored_so (over meant.0 meant.1 (mock_of config) meant.2 settings) other.state.server.stage restores.0
-    (restores.2 ∙ ap (λ (s : ServerSettings). restored_stage s restores.0) now) in
+    (restores.3 ∙ ap (λ (s : ServerSettings). restored_stage s restores.0) now) in
     let keeps = keeps_of config before other is in
     let shown = shows_going before.scram side.progress (kept_stage side.state.stage) going of.stands.login in (
       meant.0,

@@ -1,6 +1,6 @@
 -- What structs show of a server of a connection, and of which server they are (AMQP 1.0, part 5, section 5.3.2).
 use Rattle.std.proofs.Common.{arith, refl, sym, ap, inl, inr, ◌∙◌, ◌≡◌, ◌≢◌, ◌≤◌, ◌<◌, ◌⊎◌, ◌+◌, ◌*◌, ◌∷◌, ◌++◌, ℕ, List, [], length}
-use Rattle.std.specs.Prelude.{Bool, true, false, MatchBool, Err}
+use Rattle.std.specs.Prelude.{Bool, true, false, MatchBool, None, Err}
 use Rattle.std.specs.Str.{IsUtf8}
 use Rattle.std.proofs.lemmas.List.{append-nil, append_assoc}
 use Rattle.fe2o3_scram.specs.declared.hmac.ScramVersion.{ScramVersion}
@@ -9,7 +9,7 @@ use Rattle.fe2o3_scram.specs.Credentials.{VersionedRecord}
 use Rattle.fe2o3_scram.specs.Mixed.{MultiRecords}
 use Rattle.fe2o3_scram.specs.Readings.{IsFirst, NoneHolds}
 use Rattle.fe2o3_sasl_core.specs.SavedServers.{KeptStage, kept_stage}
-use Rattle.fe2o3_sasl_core.specs.Servers.{NotStarted, ServerAt, offers_any, settings_with}
+use Rattle.fe2o3_sasl_core.specs.Servers.{NotStarted, ServerAt, ServerStage, offers_any, settings_with}
 use Rattle.fe2o3_sasl_core.specs.declared.server.options.Mechanisms.{Mechanisms}
 use Rattle.fe2o3_sasl_core.specs.declared.plain_server.passwords.PlainPasswords.{PlainPasswords}
 use Rattle.fe2o3_sasl_core.specs.declared.plain_server.passwords.PlainPasswords.TheVariants as forms
@@ -29,10 +29,10 @@ use Rattle.sasl_c.specs.Records.{ShowsRecord, SpellsStruct}
 use Rattle.sasl_c.specs.Rejections.{Logged, state_of}
 use Rattle.sasl_c.specs.Rules.{HasLongData}
 use Rattle.sasl_c.specs.SaslServer.{AddsRecord, AreSettings, HasLongSalt, HasNoServerWords, HasNone, IsChoice, IsNoConfig, IsPrepared, IsServer, RestoresStage, ServerIsReached, ShowRecords, ShowsBy, ShowsNext, ShowsProgress, ShowsSide, ShowsState, choice_tests, config_tests, flags_sum, mechanisms_sum, one_where, passwords_number, plain_version_for, side_in, side_struct, state_struct, struct_by}
-use Rattle.sasl_c.specs.Server.{ShowsStage, fresh_server_struct}
+use Rattle.sasl_c.specs.Server.{IsUnfinished, ShowsStage, fresh_server_struct}
 use Rattle.sasl_c.specs.Status.{version_number}
 use Rattle.sasl_c.proofs.ExchangeLemmas.{keeps_nothing}
-use Rattle.sasl_c.proofs.ServerReplyLemmas.{Serves, kept_by, restored_so, restores}
+use Rattle.sasl_c.proofs.ServerReplyLemmas.{Goes, Serves, kept_by, restored_so, restores}
 use Rattle.sasl_c.proofs.StatusLemmas.{carried}
 
 -- ---- which mechanisms are offered
@@ -399,19 +399,20 @@ writes_side server next written = written
 
 -- the struct that shows a server restores it
 pub shows_state : (config : Config) (scram : ScramStruct) (progress : Progress) (logged : Logged) → Serves config logged
-    → ShowsNext scram progress logged → ShowsState scram progress logged
-shows_state config scram InProgress logged serves shows = (
+    → (progress ≡ InProgress → Goes logged) → ShowsNext scram progress logged → ShowsState scram progress logged
+shows_state config scram InProgress logged serves goes shows = (
   kept_stage logged.server.stage,
+  (goes refl).1,
   shows,
   restores logged.server.settings logged.server.stage serves.1,
 )
-shows_state config scram Authenticated logged serves shows = shows
-shows_state config scram (Failed why) logged serves shows = shows
+shows_state config scram Authenticated logged serves goes shows = shows
+shows_state config scram (Failed why) logged serves goes shows = shows
 
 -- where no struct shows a server, none restores it
 none_restores : (server : ServerAt) → ((scram : ScramStruct) → ¬ ShowsStage scram (kept_stage server.stage))
     → (scram : ScramStruct) → ¬ RestoresStage scram server
-none_restores server none scram (kept, shows, same) = go (kept_by server.settings server.stage kept same)
+none_restores server none scram (kept, unfinished, shows, same) = go (kept_by server.settings server.stage kept same)
   where
     go : (server.stage ≡ NotStarted) ⊎ (kept ≡ kept_stage server.stage) → ⊥
     go (inl new) = none fresh_server_struct (keeps_nothing fresh_server_struct (kept_stage server.stage)
@@ -427,24 +428,36 @@ no_state (Failed why) logged none scram shows = none scram shows
 -- the server of a configuration that a struct restores
 pub serves_so : (config : Config) (scram : ScramStruct) (logged : Logged) → AreSettings config logged.server.settings
     → RestoresStage scram logged.server → Serves config logged
-serves_so config scram logged are (kept, shows, same) =
+serves_so config scram logged are (kept, unfinished, shows, same) =
     (are, restored_so logged.server.settings logged.server.stage kept same)
+
+-- it goes on
+pub goes_so : (scram : ScramStruct) (logged : Logged) → logged.rejection ≡ None → RestoresStage scram logged.server
+    → Goes logged
+goes_so scram logged none (kept, unfinished, shows, same) =
+    (none, go (kept_by logged.server.settings logged.server.stage kept same))
+  where
+    go : (logged.server.stage ≡ NotStarted) ⊎ (kept ≡ kept_stage logged.server.stage)
+        → IsUnfinished (kept_stage logged.server.stage)
+    go (inl new) = carried (λ (s : ServerStage). IsUnfinished (kept_stage s)) NotStarted logged.server.stage (sym new) tt
+    go (inr is) = carried IsUnfinished kept (kept_stage logged.server.stage) is unfinished
 
 -- each server of a configuration is one that it reaches
 pub reached_by : (config : Config) (progress : Progress) (logged : Logged) → Serves config logged
-    → ServerIsReached config progress logged
-reached_by config InProgress logged serves = serves.0
-reached_by config Authenticated logged serves = tt
-reached_by config (Failed why) logged serves = tt
+    → (progress ≡ InProgress → Goes logged) → ServerIsReached config progress logged
+reached_by config InProgress logged serves goes = (serves.0, (goes refl).0)
+reached_by config Authenticated logged serves goes = tt
+reached_by config (Failed why) logged serves goes = tt
 
 pub is_server : (config : Config) (server : Struct) (next : ServerConnectionSide Served)
-    → ShowsBy state_of Shown server next → Serves config (side_in next).state → (side_in next).limit ≡ 512
+    → ShowsBy state_of Shown server next → Serves config (side_in next).state
+    → ((side_in next).progress ≡ InProgress → Goes (side_in next).state) → (side_in next).limit ≡ 512
     → IsServer config server (side_in next)
 unfolding IsServer ShowsSide
-is_server config server next shows serves limit = let side = side_in next in (
-  (shows.0, shows_state config server.scram side.progress side.state serves shows.1),
+is_server config server next shows serves goes limit = let side = side_in next in (
+  (shows.0, shows_state config server.scram side.progress side.state serves goes shows.1),
   limit,
-  reached_by config side.progress side.state serves,
+  reached_by config side.progress side.state serves goes,
 )
 
 pub no_server : (config : Config) (next : ServerConnectionSide Served) → HasNone state_of Shown next

@@ -47,7 +47,7 @@ use Rattle.sasl_c.specs.Rejections.{Logged, rejection_number, server_machine, se
 use Rattle.sasl_c.specs.declared.rejections.LoggedServer.{LoggedServer}
 use Rattle.sasl_c.specs.Rules.{HasLongData, channels_of}
 use Rattle.sasl_c.specs.declared.records.ScramRecord.{ScramRecord as Kept}
-use Rattle.sasl_c.specs.Server.{HasAsked, IsOpen, ShowsStage, rejected_struct, stage_struct}
+use Rattle.sasl_c.specs.Server.{HasAsked, IsOpen, IsUnfinished, ShowsStage, rejected_struct, stage_struct}
 
 -- ---- the server of a configuration
 
@@ -173,15 +173,16 @@ abbrev pub AreSettings : Config → ServerSettings → Type 0
 AreSettings config settings = (choice : Choice) × (records : MultiRecords) × IsChoice config.mechanisms config.flags choice
     × HasRecords config records × (settings ≡ settings_for config choice records)
 
--- the servers that a configuration can reach while more bytes are expected: those with its settings
+-- the servers that a configuration can reach while more bytes are expected: those with its settings, which have rejected
+-- nothing
 abbrev pub ServerIsReached : Config → Progress → Logged → Type 0
-ServerIsReached config InProgress logged = AreSettings config logged.server.settings
+ServerIsReached config InProgress logged = AreSettings config logged.server.settings × (logged.rejection ≡ None)
 ServerIsReached config Authenticated logged = Unit {0}
 ServerIsReached config (Failed why) logged = Unit {0}
 
--- the struct of SCRAM restores how far a login has come, with these settings
+-- the struct of SCRAM restores how far a login has come that is not finished, with these settings
 abbrev pub RestoresStage : ScramStruct → ServerAt → Type 0
-RestoresStage scram server = (kept : KeptStage) × ShowsStage scram kept
+RestoresStage scram server = (kept : KeptStage) × IsUnfinished kept × ShowsStage scram kept
     × (server.stage ≡ restored_stage server.settings kept)
 
 -- the struct of SCRAM holds what a login of this progress needs: what restores the server, the authenticated user with the
@@ -269,20 +270,20 @@ unfoldable pub IsNoServer : Config → Struct → Status → Type 0
 IsNoServer config server status = IsFirst (side_tests server.connection) status
     ⊎ (NoneHolds (side_tests server.connection) × (IsNoConfig config status
     ⊎ ((status ≡ statuses.InvalidSnapshot) × KeepsNoPartOf server_due server.connection
-    × ((settings : ServerSettings) × AreSettings config settings))))
+    × ((settings : ServerSettings) × AreSettings config settings) × ((why : Status) → ¬ IsNoConfig config why))))
 
 -- what a side of a server makes of bytes, by whether it accepts extended headers
 abbrev pub ServerTakes : {S : Type 0} → Bool → (S → List (List ℕ)) → (S → List ℕ → SaslFrame → SaslFrame → S → Type 0)
     → Receiving S
 ServerTakes accepts names machine = Receives (Reading accepts (ServerSideAnswers names machine))
 
--- a call answers bytes: between two structs, what the library's side of the connection makes of them, which accepts
--- extended headers if the struct says so
+-- a call answers bytes, if the structs and the configuration have no fault: between two structs, what the library's side of
+-- the connection makes of them, which accepts extended headers if the struct says so
 unfoldable pub Received : Config → List ℕ → List ℕ → Struct → Struct → ℕ → List ℕ → Type 0
-Received config bytes nonce before after taken sent = (side next : Side Logged) × IsServer config before side
-    × (side.progress ≡ InProgress)
+Received config bytes nonce before after taken sent = ((status : Status) → ¬ IsNoServer config before status)
+    × ((side next : Side Logged) × IsServer config before side × (side.progress ≡ InProgress)
     × ServerTakes (accepts_extended before.connection) server_names server_machine side bytes nonce taken sent next
-    × IsServer config after next × (after ≡ side_struct (accepts_extended before.connection) next)
+    × IsServer config after next × (after ≡ side_struct (accepts_extended before.connection) next))
 
 -- or it does not, because the structs are those of no side, or no struct is that of the side after the call
 unfoldable pub NotReceived : Config → List ℕ → List ℕ → Struct → Status → Type 0

@@ -138,6 +138,11 @@ ShowsStage server (KeptOpen version challenge) = IsOpenBy server version challen
 ShowsStage server (KeptSignature login) = ShowsSigned server login.user login.acts_for
 ShowsStage server (KeptLogin login) = ShowsUser server login.user login.acts_for
 
+-- nobody has logged in
+abbrev pub IsUnfinished : KeptStage → Type 0
+IsUnfinished (KeptLogin login) = ⊥
+IsUnfinished stage = Unit {0}
+
 -- ---- the structs that calls write: every field that a state does not name is zero, and so is each byte after a length
 
 -- of a server with no open challenge and no authenticated user

@@ -1,6 +1,6 @@
 //! A side of a connection as a struct between calls (AMQP 1.0, part 5, section 5.3.2).
 
-ghost use Rattle.std.specs.Prelude.{◌≡◌, ◌≢◌, ◌<◌, Bool, length, IfOk, IfErr, MatchBool, MatchOption};
+ghost use Rattle.std.specs.Prelude.{◌≡◌, ◌≢◌, ◌<◌, ◌≤◌, Bool, length, IfOk, IfErr, MatchBool, MatchOption};
 ghost use Rattle.fe2o3_sasl_negotiation.specs.declared.progress.Expected.{Expected as ExpectedUnit};
 ghost use Rattle.fe2o3_sasl_negotiation.specs.declared.progress.Progress.TheVariants.{InProgress};
 ghost use Rattle.fe2o3_sasl_negotiation.specs.Negotiations.{Side, after_end_of_input};
@@ -25,9 +25,9 @@ pub struct Connection {
     /// How far the login is: one of enum fe2o3_progress.
     ///
     /// After an outcome frame, a client has FE2O3_AUTHENTICATED if the code is FE2O3_CODE_OK and, for SCRAM, the frame
-    /// holds the expected ServerSignature. The other mechanisms do not authenticate the server. Otherwise it has
-    /// FE2O3_FAILED. A server has FE2O3_AUTHENTICATED once it writes an outcome with FE2O3_CODE_OK, and FE2O3_FAILED
-    /// once it writes another one.
+    /// holds the expected ServerSignature, or has no data and a challenge held it before (`signature_by_challenge`). The
+    /// other mechanisms do not authenticate the server. Otherwise it has FE2O3_FAILED. A server has FE2O3_AUTHENTICATED
+    /// once it writes an outcome with FE2O3_CODE_OK, and FE2O3_FAILED once it writes another one.
     pub progress: u32,
 
     /// Why the login failed: a status, such as FE2O3_REFUSED_AUTH for an outcome with FE2O3_CODE_AUTH, or

@@ -1,9 +1,9 @@
 //! How far the login of a server has come, as the struct of a SCRAM server holds it.
 
-ghost use Rattle.std.specs.Prelude.{◌≡◌, ◌≢◌, ◌<◌, ◌⊎◌, List, ℕ, Option, MatchBool, MatchOption, length};
+ghost use Rattle.std.specs.Prelude.{◌≡◌, ◌<◌, ◌⊎◌, List, ℕ, Option, MatchBool, MatchOption, length};
 ghost use Rattle.fe2o3_sasl_core.specs.SavedServers.{saved_login, saved_stage, way_for};
 ghost use Rattle.fe2o3_sasl_wire.specs.FrameView.{shown};
-ghost use Rattle.sasl_c.specs.Server.{HasAsked, HasSigned, IdentityHasRoom, ShowsSigned, ShowsStage, ShowsUser, asked_struct, signed_struct, stage_struct, struct_where};
+ghost use Rattle.sasl_c.specs.Server.{HasAsked, HasSigned, IdentityHasRoom, IsUnfinished, ShowsSigned, ShowsStage, ShowsUser, asked_struct, signed_struct, stage_struct, struct_where};
 ghost use Rattle.fe2o3_sasl_core.specs.declared.server.ways.Way.{Way as WayOf};
 ghost use Rattle.sasl_c.specs.declared.server.ScramServer.{ScramServer as ScramStruct};
 
@@ -16,7 +16,8 @@ impl ScramServer {
     /// Returns how far the login has come. By which mechanism a signature was sent the struct does not say; it is taken as
     /// sent by SCRAM-SHA-256.
     pub fn saved_stage(&self) -> SavedStage<'_>
-        ensures { ShowsStage self.now (saved_stage result) }
+        ensures shows { ShowsStage self.now (saved_stage result) }
+        ensures unfinished { IsUnfinished (saved_stage result) }
     {
         if let Some((user, acts_for)) = self.signed_user() {
             return SavedStage::SignatureSent(SavedLogin {

@@ -1,6 +1,6 @@
 //! The client's side of a connection as a struct between calls.
 
-ghost use Rattle.std.specs.Prelude.{◌≡◌, ◌≢◌, ◌≤◌, ◌^◌, List, [], ℕ, Ok, Err, length, replicate, option_map, string_bytes, IfOk, IfErr, IfSome, OnErr, MatchBool, MatchOption, MatchResult};
+ghost use Rattle.std.specs.Prelude.{◌≡◌, ◌≢◌, ◌≤◌, ◌^◌, [], Ok, Err, length, replicate, option_map, string_bytes, IfOk, IfErr, IfSome, OnErr, MatchBool, MatchOption, MatchResult};
 ghost use Rattle.fe2o3_sasl_core.specs.PlainWords.{ArePlainWords};
 ghost use Rattle.fe2o3_sasl_core.specs.Profiles.{PlainProfile, after_init};
 ghost use Rattle.fe2o3_sasl_core.specs.SaslProfile.{profile_of};
@@ -41,8 +41,9 @@ pub struct SaslLogin<'a> {
     /// The hostname of the init frame. If empty, the init has none.
     pub hostname: &'a [u8],
 
-    /// The user and the secret. PLAIN uses the name and the password. FE2O3_ANONYMOUS_AS and FE2O3_EXTERNAL_AS use the
-    /// name, which may be empty. ANONYMOUS and EXTERNAL use nothing of it.
+    /// The user and the secret. PLAIN uses the name, the password, `acts_for` and `strict`. FE2O3_ANONYMOUS_AS and
+    /// FE2O3_EXTERNAL_AS use the name, which may be empty. ANONYMOUS and EXTERNAL use nothing of it. These four return
+    /// FE2O3_NOT_IMPLEMENTED for an `acts_for` that is not empty.
     pub login: Login<'a>,
 }
 

@@ -1,16 +1,14 @@
 //! The server's side of a connection, as a struct between its calls.
 
-ghost use Rattle.std.specs.Prelude.{◌≡◌, ◌≢◌, ◌<◌, ◌≤◌, ◌^◌, ℕ, List, IfOk, IfErr, OnErr, OnOk, MatchBool, MatchResult, length};
+ghost use Rattle.std.specs.Prelude.{◌≡◌, ◌≢◌, ◌<◌, ◌≤◌, ◌^◌, ℕ, List, true, IfOk, IfErr, OnErr, OnOk, MatchBool, MatchResult, length};
 ghost use Rattle.std.specs.Str.{IsUtf8};
 ghost use Rattle.fe2o3_scram.specs.Mixed.{MultiRecords};
 ghost use Rattle.fe2o3_scram.specs.Readings.{IsFirst, NoneHolds};
-ghost use Rattle.fe2o3_sasl_core.specs.Servers.{offers_any, sasl_server, settings_with};
+ghost use Rattle.fe2o3_sasl_core.specs.Servers.{offers_any, rejection_of_server, sasl_server, settings_with};
 ghost use Rattle.fe2o3_sasl_negotiation.specs.declared.progress.Progress.TheVariants.{InProgress};
 ghost use Rattle.fe2o3_sasl_negotiation.specs.Snapshot.{IsServerKept, side_of};
 ghost use Rattle.fe2o3_sasl_negotiation.specs.Sides.{extended_in, server_side};
-ghost use Rattle.sasl_c.specs.Rejections.{state_of};
-ghost use Rattle.sasl_c.specs.Rules.{channels_of};
-ghost use Rattle.sasl_c.specs.SaslServer.{AddsRecord, AreSettings, HasNoServerWords, HasLongSalt, HasNone, IsChoice, IsNoConfig, IsPrepared, NotReceived, Received, RestoresStage, HasOptions, ServerTakes, ShowRecords, ShowsBy, choice_tests, config_tests, extra_for, mechanisms_for, mock_of, plain_version_for, settings_for, struct_by, version_of_unknown};
+ghost use Rattle.sasl_c.specs.SaslServer.{AddsRecord, HasNoServerWords, HasLongSalt, HasNone, IsChoice, IsNoConfig, IsPrepared, NotReceived, Received, RestoresStage, HasOptions, ServerTakes, ShowRecords, ShowsBy, choice_tests, config_tests, extra_for, mechanisms_for, mock_of, plain_version_for, struct_by, version_of_unknown};
 ghost use Rattle.sasl_c.specs.Connection.{side_tests};
 ghost use Rattle.sasl_c.specs.Status.{AsksWhere};
 ghost use Rattle.sasl_c.specs.declared.status.Status.TheVariants.{OutOfMemory as StatusOutOfMemory, InvalidSnapshot as StatusInvalidSnapshot, TooLong as StatusTooLong};
@@ -66,7 +64,7 @@ pub struct SaslServerConfig<'a> {
 
     /// Whether `username`, `records` and `identities` are what your store has of the user whom the bytes claim. 0 is no,
     /// any other value yes. If it is 0 and the bytes claim a user, `fe2o3_sasl_server_receive` returns
-    /// FE2O3_NEEDS_RECORDS. If they claim none, these fields play no part.
+    /// FE2O3_NEEDS_RECORDS. If they claim none, these fields are only tested for UTF-8.
     pub looked_up: u32,
 
     /// The name of the user whose records these are, without escapes.
@@ -250,6 +248,7 @@ impl Prepared<'_> {
     fn restored(&self, alloc: Global, scram: &ScramServer) -> Result<LoggedServer<'_>, Status>
         ensures settings { IfOk result (λ made. (sasl_server made.server).settings
             ≡ settings_with self.now.records self.now.options self.now.transport) }
+        ensures rejection { IfOk result (λ made. rejection_of_server made.server ≡ None) }
         ensures stage { IfOk result (λ made. RestoresStage scram.now (sasl_server made.server)) }
         ensures err { IfErr result (λ status. status ≡ StatusOutOfMemory) }
     {
@@ -388,6 +387,8 @@ impl SaslServerConfig<'_> {
     fn prepared(&self, alloc: Global) -> Result<Prepared<'_>, Status>
         ensures ok { IfOk result (λ prepared. IsPrepared self.now prepared) }
         ensures tests { IfOk result (λ _. NoneHolds (config_tests self.now)) }
+        ensures offers { IfOk result (λ prepared.
+            offers_any (settings_with prepared.records prepared.options prepared.transport) ≡ true) }
         ensures err { IfErr result (λ status. status ≢ StatusOutOfMemory → IsNoConfig self.now status) }
         ensures memory { AsksWhere (NoneHolds (config_tests self.now)) result }
     {

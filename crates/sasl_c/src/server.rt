@@ -46,8 +46,8 @@ pub struct ScramServer {
     /// error of a SCRAM message, one of enum fe2o3_status. Written by `fe2o3_sasl_server_receive`.
     pub rejection: u32,
 
-    /// The user name, without escapes. While a challenge is open the client only claims it; afterwards it is
-    /// authenticated.
+    /// The user name, without escapes. It is authenticated in the state FE2O3_SCRAM_SERVER_AUTHENTICATED only; before, the
+    /// client claims it.
     pub user: [u8; 256],
 
     /// The client-first message without its GS2 header.
@@ -78,11 +78,11 @@ impl ScramServer {
         self.first_len = 0;
         self.acts_for_len = 0;
         self.rejection = 0;
-        self.user.fill(0);
-        self.bare.fill(0);
-        self.nonce.fill(0);
-        self.first.fill(0);
-        self.acts_for.fill(0);
+        self.user = [0; 256];
+        self.bare = [0; 1024];
+        self.nonce = [0; 512];
+        self.first = [0; 1024];
+        self.acts_for = [0; 256];
     }
 
     /// Turns the struct into that of a server that has rejected a login, for the reason of this number.

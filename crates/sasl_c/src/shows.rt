@@ -1,7 +1,7 @@
 //! What the struct of a SCRAM server shows of an acceptor.
 
 ghost use Rattle.std.specs.Prelude.{◌≡◌, MatchBool};
-ghost use Rattle.fe2o3_sasl_core.specs.SavedServers.{kept_stage, saved_stage};
+ghost use Rattle.fe2o3_sasl_core.specs.SavedServers.{saved_stage};
 ghost use Rattle.fe2o3_sasl_negotiation.specs.declared.progress.Progress.{Progress as ProgressOf};
 ghost use Rattle.sasl_c.specs.Rejections.{state_of};
 ghost use Rattle.sasl_c.specs.SaslServer.{ShowsNext, ShowsProgress, progress_struct, state_struct};

@@ -7,6 +7,6 @@ returns-in-Err-clause-text c = (
   refl,
   omega (arith, c.if-out-lt-FRAME_MOST.false),
   refl,
-  λ other. not_received c.args.login.now c.args.bytes.now c.args.nonce.now c.args.client.now c.args.client.now
+  λ other. not_received c.args.login.now c.args.bytes.now c.args.nonce.now c.args.client.now c.received.new.client
       c.args.taken.now c.in-Err.status (c.in-Err.ensures.err other),
 )
