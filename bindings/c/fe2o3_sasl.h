@@ -270,11 +270,12 @@ enum fe2o3_rejection {
     FE2O3_REJECTION_UNKNOWN_USER = 105,
     /* No record of the user was passed for the hash of the exchange, and one for another hash was. */
     FE2O3_REJECTION_NO_RECORD_FOR_HASH = 106,
-    /* The user may not act for the identity that the client names, whatever its proof is (RFC 4422, section 2). */
+    /* The user of SCRAM may not act for the identity that it names, whatever its proof is (RFC 4422, section 2). */
     FE2O3_REJECTION_NO_RIGHT = 107,
     /* The proof of SCRAM does not meet the record: the password is wrong, or you passed a mock record. */
     FE2O3_REJECTION_WRONG_PROOF = 108,
-    /* No record has the password of the message of PLAIN, or none was passed. */
+    /* The message of PLAIN does not have the password of the tested record, the user has none, or may not act for the
+     * identity. */
     FE2O3_REJECTION_WRONG_PASSWORD = 109,
     /* The init of EXTERNAL asks for another name than the one that the transport authenticated. */
     FE2O3_REJECTION_OTHER_IDENTITY = 110,
@@ -1066,7 +1067,7 @@ struct fe2o3_scram_rules {
  * rules say.
  *
  * The errors are those of `fe2o3_scram_server_first` from FE2O3_CHANNEL_DATA_LENGTH to
- * FE2O3_SERVER_MISPLACED_ATTRIBUTE, in the same order. */
+ * FE2O3_SERVER_MISPLACED_ATTRIBUTE, in the same order, and then FE2O3_ROOM_TOO_SMALL. */
 uint32_t fe2o3_scram_server_claimed_user(
     const struct fe2o3_scram_rules *rules,
     const uint8_t *client_first,
@@ -1105,7 +1106,8 @@ uint32_t fe2o3_scram_server_claimed_identity(
  *   wrong escape,
  * - FE2O3_SERVER_CANNOT_PARSE_USERNAME and FE2O3_SERVER_CANNOT_PARSE_CLIENT_NONCE,
  * - the same two of a strict server, if the name is empty or has NUL, or the nonce is empty or not printable,
- * - FE2O3_SERVER_MISPLACED_ATTRIBUTE of a server that is strict, binds channels or accepts identities,
+ * - FE2O3_SERVER_MISPLACED_ATTRIBUTE of a server that is strict, has `reject_misplaced`, binds channels or accepts
+ *   identities,
  * - FE2O3_NO_SUCH_VERSION and FE2O3_TOO_LONG if `kept` holds no record,
  * - FE2O3_TOO_LONG if a text of the challenge does not fit into the struct,
  * - FE2O3_ROOM_TOO_SMALL. */
@@ -1140,7 +1142,8 @@ uint32_t fe2o3_scram_server_first(
  *   the rules,
  * - FE2O3_SERVER_CANNOT_PARSE_CLIENT_FINAL_MESSAGE and FE2O3_SERVER_INCORRECT_CLIENT_FINAL_NONCE,
  * - FE2O3_SERVER_PROOF_NOT_FOUND_IN_CLIENT_FINAL and FE2O3_SERVER_BASE64_DECODE_ERROR, of the proof,
- * - FE2O3_SERVER_MISPLACED_ATTRIBUTE of a server that is strict, binds channels or accepts identities,
+ * - FE2O3_SERVER_MISPLACED_ATTRIBUTE of a server that is strict, has `reject_misplaced`, binds channels or accepts
+ *   identities, or whose client said `y,,`,
  * - FE2O3_SERVER_XOR_LENGTH_MISMATCH if the proof is not as long as a digest,
  * - FE2O3_SERVER_AUTHENTICATION_FAILED if the proof is wrong, or the user may not act for the identity that the client
  *   named (RFC 4422, section 2). */

@@ -270,11 +270,12 @@ enum fe2o3_rejection {
     FE2O3_REJECTION_UNKNOWN_USER = 105,
     /* No record of the user was passed for the hash of the exchange, and one for another hash was. */
     FE2O3_REJECTION_NO_RECORD_FOR_HASH = 106,
-    /* The user may not act for the identity that the client names, whatever its proof is (RFC 4422, section 2). */
+    /* The user of SCRAM may not act for the identity that it names, whatever its proof is (RFC 4422, section 2). */
     FE2O3_REJECTION_NO_RIGHT = 107,
     /* The proof of SCRAM does not meet the record: the password is wrong, or you passed a mock record. */
     FE2O3_REJECTION_WRONG_PROOF = 108,
-    /* No record has the password of the message of PLAIN, or none was passed. */
+    /* The message of PLAIN does not have the password of the tested record, the user has none, or may not act for the
+     * identity. */
     FE2O3_REJECTION_WRONG_PASSWORD = 109,
     /* The init of EXTERNAL asks for another name than the one that the transport authenticated. */
     FE2O3_REJECTION_OTHER_IDENTITY = 110,

@@ -491,14 +491,15 @@ pub const REJECTION_UNKNOWN_USER: u32 = 105;
 /// `rejection`: No record of the user was passed for the hash of the exchange, and one for another hash was.
 pub const REJECTION_NO_RECORD_FOR_HASH: u32 = 106;
 
-/// `rejection`: The user may not act for the identity that the client names, whatever its proof is (RFC 4422, section
+/// `rejection`: The user of SCRAM may not act for the identity that it names, whatever its proof is (RFC 4422, section
 /// 2).
 pub const REJECTION_NO_RIGHT: u32 = 107;
 
 /// `rejection`: The proof of SCRAM does not meet the record: the password is wrong, or you passed a mock record.
 pub const REJECTION_WRONG_PROOF: u32 = 108;
 
-/// `rejection`: No record has the password of the message of PLAIN, or none was passed.
+/// `rejection`: The message of PLAIN does not have the password of the tested record, the user has none, or may not act
+/// for the identity.
 pub const REJECTION_WRONG_PASSWORD: u32 = 109;
 
 /// `rejection`: The init of EXTERNAL asks for another name than the one that the transport authenticated.
@@ -1252,7 +1253,7 @@ extern "C" {
     /// whatever the rules say.
     ///
     /// The errors are those of `fe2o3_scram_server_first` from CHANNEL_DATA_LENGTH to SERVER_MISPLACED_ATTRIBUTE, in
-    /// the same order.
+    /// the same order, and then ROOM_TOO_SMALL.
     pub fn fe2o3_scram_server_claimed_user(
         rules: *const ScramRules,
         client_first: *const u8,
@@ -1291,7 +1292,8 @@ extern "C" {
     ///   wrong escape,
     /// - SERVER_CANNOT_PARSE_USERNAME and SERVER_CANNOT_PARSE_CLIENT_NONCE,
     /// - the same two of a strict server, if the name is empty or has NUL, or the nonce is empty or not printable,
-    /// - SERVER_MISPLACED_ATTRIBUTE of a server that is strict, binds channels or accepts identities,
+    /// - SERVER_MISPLACED_ATTRIBUTE of a server that is strict, has `reject_misplaced`, binds channels or accepts
+    ///   identities,
     /// - NO_SUCH_VERSION and TOO_LONG if `kept` holds no record,
     /// - TOO_LONG if a text of the challenge does not fit into the struct,
     /// - ROOM_TOO_SMALL.
@@ -1326,7 +1328,8 @@ extern "C" {
     ///   rules,
     /// - SERVER_CANNOT_PARSE_CLIENT_FINAL_MESSAGE and SERVER_INCORRECT_CLIENT_FINAL_NONCE,
     /// - SERVER_PROOF_NOT_FOUND_IN_CLIENT_FINAL and SERVER_BASE64_DECODE_ERROR, of the proof,
-    /// - SERVER_MISPLACED_ATTRIBUTE of a server that is strict, binds channels or accepts identities,
+    /// - SERVER_MISPLACED_ATTRIBUTE of a server that is strict, has `reject_misplaced`, binds channels or accepts
+    ///   identities, or whose client said `y,,`,
     /// - SERVER_XOR_LENGTH_MISMATCH if the proof is not as long as a digest,
     /// - SERVER_AUTHENTICATION_FAILED if the proof is wrong, or the user may not act for the identity that the client
     ///   named (RFC 4422, section 2).

@@ -398,7 +398,7 @@ stored_users_are_had settings server bytes config user records mock named shows 
   plain = λ others parts password has offers done tested. let one = one_of others has in
       subst (λ (r : MultiRecords). MeetsUser (provider_for (plain_version_for settings.mechanisms r) r) user password
       ↔ MeetsUser (provider_for settings.plain_version settings.records) user password) (sym one)
-      (meets_by settings.mechanisms settings.plain_version records settings.records user password begins
+      (meets_by settings.mechanisms settings.plain_version records settings.records user password (begins offers)
       (alike settings.plain_version));
   rights = may;
 }

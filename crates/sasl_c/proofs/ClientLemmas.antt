@@ -293,16 +293,17 @@ pub responds : (login : Login) (before after : Struct) (text message signature :
     → (next : ClientSide) × AnswersByMessage login before text message next
     × (next.state ≡ ClientFinalSent signature (Some keys))
     → ((user : List ℕ) → IsState user after (ClientFinalSent signature (Some keys)))
-    → WritesClient after (ClientFinalSent signature (Some keys)) → Responds login text before after (Ok message)
+    → WritesClient after (ClientFinalSent signature (Some keys)) → IsTestedLogin login
+    → Responds login text before after (Ok message)
 unfolding Responds AnswersByMessage
-responds login before after text message signature keys held waits written =
+responds login before after text message signature keys held waits written tested =
     let next = held.0 in
     let given = held.1.0 in
     let state = carried (IsState next.user after) (ClientFinalSent signature (Some keys)) next.state (sym held.2)
     (waits next.user) in
     let is = answering_login login given.state given next text message held.1.2 held.1.1.0 in
     let writes = carried (WritesClient after) (ClientFinalSent signature (Some keys)) next.state (sym held.2) written in
-    (next, held.1, (is, state), writes)
+    (next, held.1, (is, state), writes, tested)
 
 -- other errors
 pub no_text : (login : Login) (before : Struct) (text : List ℕ) → ¬ IsUtf8 text
@@ -380,9 +381,9 @@ done_state user other before after (Complete keys) side next text is held done s
 
 pub verifies : (login : Login) (before after : Struct) (side next : ClientSide) (text : List ℕ) (verified : Unit {0})
     → IsSide login before side → VerifiesIn side.state side text (Ok verified) next
-    → after ≡ complete_struct before.keys → Verifies login text before after (Ok tt)
+    → after ≡ complete_struct before.keys → IsTestedLogin login → Verifies login text before after (Ok tt)
 unfolding Verifies
-verifies login before after side next text verified is held written = (
+verifies login before after side next text verified is held written tested = (
   side,
   next,
   is,
@@ -393,6 +394,7 @@ verifies login before after side next text verified is held written = (
         (ap (λ (client : Struct). client.state) written) (ap (λ (client : Struct). client.keys) written),
   ),
   written,
+  tested,
 )
 
 pub server_verified : (login : Login) (before after : Struct) (text signature : List ℕ) (version : ScramVersion)
@@ -408,7 +410,7 @@ server_verified login before after text signature version header verified known 
     (is_side_with login before version secret.0 header (ClientFinalSent signature keys.0) known secret.1 binds
     (waits.0, waits.1, same, keys.1))
     (reads, refl)
-    written
+    written is
 
 -- a status other than that of failed memory is of another error
 verify_memory : (text : List ℕ) (why : ScramErrorKind) (status : Status) → IsVerifyStatus text why status

@@ -80,7 +80,7 @@ module _ (base : Login) where
   first_took : (login : Login) (before after : Struct) (side : ClientSide) (nonce message : List ℕ) → SameWords base login
       → IsSide base before side → MakesCall login (FirstCall nonce message) before after
       → Took after side (FirstCall nonce message)
-  first_took login before after side nonce message one is ((other, others, said), (begins, same)) =
+  first_took login before after side nonce message one is ((other, others, said, tested), (begins, same)) =
       let too = client_of_base base login one other others in
       let channel = same_channel side other is.0 too in
       let text = base64_text nonce in
@@ -107,7 +107,7 @@ module _ (base : Login) where
       → IsSide base before side → MakesCall login (FinalCall text message) before after
       → Took after side (FinalCall text message)
   unfolding Responds AnswersByMessage
-  final_took login before after side text message one is (next, (other, others, answered), shows, written) =
+  final_took login before after side text message one is (next, (other, others, answered), shows, written, tested) =
       let too : IsSide base before other = (client_of_base base login one other others.0, others.1) in
       let going = answer_due other.user before other.state other next text message answered others.1 in
       let meets = other_of before side other going is too in
@@ -127,7 +127,7 @@ module _ (base : Login) where
   verify_took : (login : Login) (before after : Struct) (side : ClientSide) (text : List ℕ) → SameWords base login
       → IsSide base before side → MakesCall login (VerifyCall text) before after → Took after side (VerifyCall text)
   unfolding Verifies
-  verify_took login before after side text one is (other, next, others, verified, shows, same) =
+  verify_took login before after side text one is (other, next, others, verified, shows, same, tested) =
       let too : IsSide base before other = (client_of_base base login one other others.0, others.1) in
       let going = verdict_due other.user before other.state other next text verified others.1 in
       let meets = other_of before side other going is too in
@@ -165,11 +165,11 @@ messages_are_of_client base side last calls is none over = calls_took base fresh
 
 pub messages_spell_clients : MessagesSpellClients
 unfolding Responds Verifies AnswersByMessage
-messages_spell_clients login (FirstCall nonce message) before after ((side, is, said), begins) =
+messages_spell_clients login (FirstCall nonce message) before after ((side, is, said, tested), begins) =
     (with_state side ClientInitial, moved_login login side ClientInitial is, refl)
-messages_spell_clients login (FinalCall text message) before after (next, (side, is, answered), shows, writes) =
+messages_spell_clients login (FinalCall text message) before after (next, (side, is, answered), shows, writes, tested) =
     (with_state side ClientInitial, moved_login login side ClientInitial is.0, refl)
-messages_spell_clients login (VerifyCall text) before after (side, next, is, verified, shows, same) =
+messages_spell_clients login (VerifyCall text) before after (side, next, is, verified, shows, same, tested) =
     (with_state side ClientInitial, moved_login login side ClientInitial is.0, refl)
 
 -- ---- the numbers

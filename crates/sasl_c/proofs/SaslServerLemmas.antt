@@ -208,7 +208,7 @@ shows_none : (kept : Kept) (status : Status) (shown : VersionedRecord) → Spell
 shows_none kept statuses.OutOfMemory shown wrong is = absurd wrong
 shows_none kept statuses.NotUtf8 shown wrong is = absurd wrong
 shows_none kept statuses.NoSuchVersion shown wrong is = wrong shown.version is.0
-shows_none kept statuses.TooLong shown wrong is = absurd (omega (arith, wrong, is.1))
+shows_none kept statuses.TooLong shown wrong is = absurd (omega (arith, wrong.1, is.1))
 shows_none kept statuses.NotPrintable shown wrong is = absurd wrong
 shows_none kept statuses.ZeroIterations shown wrong is = absurd wrong
 shows_none kept statuses.NoSuchSecret shown wrong is = absurd wrong

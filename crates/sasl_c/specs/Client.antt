@@ -216,10 +216,10 @@ WritesClient written (Complete keys) = (kept : KeysStruct) × WritesKeys kept ke
 
 -- ---- what the calls return (RFC 5802, section 5), and the struct after them
 
--- the client-first message
+-- the client-first message, if no test of the login holds
 abbrev pub Starts : Login → List ℕ → Result (List ℕ) Status → Type 0
 Starts login nonce (Ok message) = (side : ClientSide) × IsClientOf login side
-    × (message ≡ client_first_with (header_of (header_in side)) side.user (base64_text nonce))
+    × (message ≡ client_first_with (header_of (header_in side)) side.user (base64_text nonce)) × IsTestedLogin login
 Starts login nonce (Err status) = IsNoLogin login status
 
 -- the struct after it
@@ -249,10 +249,10 @@ unfoldable pub NotAnswered : Login → Struct → List ℕ → Status → Type 0
 NotAnswered login before text status = IsNoLogin login status
     ⊎ Refuses login before (λ side why. AnswersIn side.state side text (Err why) side) status
 
--- the client-final message; bytes that are not UTF-8 are rejected first
+-- the client-final message, if no test of the login holds; bytes that are not UTF-8 are rejected first
 unfoldable pub Responds : Login → List ℕ → Struct → Struct → Result (List ℕ) Status → Type 0
 Responds login text before after (Ok message) = (next : ClientSide) × AnswersByMessage login before text message next
-    × IsSide login after next × WritesClient after next.state
+    × IsSide login after next × WritesClient after next.state × IsTestedLogin login
 Responds login text before after (Err status) = ((status ≡ client_status Utf8Error) × ¬ IsUtf8 text)
     ⊎ (IsUtf8 text × NotAnswered login before text status)
 
@@ -283,10 +283,11 @@ abbrev pub NotVerified : Login → Struct → List ℕ → Status → Type 0
 NotVerified login before text status = (why : ScramErrorKind) × IsVerifyStatus text why status
     × ((side : ClientSide) × IsSide login before side × VerifiesIn side.state side text (Err why) side)
 
--- the server is authenticated, or it is not
+-- the server is authenticated, and no test of the login holds; or it is not
 unfoldable pub Verifies : Login → List ℕ → Struct → Struct → Result (Unit {0}) Status → Type 0
 Verifies login text before after (Ok done) = (side next : ClientSide) × IsSide login before side
     × VerifiesIn side.state side text (Ok done) next × IsSide login after next × (after ≡ complete_struct before.keys)
+    × IsTestedLogin login
 Verifies login text before after (Err status) = (after ≡ before) × (status ≢ statuses.OutOfMemory
     → IsNoLogin login status ⊎ NotVerified login before text status)
 

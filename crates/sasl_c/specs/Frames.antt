@@ -46,13 +46,15 @@ Views body before after (Ok done) = (frame : SaslFrame) × ReadsBody body (Ok (f
 Views body before after (Err status) = (fault : Error) × ReadsBody body (Err fault)
     × (status ≡ frame_status fault) × (after ≡ before)
 
--- whether the body is a list of mechanisms with this name (part 5, section 5.3.3.1)
+-- whether the body is a list of mechanisms with this name (part 5, section 5.3.3.1); the name is tested first
 abbrev pub OffersName : List ℕ → List ℕ → Result (Unit {0}) Status → Type 0
-OffersName body name (Ok done) = (names : List (List ℕ)) × (taken : ℕ)
-    × ReadsBody body (Ok (frames.Mechanisms names, taken)) × Contains names name
+OffersName body name (Ok done) = IsUtf8 name × ((names : List (List ℕ)) × (taken : ℕ)
+    × ReadsBody body (Ok (frames.Mechanisms names, taken)) × Contains names name)
 OffersName body name (Err statuses.NotUtf8) = ¬ IsUtf8 name
-OffersName body name (Err statuses.NotImplemented) = (names : List (List ℕ)) × (taken : ℕ)
-    × ReadsBody body (Ok (frames.Mechanisms names, taken)) × ¬ Contains names name
-OffersName body name (Err statuses.UnexpectedFrame) = (frame : SaslFrame) × (taken : ℕ) × ReadsBody body (Ok (frame, taken))
-    × ((names : List (List ℕ)) → ◌≡◌ {A = SaslFrame} frame (frames.Mechanisms names) → ⊥)
-OffersName body name (Err status) = (fault : Error) × ReadsBody body (Err fault) × (status ≡ frame_status fault)
+OffersName body name (Err statuses.NotImplemented) = IsUtf8 name × ((names : List (List ℕ)) × (taken : ℕ)
+    × ReadsBody body (Ok (frames.Mechanisms names, taken)) × ¬ Contains names name)
+OffersName body name (Err statuses.UnexpectedFrame) = IsUtf8 name × ((frame : SaslFrame) × (taken : ℕ)
+    × ReadsBody body (Ok (frame, taken))
+    × ((names : List (List ℕ)) → ◌≡◌ {A = SaslFrame} frame (frames.Mechanisms names) → ⊥))
+OffersName body name (Err status) = IsUtf8 name × ((fault : Error) × ReadsBody body (Err fault)
+    × (status ≡ frame_status fault))

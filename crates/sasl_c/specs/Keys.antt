@@ -56,10 +56,10 @@ ShowsKeys kept keys = IsVersion kept.version keys.version × (kept.salt_len ≤ 
 abbrev pub ShowsSomeKeys : Struct → Type 0
 ShowsSomeKeys kept = (keys : ClientKeys) × ShowsKeys kept keys
 
--- why a struct shows none
+-- why a struct shows none: the version is tested first
 abbrev pub ShowsNoKeys : Struct → Status → Type 0
 ShowsNoKeys kept statuses.NoSuchVersion = (known : ScramVersion) → ¬ IsVersion kept.version known
-ShowsNoKeys kept statuses.TooLong = 128 < kept.salt_len
+ShowsNoKeys kept statuses.TooLong = ((known : ScramVersion) × IsVersion kept.version known) × (128 < kept.salt_len)
 ShowsNoKeys kept status = ⊥
 
 -- the keys of a password (RFC 5802, section 3): the first error that holds, or their struct

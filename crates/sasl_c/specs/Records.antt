@@ -75,11 +75,11 @@ ParsesStruct text (Err statuses.TooLong) = (kept : VersionedRecord) × ReadsReco
 ParsesStruct text (Err (statuses.NoRecord why)) = IsUtf8 text × ReadsRecord text (Err why)
 ParsesStruct text (Err status) = ⊥
 
--- the text of the record that a struct shows (RFC 5803, section 2), or why there is none
+-- the text of the record that a struct shows (RFC 5803, section 2), or why there is none: the version is tested first
 abbrev pub SpellsStruct : Struct → Result (List ℕ) Status → Type 0
 SpellsStruct kept (Ok text) = (shown : VersionedRecord) × ShowsRecord kept shown × (text ≡ record_text shown)
 SpellsStruct kept (Err statuses.NoSuchVersion) = (known : ScramVersion) → ¬ IsVersion kept.version known
-SpellsStruct kept (Err statuses.TooLong) = 128 < kept.salt_len
+SpellsStruct kept (Err statuses.TooLong) = ((known : ScramVersion) × IsVersion kept.version known) × (128 < kept.salt_len)
 SpellsStruct kept (Err status) = ⊥
 
 -- the tests before a mock record is made for a name, in their order

@@ -214,14 +214,14 @@ CallsWithOneStoreConnect = (base : Config) (settings : ServerSettings) (before l
     → AreOneConnection settings before calls stream sent last rest
 
 -- a configuration has what a store with its mock records has of a user: its first record for each hash, of which the first of
--- all, if there is one, is of the hash by which PLAIN tests passwords; and its rights
+-- all, if there is one, is of the hash by which PLAIN tests passwords, if PLAIN is offered; and its rights
 abbrev pub StoredUsersAreHad : Type 0
 StoredUsersAreHad = (settings : ServerSettings) (server : Struct) (bytes : List ℕ) (config : Config) (user : List ℕ)
     (records : MultiRecords) → settings.mock ≡ mock_of config → config.username.now ≡ user → HasRecords config records
     → ((version : ScramVersion) → record_at (provider_for version records).records user
     ≡ record_at (provider_for version settings.records).records user)
-    → ((first : List ℕ × VersionedRecord) (others : MultiRecords) → records ≡ first ∷ others
-    → first.1.version ≡ settings.plain_version)
+    → (is_offered_by settings ways.Plain ≡ true → (first : List ℕ × VersionedRecord) (others : MultiRecords)
+    → records ≡ first ∷ others → first.1.version ≡ settings.plain_version)
     → ((acts_for : Option (List ℕ)) → may_act (rights_for user config.identities.now) user acts_for
     ≡ may_act settings.rights user acts_for)
     → HasStoredUser settings server bytes config user

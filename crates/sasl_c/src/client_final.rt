@@ -209,6 +209,7 @@ fn compute_answer(
 ) -> Result<ClientAnswer, Status>
     requires { meter.old ≤ 2 ^ 63 }
     ensures ok { IfOk result (λ answer. IsAnswer login.now client.now server_first.now (answer_values answer)) }
+    ensures tested { IfOk result (λ _. IsTestedLogin login.now) }
     ensures err { IfErr result (λ status. status ≢ StatusOutOfMemory
         → NotAnswered login.now client.now server_first.now status) }
     ensures memory { AsksWhere (IsTestedLogin login.now × (client.now.state ≡ 1)) result }

@@ -3,7 +3,7 @@
 //!
 //! The state of an exchange is a struct of numbers and arrays in the caller's memory. There is no handle and nothing to
 //! free, and a call accepts any value of a struct. All zeros is a fresh one. A call returns a number, 0 if it succeeded,
-//! and a call that fails changes nothing.
+//! and a call that fails changes nothing, but for three exceptions that the header names.
 //!
 //! Each export calls a function of this crate that does its work, and repeats its contract: `Answers` says that the number
 //! is that of an answer, `Makes` and `Fills` what was written, and `IsSide` and `IsOpen` which client or server of

@@ -77,13 +77,13 @@ fn found(
     ensures memory { IfErr result (λ none. none.why ≡ StatusOutOfMemory
         → FindAsks lines.now username.now version) }
 {
-    let Some(version) = version_of(version) else {
+    let Some(known) = version_of(version) else {
         return Err(NotFound::from(Status::NoSuchVersion));
     };
     let username = text(username)?;
     let lines = text(lines)?;
     match MultiRecordStore::parse_lines(alloc, lines) {
-        Ok(users) => match chosen(&users, username, version) {
+        Ok(users) => match chosen(&users, username, known) {
             Ok(made) => {
                 drop(users);
                 Ok(made)

@@ -139,7 +139,8 @@ fn first_into(
 ///   wrong escape,
 /// - FE2O3_SERVER_CANNOT_PARSE_USERNAME and FE2O3_SERVER_CANNOT_PARSE_CLIENT_NONCE,
 /// - the same two of a strict server, if the name is empty or has NUL, or the nonce is empty or not printable,
-/// - FE2O3_SERVER_MISPLACED_ATTRIBUTE of a server that is strict, binds channels or accepts identities,
+/// - FE2O3_SERVER_MISPLACED_ATTRIBUTE of a server that is strict, has `reject_misplaced`, binds channels or accepts
+///   identities,
 /// - FE2O3_NO_SUCH_VERSION and FE2O3_TOO_LONG if `kept` holds no record,
 /// - FE2O3_TOO_LONG if a text of the challenge does not fit into the struct,
 /// - FE2O3_ROOM_TOO_SMALL.
@@ -214,7 +215,7 @@ fn first_by_rules(
 /// rules say.
 ///
 /// The errors are those of `fe2o3_scram_server_first` from FE2O3_CHANNEL_DATA_LENGTH to
-/// FE2O3_SERVER_MISPLACED_ATTRIBUTE, in the same order.
+/// FE2O3_SERVER_MISPLACED_ATTRIBUTE, in the same order, and then FE2O3_ROOM_TOO_SMALL.
 #[unsafe(no_mangle)]
 pub extern "C" fn fe2o3_scram_server_claimed_user(
     alloc: Global,
@@ -381,7 +382,8 @@ fn conclude(
 ///   the rules,
 /// - FE2O3_SERVER_CANNOT_PARSE_CLIENT_FINAL_MESSAGE and FE2O3_SERVER_INCORRECT_CLIENT_FINAL_NONCE,
 /// - FE2O3_SERVER_PROOF_NOT_FOUND_IN_CLIENT_FINAL and FE2O3_SERVER_BASE64_DECODE_ERROR, of the proof,
-/// - FE2O3_SERVER_MISPLACED_ATTRIBUTE of a server that is strict, binds channels or accepts identities,
+/// - FE2O3_SERVER_MISPLACED_ATTRIBUTE of a server that is strict, has `reject_misplaced`, binds channels or accepts
+///   identities, or whose client said `y,,`,
 /// - FE2O3_SERVER_XOR_LENGTH_MISMATCH if the proof is not as long as a digest,
 /// - FE2O3_SERVER_AUTHENTICATION_FAILED if the proof is wrong, or the user may not act for the identity that the client
 ///   named (RFC 4422, section 2).

@@ -33,5 +33,6 @@ returns-clause-text c =
     let held = rw c.in-Ok.ensures.cases.0 at c.in_ok-answer.ensures.ok in
     let done = responds c.args.login.now c.args.client.now c.wait.new.self c.args.server_first.now
     c.in_ok-answer.answer.message.items
-    c.in_ok-answer.answer.signature.items c.in_ok-answer.answer.keys held c.wait.ensures.state c.wait.ensures.writes in
+    c.in_ok-answer.answer.signature.items c.in_ok-answer.answer.keys held c.wait.ensures.state c.wait.ensures.writes
+    c.in_ok-answer.ensures.tested in
     (c.in_ok-answer.answer.message.items, done, search rules, search rules, search rules)
