@@ -471,7 +471,7 @@ enum fe2o3_status {
     FE2O3_SERVER_INCORRECT_CLIENT_FINAL_NONCE = 50,
     /* The last part of the client-final message does not begin with `p=`. */
     FE2O3_SERVER_PROOF_NOT_FOUND_IN_CLIENT_FINAL = 51,
-    /* The proof does not meet the stored key. */
+    /* The proof does not meet the stored key, or the user may not act for the identity that the client named. */
     FE2O3_SERVER_AUTHENTICATION_FAILED = 52,
     /* No challenge is open. */
     FE2O3_SERVER_ILLEGAL_AUTHENTICATOR_STATE = 53,

@@ -149,7 +149,7 @@ pub const SERVER_INCORRECT_CLIENT_FINAL_NONCE: u32 = 50;
 /// The last part of the client-final message does not begin with `p=`.
 pub const SERVER_PROOF_NOT_FOUND_IN_CLIENT_FINAL: u32 = 51;
 
-/// The proof does not meet the stored key.
+/// The proof does not meet the stored key, or the user may not act for the identity that the client named.
 pub const SERVER_AUTHENTICATION_FAILED: u32 = 52;
 
 /// No challenge is open.

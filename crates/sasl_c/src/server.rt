@@ -131,7 +131,13 @@ impl ScramServer {
         let identity = identity_text(acts_for);
         let mut named = [0; 256];
         fill(&mut named, identity.as_bytes());
-        self.hold_names(state, &name, user.len() as u32, &named, identity.len() as u32);
+        self.hold_names(
+            state,
+            &name,
+            user.len() as u32,
+            &named,
+            identity.len() as u32,
+        );
         true
     }
 

@@ -55,6 +55,11 @@ impl Shows for LoggedServer<'_> {
     ghost written_for = { λ progress logged. state_struct progress (state_of logged) };
 
     fn show(&self, progress: Progress, scram: &mut ScramServer) -> bool {
-        show(progress, &self.server.saved(), self.server.last_rejection(), scram)
+        show(
+            progress,
+            &self.server.saved(),
+            self.server.last_rejection(),
+            scram,
+        )
     }
 }

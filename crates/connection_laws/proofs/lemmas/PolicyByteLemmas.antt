@@ -138,117 +138,117 @@ module _ (hostname : Option (List ℕ)) (selection : Selection) (limit : ℕ) wh
 
   module _ (calls : List Call) (taken tail : List ℕ) (carried : taken ≡ sasl_header ++ tail) (framed_so : IsFramed taken)
     where
-    -- no offer was read, and the client has closed
-    no_offer : (why : CloseReason) (n : ℕ) (sent : List ℕ) (next last : Side Profile) → Closed hostname why n tail sent next last
-        → next.state ≡ PolicyProfile selection → LeftOver turns.Mechanisms limit tail (Failed why)
-        → PolicyEnds calls taken sent last
-    no_offer why n sent next last ends kept left = inl (
-      ends.silent,
-      (λ logged. closed_is_not_logged_in why (sym ends.progress ∙ logged)),
-      inr (inr (inl (record {
-        tail = tail;
-        carried = carried;
-        left = subst (LeftOver turns.Mechanisms limit tail) (sym ends.progress) left;
-        state = ends.state ∙ kept;
-        waits = λ going. absurd (failed_is_not_in_progress why (sym ends.progress ∙ going));
-      }))),
-    )
-
-    list_ends : (nonces : List (List ℕ)) (sent : List ℕ) (last : Side Profile) → NoncesOf calls nonces
-        → Negotiates (ClientSideAnswers hostname) (waiting limit [] (PolicyProfile selection)) nonces tail sent last
-        → PolicyEnds calls taken sent last
-    list_ends [] sent last of (nothing, inr (ended, none, is)) = absurd (ended refl)
-    list_ends [] sent last of (nothing, inl (going, part, is)) =
-        let progress = ap (λ (s : Side Profile). s.progress) is in inl (
-          nothing,
-          (λ logged. authenticated_is_not_in_progress (sym logged ∙ progress)),
-          inr (inr (inl (record {
-            tail = tail;
-            carried = carried;
-            left = inl (part, progress);
-            state = ap (λ (s : Side Profile). s.state) is;
-            waits = λ _. is;
-          }))),
-        )
-    list_ends (nonce ∷ nonces) sent last of (k, first, next, later, wants, no_part, receives, more, all) = go receives
-      where
-        event : Given
-        event = record { body = first_body tail; nonce = nonce }
-
-        by : (answer : SideOutput) (after : Profile) → IsWhole (Frame turns.Mechanisms) limit tail
-            → Ends (waiting limit [] (PolicyProfile selection)) (size_of tail) answer after k first next
-            → Silent hostname selection event answer after ⊎ Selects hostname selection event answer after
-            → PolicyEnds calls taken sent last
-        by answer after whole done (inr selects) = inr (record {
+      -- no offer was read, and the client has closed
+      no_offer : (why : CloseReason) (n : ℕ) (sent : List ℕ) (next last : Side Profile)
+          → Closed hostname why n tail sent next last → next.state ≡ PolicyProfile selection
+          → LeftOver turns.Mechanisms limit tail (Failed why) → PolicyEnds calls taken sent last
+      no_offer why n sent next last ends kept left = inl (
+        ends.silent,
+        (λ logged. closed_is_not_logged_in why (sym ends.progress ∙ logged)),
+        inr (inr (inl (record {
           tail = tail;
           carried = carried;
-          whole = whole;
-          names = selects.names;
-          profile = selects.profile;
-          spells = selects.spells;
-          selected = selects.selected;
-          chosen = units_chosen hostname nonces next last (drop k tail) later
-              (subst IsChosen (sym (ap (λ (n : Side Profile). n.state) done.2 ∙ selects.begun))
-              (begun_chosen selects.profile nonce (ordinary_chosen selects.profile
-              (selected_ordinary selection selects.names selects.profile selects.selected).0))) more;
-        })
-        by answer after whole done (inl (why, shut, kept, what)) = answered what
-          where
-            ends : Closed hostname why (size_of tail) tail sent next last
-            ends = let count = done.0 in
-                closed hostname why (size_of tail) k nonces next last tail sent first later (omega (arith, count))
-                (done.1 ∙ ap (λ (a : SideOutput). a.sent) shut)
-                (ap (λ (n : Side Profile). n.progress) done.2 ∙ ap (λ (a : SideOutput). a.progress) shut) more all
+          left = subst (LeftOver turns.Mechanisms limit tail) (sym ends.progress) left;
+          state = ends.state ∙ kept;
+          waits = λ going. absurd (failed_is_not_in_progress why (sym ends.progress ∙ going));
+        }))),
+      )
 
-            one : take (size_of tail) tail ≡ framed (first_body tail)
-            one = framed_so tail carried whole
+      list_ends : (nonces : List (List ℕ)) (sent : List ℕ) (last : Side Profile) → NoncesOf calls nonces
+          → Negotiates (ClientSideAnswers hostname) (waiting limit [] (PolicyProfile selection)) nonces tail sent last
+          → PolicyEnds calls taken sent last
+      list_ends [] sent last of (nothing, inr (ended, none, is)) = absurd (ended refl)
+      list_ends [] sent last of (nothing, inl (going, part, is)) =
+          let progress = ap (λ (s : Side Profile). s.progress) is in inl (
+            nothing,
+            (λ logged. authenticated_is_not_in_progress (sym logged ∙ progress)),
+            inr (inr (inl (record {
+              tail = tail;
+              carried = carried;
+              left = inl (part, progress);
+              state = ap (λ (s : Side Profile). s.state) is;
+              waits = λ _. is;
+            }))),
+          )
+      list_ends (nonce ∷ nonces) sent last of (k, first, next, later, wants, no_part, receives, more, all) = go receives
+        where
+          event : Given
+          event = record { body = first_body tail; nonce = nonce }
 
-            state : next.state ≡ PolicyProfile selection
-            state = ap (λ (n : Side Profile). n.state) done.2 ∙ kept
+          by : (answer : SideOutput) (after : Profile) → IsWhole (Frame turns.Mechanisms) limit tail
+              → Ends (waiting limit [] (PolicyProfile selection)) (size_of tail) answer after k first next
+              → Silent hostname selection event answer after ⊎ Selects hostname selection event answer after
+              → PolicyEnds calls taken sent last
+          by answer after whole done (inr selects) = inr (record {
+            tail = tail;
+            carried = carried;
+            whole = whole;
+            names = selects.names;
+            profile = selects.profile;
+            spells = selects.spells;
+            selected = selects.selected;
+            chosen = units_chosen hostname nonces next last (drop k tail) later
+                (subst IsChosen (sym (ap (λ (n : Side Profile). n.state) done.2 ∙ selects.begun))
+                (begun_chosen selects.profile nonce (ordinary_chosen selects.profile
+                (selected_ordinary selection selects.names selects.profile selects.selected).0))) more;
+          })
+          by answer after whole done (inl (why, shut, kept, what)) = answered what
+            where
+              ends : Closed hostname why (size_of tail) tail sent next last
+              ends = let count = done.0 in
+                  closed hostname why (size_of tail) k nonces next last tail sent first later (omega (arith, count))
+                  (done.1 ∙ ap (λ (a : SideOutput). a.sent) shut)
+                  (ap (λ (n : Side Profile). n.progress) done.2 ∙ ap (λ (a : SideOutput). a.progress) shut) more all
 
-            fits : Fits limit (length (first_body tail) + 4)
-            fits = body_fits tail whole one
+              one : take (size_of tail) tail ≡ framed (first_body tail)
+              one = framed_so tail carried whole
 
-            selects_none : (names : List (List ℕ)) → SelectsNoneAt hostname selection event answer after names why
-                → SelectsNoneOf selection hostname calls names (Failed why)
-            selects_none names (inl (none, is)) = inl (none, ap (λ (w : CloseReason). Failed w) is)
-            selects_none names (inr (profile, selected, none, is)) = inr (
-              profile,
-              selected,
-              (nonce, first_nonce calls nonce nonces of, none),
-              ap (λ (w : CloseReason). Failed w) is,
-            )
+              state : next.state ≡ PolicyProfile selection
+              state = ap (λ (n : Side Profile). n.state) done.2 ∙ kept
 
-            answered : ((spelled : Result SaslFrame Error) × SpellsBody (first_body tail) spelled
-                × Unanswered turns.Mechanisms spelled why)
-                ⊎ ((names : List (List ℕ)) × SpellsBody (first_body tail) (Ok (frames.Mechanisms names))
-                × SelectsNoneAt hostname selection event answer after names why) → PolicyEnds calls taken sent last
-            answered (inl (spelled, spells, unanswered)) = no_offer why (size_of tail) sent next last ends state
-                (inr (inr (first_body tail, spelled, why, ends.all ∙ one, fits, spells, unanswered, refl)))
-            answered (inr (names, spells, none)) = inl (
-              ends.silent,
-              (λ logged. closed_is_not_logged_in why (sym ends.progress ∙ logged)),
-              inr (inr (inr (record {
-                names = names;
-                body = first_body tail;
-                fits = fits;
-                spells = spells;
-                carried = carried ∙ ap (λ l. sasl_header ++ l) (ends.all ∙ one);
-                closed = subst (SelectsNoneOf selection hostname calls names) (sym ends.progress) (selects_none names none);
-                state = ends.state ∙ state;
-              }))),
-            )
+              fits : Fits limit (length (first_body tail) + 4)
+              fits = body_fits tail whole one
 
-        go : Receives (ClientSideAnswers hostname) (waiting limit [] (PolicyProfile selection)) tail nonce k first next
-            → PolicyEnds calls taken sent last
-        go (inl (part, waits)) = absurd (no_part part)
-        go (inr (inl (refused, (t, s, is)))) =
-            let ends = closed hostname FrameSize 4 k nonces next last tail sent first later t s
-            (ap (λ (n : Side Profile). n.progress) is) more all in
-            no_offer FrameSize 4 sent next last ends (ap (λ (n : Side Profile). n.state) is)
-            (inr (inl (ap length ends.all ∙ length-take-le 4 tail refused.0, refused.1, refl)))
-        go (inr (inr (answer, after, whole, replies, done))) =
-            by answer after whole done (policy_replies hostname selection event answer after replies)
+              selects_none : (names : List (List ℕ)) → SelectsNoneAt hostname selection event answer after names why
+                  → SelectsNoneOf selection hostname calls names (Failed why)
+              selects_none names (inl (none, is)) = inl (none, ap (λ (w : CloseReason). Failed w) is)
+              selects_none names (inr (profile, selected, none, is)) = inr (
+                profile,
+                selected,
+                (nonce, first_nonce calls nonce nonces of, none),
+                ap (λ (w : CloseReason). Failed w) is,
+              )
+
+              answered : ((spelled : Result SaslFrame Error) × SpellsBody (first_body tail) spelled
+                  × Unanswered turns.Mechanisms spelled why)
+                  ⊎ ((names : List (List ℕ)) × SpellsBody (first_body tail) (Ok (frames.Mechanisms names))
+                  × SelectsNoneAt hostname selection event answer after names why) → PolicyEnds calls taken sent last
+              answered (inl (spelled, spells, unanswered)) = no_offer why (size_of tail) sent next last ends state
+                  (inr (inr (first_body tail, spelled, why, ends.all ∙ one, fits, spells, unanswered, refl)))
+              answered (inr (names, spells, none)) = inl (
+                ends.silent,
+                (λ logged. closed_is_not_logged_in why (sym ends.progress ∙ logged)),
+                inr (inr (inr (record {
+                  names = names;
+                  body = first_body tail;
+                  fits = fits;
+                  spells = spells;
+                  carried = carried ∙ ap (λ l. sasl_header ++ l) (ends.all ∙ one);
+                  closed = subst (SelectsNoneOf selection hostname calls names) (sym ends.progress) (selects_none names none);
+                  state = ends.state ∙ state;
+                }))),
+              )
+
+          go : Receives (ClientSideAnswers hostname) (waiting limit [] (PolicyProfile selection)) tail nonce k first next
+              → PolicyEnds calls taken sent last
+          go (inl (part, waits)) = absurd (no_part part)
+          go (inr (inl (refused, (t, s, is)))) =
+              let ends = closed hostname FrameSize 4 k nonces next last tail sent first later t s
+              (ap (λ (n : Side Profile). n.progress) is) more all in
+              no_offer FrameSize 4 sent next last ends (ap (λ (n : Side Profile). n.state) is)
+              (inr (inl (ap length ends.all ∙ length-take-le 4 tail refused.0, refused.1, refl)))
+          go (inr (inr (answer, after, whole, replies, done))) =
+              by answer after whole done (policy_replies hostname selection event answer after replies)
 
   -- ---- from the first byte
 

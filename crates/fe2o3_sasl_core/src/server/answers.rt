@@ -211,7 +211,8 @@ impl Server<'_> {
             HasReason (InitRejects (settings_in self.now) PlainWay (Some text.now)) made.0) }
         ensures memory { IfErr result (λ _. InitAllocates (settings_in self.now) PlainWay (Some text.now)) }
         ensures cost { TakesAtMost (init_hmacs (settings_in self.now) PlainWay (Some text.now)) meter.old meter.new }
-        ensures exactly { OnOk result (TakesExactly (init_hmacs (settings_in self.now) PlainWay (Some text.now)) meter.old meter.new) }
+        ensures exactly { OnOk result (TakesExactly (init_hmacs (settings_in self.now) PlainWay (Some text.now))
+            meter.old meter.new) }
     {
         let options = self.options;
         let Some(message) = PlainMessage::read_taken(options.accept_authzid, text) else {
