@@ -143,16 +143,36 @@ def page():
 # The laws over bytes, and what README.md says of the lines of their definitions.
 LAWS = ("fe2o3_sasl_negotiation::server_connections", "fe2o3_sasl_negotiation::client_connections")
 QUOTED = re.compile(
-    r"[\d,]+ lines for the theorem over frames, [\d,]+ over bytes, and [\d,]+ with the arguments of the laws"
+    r"[\d,]+ lines for the theorem over frames, [\d,]+ over bytes, and [\d,]+ with the arguments of the laws\. "
+    r"With `Server` and clients by a policy they are [\d,]+"
 )
+# The modules of `connection_laws` with the laws of a `Server` and of clients by a policy.
+OF_SERVERS = ("servers", "server_logins", "server_pairs", "policy_clients")
+
+
+def laws_of_servers():
+    """The definitions that the clauses of these modules state, each with its module."""
+    for module in OF_SERVERS:
+        text = (CRATES / "connection_laws/src" / f"{module}.rt").read_text(encoding="utf-8")
+        homes = {
+            name.strip().split(" as ")[0]: used[1]
+            for used in re.finditer(r"^ghost use ([\w.]+)\.\{(.*)\};", text, re.M)
+            for name in used[2].split(",")
+        }
+        yield from (f"{homes[name]}:{name}" for name in re.findall(r"^    ensures \w* ?\{ (\w+)", text, re.M))
 
 
 def quoted_counts():
-    """The words of README.md on the lines of the definitions: over frames, over bytes, and these with the arguments."""
+    """The words of README.md on the lines of the definitions: over frames, over bytes, these with the arguments, and all."""
     starts, arguments = trusted.statements(LAWS)
-    counts = (trusted.reached_from(trusted.HEADLINE), trusted.rest_on(starts), trusted.rest_on(starts + arguments))
-    frames, stream, more = (f"{trusted.lines_of(reached):,}" for reached in counts)
-    return f"{frames} lines for the theorem over frames, {stream} over bytes, and {more} with the arguments of the laws"
+    more = starts + arguments
+    all_laws = more + trusted.statements(laws_of_servers())[0]
+    counts = (trusted.reached_from(trusted.HEADLINE), *map(trusted.rest_on, (starts, more, all_laws)))
+    frames, stream, linked, every = (f"{trusted.lines_of(reached):,}" for reached in counts)
+    return (
+        f"{frames} lines for the theorem over frames, {stream} over bytes, and {linked} with the arguments of the laws. "
+        f"With `Server` and clients by a policy they are {every}"
+    )
 
 
 def counts_fault(text, counts):

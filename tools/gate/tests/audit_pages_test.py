@@ -51,7 +51,10 @@ class AuditPages(unittest.TestCase):
         self.assertEqual(audit_pages.function_at(SOURCE, SOURCE.index("false")), "Frame::next")
 
     def test_counts(self):
-        counts = "5 lines for the theorem over frames, 6 over bytes, and 7 with the arguments of the laws"
+        counts = (
+            "5 lines for the theorem over frames, 6 over bytes, and 7 with the arguments of the laws. "
+            "With `Server` and clients by a policy they are 8"
+        )
         self.assertIsNone(audit_pages.counts_fault(f"It is {counts}.", counts))
         self.assertIn("is stale", audit_pages.counts_fault(f"It is 1{counts}.", counts))
         self.assertIn("has 0 places", audit_pages.counts_fault("", counts))
