@@ -67,7 +67,7 @@ $(TRIED:%=tried/%): tried/%:
 # bodies; and the two built programs that keep a secret, started again, which say nothing if all is well. `rt ci` takes
 # what earlier runs on this machine passed, and proves what changed and the crates above it; with ANEW=1 it proves all.
 test: kit
-	@tools/gate/progress.py $$PPID 60 'a run from nothing takes about 100 min on 4 processors, and 18,000 to 20,000 s of processor' &
+	@tools/gate/progress.py $$PPID 60 'a run from nothing takes about 80 min on 4 processors, and 14,000 s of processor' &
 	tools/gate/gate.py$(if $(ANEW), --anew)
 
 # The first part of the gate.
@@ -94,8 +94,8 @@ make format          formats the Python and the C                               
 make docs            writes signatures and the last results of runs, in build/docs  1 s
 make check-models    compares the rows of the tests with the models that wrote them about 2 min
 tools/prove_at.py FILE:LINE  proves the function at that line, with --only          10 s or more
-make test            the gate: lint, quick models, every proof, test and program    about 100 min from nothing
-make test ANEW=1     the gate, which takes nothing from earlier runs                about 100 min
+make test            the gate: lint, quick models, every proof, test and program    about 80 min from nothing
+make test ANEW=1     the gate, which takes nothing from earlier runs                about 80 min
 make quiet           like make test, but into a log, and prints its last line
 make install-program the program scram, under PREFIX and DESTDIR
 
