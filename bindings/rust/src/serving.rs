@@ -322,8 +322,8 @@ impl<R: UserRecords + Clone> ServerNegotiation<R> {
     }
 
     /// Takes received bytes, until all are used or the login ends. After an error the frames before the one that failed
-    /// have been taken, and their answers are lost: close the connection. If the store of users fails, the login ends with the outcome sys-temp
-    /// ([`Self::store_error`]).
+    /// have been taken, and their answers are lost: close the connection. If the store of users fails, the login ends with
+    /// the outcome sys-temp ([`Self::store_error`]).
     ///
     /// # Panics
     ///
