@@ -150,10 +150,7 @@ impl ScramServer {
         ensures writes { MatchBool result (self.new ≡ authenticated_struct user.now (shown acts_for.entry))
             (self.new ≡ self.old) }
     {
-        if !self.hold_user(2, user, acts_for) {
-            return false;
-        }
-        true
+        self.hold_user(2, user, acts_for)
     }
 
     /// Turns the struct into that of a server that has authenticated the user of the challenge, which keeps only the names
