@@ -21,7 +21,7 @@ use Rattle.fe2o3_sasl_core.specs.ServerHistory.{Accepted, final_message, full_no
 use Rattle.fe2o3_sasl_core.specs.Servers.{ServerLogin, ServerSettings, ServerStage, SignatureShown, is_offered_by, logged_in_at, provider_by, rules_by, sasl_machine, settings_with, way_name}
 use Rattle.fe2o3_sasl_core.specs.TwoSides.{MessagesCollide, ReportedAnswer, Sides, keys_at, proof_at, sides_of}
 use Rattle.fe2o3_sasl_core.specs.Verdicts.{JudgesProof, Verdict}
-use Rattle.fe2o3_sasl_core.specs.declared.client_options.ClientOptions.{ClientOptions}
+use Rattle.fe2o3_scram.specs.declared.client_options.ClientOptions.{ClientOptions}
 use Rattle.fe2o3_sasl_core.specs.declared.server.options.ServerOptions.{ServerOptions}
 use Rattle.fe2o3_sasl_core.specs.declared.server.options.Transport.{Transport}
 use Rattle.fe2o3_sasl_core.specs.declared.server.ways.Way.TheVariants as ways

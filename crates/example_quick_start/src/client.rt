@@ -2,7 +2,8 @@
 
 use anyhow::{Result, bail};
 use fe2o3_sasl_negotiation::{
-    ClientReply, Event, SaslCode, SaslProfile, SaslScramSha256, profile_step,
+    ClientOptions, ClientReply, Event, IterationLimits, SaslCode, SaslProfile, SaslScramSha256,
+    profile_step,
 };
 use std::alloc::Global;
 
@@ -11,10 +12,14 @@ use std::alloc::Global;
 pub fn new_client(alloc: Global) -> Result<SaslProfile> {
     let username = "user".to_string(alloc)?;
     let password = "pencil".to_string(alloc)?;
-    let scram = SaslScramSha256::new(username, password)
-        .with_min_iterations(4096)
-        .with_iteration_limit(100_000);
-    Ok(SaslProfile::from(scram))
+    let options = ClientOptions {
+        limits: IterationLimits {
+            min_iterations: 4096,
+            max_iterations: 100_000,
+        },
+        ..ClientOptions::new()
+    };
+    Ok(SaslProfile::from(SaslScramSha256::new(username, password).with_options(options)))
 }
 
 /// The body to send back, or `None` once the client is logged in: it authenticates the server only by

@@ -7,20 +7,32 @@ use anyhow::{Context, Result};
 use bytes::BytesMut;
 use fe2o3_sasl_negotiation::{
     CachedKeys, ChannelBinding, ChannelBindings, ChannelData, ChannelKind, ClientNegotiation,
-    ClientPolicy, ClientSecret, IterationLimits, Meter, MultiRecordStore, Password, SaslProfile,
-    ScramClient, ScramVersion, Server, ServerNegotiation, ServerOptions, Transport,
+    ClientOptions, ClientPolicy, ClientSecret, IterationLimits, Meter, MultiRecordStore, Password,
+    SaslProfile, ScramClient, ScramVersion, Server, ServerNegotiation, ServerOptions, Transport,
 };
 use std::alloc::Global;
 use std::io::Write;
 use std::random::RandomSource;
 
-/// A client that tests each message by the grammar of RFC 5802. The server chooses the iteration count between the bounds.
+/// The options of clients that test each message by the grammar of RFC 5802. The server chooses the iteration count between
+/// the bounds.
+pub fn new_client_options() -> ClientOptions {
+    ClientOptions {
+        limits: IterationLimits {
+            min_iterations: 4096,
+            max_iterations: 100_000,
+        },
+        strict: true,
+        ..ClientOptions::new()
+    }
+}
+
+/// A client by a password.
 pub fn new_client(alloc: Global, user: &str, password: &str) -> Result<SaslProfile> {
     let (user, password) = (user.to_string(alloc)?, password.to_string(alloc)?);
-    let client = ScramClient::new(user, password, ScramVersion::Sha256)
-        .with_min_iterations(4096)
-        .with_iteration_limit(100_000)
-        .strict(true);
+    let client = ScramClient::new(user, password, ScramVersion::Sha256).with_options(
+        new_client_options(),
+    );
     Ok(SaslProfile::from(client))
 }
 
@@ -89,11 +101,8 @@ pub fn log<W: Write>(server: &Server<'_>, output: &mut W) -> Result<()> {
 /// A client that logs in by the keys of an earlier login (`profile().keys()`). It knows no password.
 pub fn keyed_client(alloc: Global, user: &str, keys: &CachedKeys) -> Result<SaslProfile> {
     let (user, secret) = (user.to_string(alloc)?, ClientSecret::Keys(keys));
-    let client = ScramClient::with_secret(alloc, user, secret, keys.scram_version())?
-        .with_min_iterations(4096)
-        .with_iteration_limit(100_000)
-        .strict(true);
-    Ok(SaslProfile::from(client))
+    let client = ScramClient::with_secret(alloc, user, secret, keys.scram_version())?;
+    Ok(SaslProfile::from(client.with_options(new_client_options())))
 }
 
 /// Restores a side in another place. The values that are saved hold no password, no key and no record.

@@ -1,7 +1,7 @@
 //! A client that logs in.
 
 use anyhow::Result;
-use fe2o3_scram::{ScramClient, ScramVersion};
+use fe2o3_scram::{ClientOptions, IterationLimits, ScramClient, ScramVersion};
 use std::alloc::Global;
 
 /// The way to the server. It distinguishes a client's first message from its second, like the frames of SASL.
@@ -19,10 +19,14 @@ pub trait Connection {
 pub fn log_in<C: Connection>(alloc: Global, connection: &mut C, nonce: &[u8; 32]) -> Result<()> {
     let username = "user".to_string(alloc)?;
     let password = "pencil".to_string(alloc)?;
-    let client = ScramClient::new(username, password, ScramVersion::Sha256);
-    let client = client
-        .with_min_iterations(4096)
-        .with_iteration_limit(100_000);
+    let options = ClientOptions {
+        limits: IterationLimits {
+            min_iterations: 4096,
+            max_iterations: 100_000,
+        },
+        ..ClientOptions::new()
+    };
+    let client = ScramClient::new(username, password, ScramVersion::Sha256).with_options(options);
     let mut client = Box::new(alloc, client)?;
     let client_first = client.compute_client_first_message(alloc, nonce)?;
     let server_first = connection.start(&client_first)?;

@@ -1,7 +1,7 @@
 -- What both sides of a SCRAM login agree on, by their options (RFC 5802, sections 5.1 and 6).
 use Rattle.std.specs.Prelude.{◌||◌, Bool}
 use Rattle.fe2o3_scram.specs.ChannelBinding.{has_channel}
-use Rattle.fe2o3_sasl_core.specs.declared.client_options.ClientOptions.{ClientOptions}
+use Rattle.fe2o3_scram.specs.declared.client_options.ClientOptions.{ClientOptions}
 use Rattle.fe2o3_sasl_core.specs.declared.server.options.ServerOptions.{ServerOptions}
 
 -- a server rejects an attribute of RFC 5802 in the place of an extension, whether a connection has a channel or not

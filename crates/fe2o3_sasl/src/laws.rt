@@ -138,8 +138,8 @@ pub fn equal_messages()
     ensures no_short_extensions { NoShortExtensions }
 {}
 
-/// One strict side is enough. Where the client or the server is strict (`SaslScram::strict`,
-/// `ScramAuthenticator::strict`), as to extensions each client is that has a channel and each server that binds one, one
+/// One strict side is enough. Where the client or the server is strict (by `ClientOptions` or
+/// `ServerRules`), as to extensions each client is that has a channel and each server that binds one, one
 /// of them received no attribute of RFC 5802 in the place of an extension. So `Agree` speaks of the header, the data of
 /// the channel, the full nonce, salt and count too, whatever the other side is.
 pub fn strict_sides()

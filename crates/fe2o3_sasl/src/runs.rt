@@ -4,7 +4,7 @@ pub use crate::audit::{
     AuditError, Finding, FindingKind, Parameters, Verdict, audit, audit_limited,
     audit_with_options, audit_with_rules,
 };
-pub use fe2o3_sasl_core::client_options::ClientOptions;
+pub use fe2o3_sasl_core::ClientOptions;
 pub use fe2o3_sasl_core::events::{ClientReply, Event, EventError, ServerReply};
 pub use fe2o3_sasl_core::steps::{
     acceptor_body_step, acceptor_frame_step, acceptor_step, profile_body_step, profile_frame_step,

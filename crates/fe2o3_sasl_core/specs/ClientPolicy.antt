@@ -10,7 +10,8 @@ use Rattle.fe2o3_scram.specs.declared.scram_messages.client_channel.ClientChanne
 use Rattle.fe2o3_scram.specs.ClientSecret.{Secret, Password, Keys, Both}
 use Rattle.fe2o3_scram.specs.Hmac.{mechanism_name}
 use Rattle.fe2o3_scram.specs.Passwords.{password_bytes}
-use Rattle.fe2o3_scram.specs.ScramClient.{fresh_client, with_channel, with_limits}
+use Rattle.fe2o3_scram.specs.declared.client_options.ClientOptions.{ClientOptions}
+use Rattle.fe2o3_scram.specs.ScramClient.{fresh_client, with_options}
 use Rattle.fe2o3_sasl_core.specs.Profiles.{Profile, ScramProfile, PlainProfile, AnonymousProfile, ExternalProfile}
 use Rattle.fe2o3_sasl_core.specs.declared.client_policy.ClientPolicy.{ClientPolicy}
 use Rattle.fe2o3_sasl_core.specs.declared.client_policy.Mechanism.{Mechanism}
@@ -79,11 +80,16 @@ abbrev pub bound_channel : Option ChannelBinding → ClientChannel
 bound_channel None = Absent
 bound_channel (Some binding) = Bound binding
 
+-- the options of a client of SCRAM that says this of its channel, within the limits of a policy
+abbrev pub scram_options : ClientPolicy → ClientChannel → ClientOptions
+scram_options policy channel =
+    record { limits = policy.limits; channel = channel; strict = false; signature_by_challenge = false }
+
 -- the user's profile for SCRAM with this secret, if there is one, within the limits of the policy
 abbrev pub scram_by : ClientPolicy → ClientChannel → List ℕ → ScramVersion → Option Secret → Option Profile
 scram_by policy channel user version None = None
 scram_by policy channel user version (Some secret) =
-    Some (ScramProfile (with_channel (with_limits (fresh_client user version secret) policy.limits) channel))
+    Some (ScramProfile (with_options (fresh_client user version secret) (scram_options policy channel)))
 
 -- the user's profile for PLAIN (RFC 4616, section 2), which sends the password
 abbrev pub plain_by : List ℕ → Secret → Option Profile

@@ -14,7 +14,7 @@ use Rattle.fe2o3_sasl_core.specs.Bodies.{SpellsBody, carried, server_says}
 use Rattle.fe2o3_sasl_core.specs.Profiles.{Profile, scram_profile}
 use Rattle.fe2o3_sasl_core.specs.ProfileMachine.{profile_machine, StepAllocates}
 use Rattle.fe2o3_sasl_core.specs.Hex.{SpellsHex}
-use Rattle.fe2o3_sasl_core.specs.declared.client_options.ClientOptions.{ClientOptions}
+use Rattle.fe2o3_scram.specs.declared.client_options.ClientOptions.{ClientOptions}
 use Rattle.fe2o3_sasl_core.specs.declared.events.ClientReply.{ClientReply}
 use Rattle.fe2o3_sasl_core.specs.declared.events.ClientReply.TheVariants as client_replies
 use Rattle.fe2o3_sasl_core.specs.declared.events.Event.{Event}

@@ -6,7 +6,6 @@
 #![tactic(auto)]
 
 pub mod any_mechanism;
-pub mod client_options;
 pub mod client_policy;
 pub mod events;
 pub mod login_attempts;
@@ -22,7 +21,6 @@ pub mod steps;
 pub mod whole_runs;
 
 pub use crate::any_mechanism::{AnyMechanism, HasMechanism, Selected};
-pub use crate::client_options::ClientOptions;
 pub use crate::client_policy::{ClientPolicy, Mechanism};
 pub use crate::events::{ClientReply, Event, EventError, ServerReply};
 pub use crate::login_attempts::{LoginAttempt, claimed_user};
@@ -50,4 +48,5 @@ pub use crate::whole_runs::{
     run_acceptor, run_profile, scram_client_run, scram_client_run_limited,
     scram_client_run_with_options, scram_server_run, scram_server_run_with_rules,
 };
+pub use fe2o3_scram::ClientOptions;
 pub use std::alloc::AllocError as OutOfMemory;

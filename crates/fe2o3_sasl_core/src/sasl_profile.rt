@@ -19,12 +19,12 @@ mod selection;
 mod single_message;
 
 use crate::OutOfMemory;
-use crate::client_options::ClientOptions;
 use crate::client_policy::ClientPolicy;
 use crate::mechanism_names::{ANONYMOUS, EXTERNAL, PLAIN, symbol_of};
 use crate::plain_server::is_plain_word;
 pub use error::{ProfileError, UrlError};
 use fe2o3_sasl_wire::{Binary, SaslInit, SaslOutcome, SaslResponse, Symbol};
+use fe2o3_scram::ClientOptions;
 use fe2o3_scram::client_secret::ClientSecret;
 use fe2o3_scram::hmac::ScramVersion;
 use fe2o3_scram::scram_client::ScramClient;
@@ -199,13 +199,7 @@ impl SaslProfile {
         ensures { profile_of result
             ≡ scram_profile (login_with options version (string_bytes username) (string_bytes password)) }
     {
-        let client = ScramClient::new(username, password, version)
-            .with_min_iterations(options.limits.min_iterations)
-            .with_iteration_limit(options.limits.max_iterations)
-            .with_channel(options.channel)
-            .strict(options.strict)
-            .signature_by_challenge(options.signature_by_challenge);
-        SaslProfile::scram_of(client)
+        SaslProfile::scram_of(ScramClient::new(username, password, version).with_options(options))
     }
 
     /// Returns the name of the mechanism, which is empty before one is selected.

@@ -16,17 +16,16 @@ ghost use Rattle.fe2o3_sasl_core.specs.SaslProfile.{profile_of};
 ghost use Rattle.fe2o3_sasl_core.specs.Runs.{AcceptorSteps, ProfileSteps, Runs, StartsAs, given, server_answer, client_answer, login_of, login_with};
 
 use crate::OutOfMemory;
-use crate::client_options::ClientOptions;
 use crate::events::{ClientReply, Event, ServerReply};
 use crate::sasl_acceptor::SaslAcceptor;
 use crate::sasl_profile::{ProfileError, SaslProfile};
 use crate::steps::{acceptor_step, profile_step};
 use fe2o3_sasl_wire::Error;
-use fe2o3_scram::ServerRules;
 use fe2o3_scram::client_secret::IterationLimits;
 use fe2o3_scram::credentials::ScramCredentialProvider;
 use fe2o3_scram::hmac::ScramVersion;
 use fe2o3_scram::scram_server::ScramAuthenticator;
+use fe2o3_scram::{ClientOptions, ServerRules};
 use std::alloc::Global;
 
 /// Runs an acceptor over the events. Returns the reply or the error of its step for each, in order. If the list of
@@ -165,7 +164,7 @@ pub fn scram_client_run_limited(
 }
 
 /// Like `scram_client_run`, but the client has these options. One that binds a channel or is strict rejects an attribute
-/// that RFC 5802 defines in the place of an extension (`ScramClient::strict`).
+/// that RFC 5802 defines in the place of an extension (`ScramClient::with_options`).
 pub fn scram_client_run_with_options(
     alloc: Global,
     user: &str,

@@ -1,5 +1,6 @@
 -- A SCRAM client from message to message (RFC 5802, section 5).
 use Rattle.std.specs.Prelude.{ℕ, Bool, true, false, ◌&&◌, ◌||◌, List, [], ◌∷◌, Option, Some, None, ◌≡◌, Result, Ok, Err}
+use Rattle.fe2o3_scram.specs.declared.client_options.ClientOptions.{ClientOptions}
 use Rattle.fe2o3_scram.specs.declared.client_secret.IterationLimits.{IterationLimits}
 use Rattle.fe2o3_scram.specs.declared.hmac.ScramVersion.{ScramVersion}
 use Rattle.fe2o3_scram.specs.declared.scram_client.ScramClientState.{ScramClientState}
@@ -58,72 +59,26 @@ fresh_client user version secret = record {
 
 -- a client in another state
 abbrev pub with_state : ClientSide → ClientState → ClientSide
-with_state side state = record {
-  user = side.user;
-  secret = side.secret;
-  version = side.version;
-  limits = side.limits;
-  channel = side.channel;
-  acts_for = side.acts_for;
-  strict = side.strict;
-  signature_by_challenge = side.signature_by_challenge;
-  state = state;
-}
+with_state side state = record side { state = state }
 
--- a client with other limits
-abbrev pub with_limits : ClientSide → IterationLimits → ClientSide
-with_limits side limits = record {
+-- a client with these options
+abbrev pub with_options : ClientSide → ClientOptions → ClientSide
+with_options side options = record {
   user = side.user;
   secret = side.secret;
   version = side.version;
-  limits = limits;
-  channel = side.channel;
+  limits = options.limits;
+  channel = options.channel;
   acts_for = side.acts_for;
-  strict = side.strict;
-  signature_by_challenge = side.signature_by_challenge;
+  strict = options.strict;
+  signature_by_challenge = options.signature_by_challenge;
   state = side.state;
 }
 
--- a client that says this of its channel
-abbrev pub with_channel : ClientSide → ClientChannel → ClientSide
-with_channel side channel = record {
-  user = side.user;
-  secret = side.secret;
-  version = side.version;
-  limits = side.limits;
-  channel = channel;
-  acts_for = side.acts_for;
-  strict = side.strict;
-  signature_by_challenge = side.signature_by_challenge;
-  state = side.state;
-}
-
--- a client that rejects misplaced attributes, or does not
-abbrev pub with_strict : ClientSide → Bool → ClientSide
-with_strict side strict = record {
-  user = side.user;
-  secret = side.secret;
-  version = side.version;
-  limits = side.limits;
-  channel = side.channel;
-  acts_for = side.acts_for;
-  strict = strict;
-  signature_by_challenge = side.signature_by_challenge;
-  state = side.state;
-}
-
--- a client that accepts the signature in a challenge, or does not
-abbrev pub with_signature_by_challenge : ClientSide → Bool → ClientSide
-with_signature_by_challenge side accept = record {
-  user = side.user;
-  secret = side.secret;
-  version = side.version;
-  limits = side.limits;
-  channel = side.channel;
-  acts_for = side.acts_for;
-  strict = side.strict;
-  signature_by_challenge = accept;
-  state = side.state;
+-- a client with another maximum of the counts that it accepts
+abbrev pub with_maximum : ClientSide → ℕ → ClientSide
+with_maximum side limit = record side {
+  limits = record { min_iterations = side.limits.min_iterations; max_iterations = limit };
 }
 
 -- the identity that a client names: none if it is empty, which means the user itself (RFC 4422, section 2)
@@ -134,17 +89,7 @@ identity_named (Some (byte ∷ name)) = Some (byte ∷ name)
 
 -- a client that acts for this identity, or for itself
 abbrev pub acting_for : ClientSide → Option (List ℕ) → ClientSide
-acting_for side acts_for = record {
-  user = side.user;
-  secret = side.secret;
-  version = side.version;
-  limits = side.limits;
-  channel = side.channel;
-  acts_for = identity_named acts_for;
-  strict = side.strict;
-  signature_by_challenge = side.signature_by_challenge;
-  state = side.state;
-}
+acting_for side acts_for = record side { acts_for = identity_named acts_for }
 
 -- the header of a client (RFC 5802, section 7)
 abbrev pub header_in : ClientSide → ClientHeader

@@ -76,7 +76,7 @@ pub fn server_errors()
 /// client nonce, or their own differing AuthMessages share one HMAC value. They agree on the nonce of
 /// both sides, salt and count if the client-first message had two parts, or if one side received no
 /// attribute that RFC 5802 defines in the place of an extension; in the second case also on the header and the data of the
-/// channel. One strict side is enough for that: `ScramClient::strict` or `ScramAuthenticator::strict`.
+/// channel. One strict side is enough for that: `strict` of `ClientOptions` or of `ServerRules`.
 pub fn accepted_messages()
     ensures server { AcceptedTextsLogIn }
     ensures client { VerifiedTextsAreSigned }

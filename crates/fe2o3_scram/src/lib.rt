@@ -16,6 +16,7 @@
 mod acting_rights;
 pub mod cached_keys;
 pub mod channel_binding;
+pub mod client_options;
 pub mod client_secret;
 pub mod credentials;
 pub mod hmac;
@@ -36,6 +37,7 @@ pub use crate::acting_rights::ActingRights;
 pub use crate::channel_binding::{
     ChannelBinding, ChannelBindings, ChannelData, ChannelDataLength, ChannelKind,
 };
+pub use crate::client_options::ClientOptions;
 pub use crate::client_secret::{ClientSecret, ClientSecretError, IterationLimits, OwnedSecret};
 pub use crate::credentials::{
     AddRecordError, DEFAULT_SALT_LEN, DEFAULT_SCRAM_ITERATIONS, MultiRecordStore, ReadLinesError,

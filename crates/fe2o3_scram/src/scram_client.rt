@@ -8,15 +8,14 @@ ghost use Rattle.fe2o3_scram.specs.ClientFirst.{client_first_with};
 ghost use Rattle.fe2o3_scram.specs.ClientKeys.{ClientKeys};
 ghost use Rattle.fe2o3_scram.specs.ClientSecret.{Password as ByPassword, IsOfVersion, kept_secret, secret_of};
 ghost use Rattle.fe2o3_scram.specs.Passwords.{Typed};
-ghost use Rattle.fe2o3_scram.specs.ScramClient.{ClientFirstSent, ClientFinalSent, SignatureVerified, AnswersIn, AnswerCostsIn, ChecksSignatureIn, ConcludesIn, VerifiesIn, ReachesSaltIn, ReachesVerifierIn, expects_signature, fresh_client, acting_for, header_in, identity_named, started, client_state_of, login_keys, with_channel, with_signature_by_challenge, with_limits, with_strict};
+ghost use Rattle.fe2o3_scram.specs.ScramClient.{ClientFirstSent, ClientFinalSent, SignatureVerified, AnswersIn, AnswerCostsIn, ChecksSignatureIn, ConcludesIn, VerifiesIn, ReachesSaltIn, ReachesVerifierIn, expects_signature, fresh_client, acting_for, header_in, identity_named, started, client_state_of, login_keys, with_maximum, with_options};
 ghost use Rattle.fe2o3_scram.specs.Readings.{Gives};
 
 mod saved;
 
 use crate::OutOfMemory;
-use crate::client_secret::{
-    ClientSecret, ClientSecretError, IterationLimits, OwnedPassword, OwnedSecret,
-};
+use crate::client_options::ClientOptions;
+use crate::client_secret::{ClientSecret, ClientSecretError, OwnedPassword, OwnedSecret};
 use crate::hmac::{Meter, ScramVersion};
 use crate::keys::CachedKeys;
 use crate::scram_messages::error::ScramErrorKind;
@@ -77,11 +76,8 @@ pub struct ScramClient {
     username: String,
     secret: OwnedSecret,
     scram: ScramVersion,
-    limits: IterationLimits,
-    channel: ClientChannel,
+    options: ClientOptions,
     acts_for: Option<String>,
-    strict: bool,
-    signature_by_challenge: bool,
     state: ScramClientState,
 
     /// The keys of the client-final message that was sent last, if the client still has them.
@@ -100,11 +96,11 @@ impl Model for ScramClient {
       user = string_bytes client.username;
       secret = kept_secret client.secret;
       version = client.scram;
-      limits = client.limits;
-      channel = client.channel;
+      limits = client.options.limits;
+      channel = client.options.channel;
       acts_for = option_map (λ name. string_bytes name) client.acts_for;
-      strict = client.strict;
-      signature_by_challenge = client.signature_by_challenge;
+      strict = client.options.strict;
+      signature_by_challenge = client.options.signature_by_challenge;
       state = client_state_of client.state client.keys;
     } };
 }
@@ -160,105 +156,56 @@ impl ScramClient {
             username,
             secret,
             scram,
-            limits: IterationLimits::none(),
-            channel: ClientChannel::Absent,
+            options: ClientOptions::new(),
             acts_for: None,
-            strict: false,
-            signature_by_challenge: false,
             state: ScramClientState::Initial,
             keys: None,
         }
     }
 
+    /// Returns this client, but with these options. Set them before the client-first message is sent. With
+    /// [`ClientChannel::Bound`] the client selects the mechanism with `-PLUS`.
+    ///
+    /// A strict client reads messages by the grammar of RFC 5802, section 7, after its other tests of a text:
+    ///
+    /// - the server's part of the nonce has to be printable and not empty (`ClientNonceMismatch`);
+    /// - the iteration count has to be without a sign or leading zeros (`IterationCountParseError`);
+    /// - what follows the count, or the signature, has to be an extension (`MisplacedAttribute`), also if the client
+    ///   has a channel, bound or not, or sends an authorization identity.
+    ///
+    /// If it verifies a server's signature, both agree on the whole login, collisions of HMAC values aside
+    /// (`laws::accepted_messages`), whether the server is strict or not.
+    pub fn with_options(mut self, options: ClientOptions) -> Self
+        ensures { result ≡ with_options self options }
+    {
+        self.options = options;
+        self
+    }
+
     /// Returns this client, but with a maximum iteration count, above which it rejects a challenge. The limit is for
     /// each challenge: it does not bound how many challenges are answered.
-    pub fn with_iteration_limit(self, limit: u32) -> Self
-        ensures { result ≡ with_limits self (record { min_iterations = self.limits.min_iterations; max_iterations = limit }) }
+    pub fn with_iteration_limit(mut self, limit: u32) -> Self
+        ensures { result ≡ with_maximum self limit }
     {
-        let limits = IterationLimits {
-            min_iterations: self.limits.min_iterations,
-            max_iterations: limit,
-        };
-        self.with_limits(limits)
-    }
-
-    /// Returns this client, but with a minimum iteration count, below which it rejects a challenge. Without one, a man
-    /// in the middle can have the client show an answer for the count 1, from which the password is soon guessed. RFC
-    /// 7677, section 4, asks for at least 4096.
-    pub fn with_min_iterations(self, min_iterations: u32) -> Self
-        ensures { result ≡ with_limits self
-            (record { min_iterations = min_iterations; max_iterations = self.limits.max_iterations }) }
-    {
-        let limits = IterationLimits {
-            min_iterations,
-            max_iterations: self.limits.max_iterations,
-        };
-        self.with_limits(limits)
-    }
-
-    /// Returns this client, but with these limits.
-    fn with_limits(self, limits: IterationLimits) -> Self
-        ensures { result ≡ with_limits self limits }
-    {
-        Self {
-            username: self.username,
-            secret: self.secret,
-            scram: self.scram,
-            limits,
-            channel: self.channel,
-            acts_for: self.acts_for,
-            strict: self.strict,
-            signature_by_challenge: self.signature_by_challenge,
-            state: self.state,
-            keys: self.keys,
-        }
-    }
-
-    /// Returns this client, but it says this of its channel (RFC 5802, section 6), in its next client-first message. Set
-    /// it before that message is sent. With [`ClientChannel::Bound`] the client selects the mechanism with `-PLUS`. A
-    /// client that has a channel, bound or not, tests extensions like a strict one.
-    pub fn with_channel(self, channel: ClientChannel) -> Self
-        ensures { result ≡ with_channel self channel }
-    {
-        Self {
-            username: self.username,
-            secret: self.secret,
-            scram: self.scram,
-            limits: self.limits,
-            channel,
-            acts_for: self.acts_for,
-            strict: self.strict,
-            signature_by_challenge: self.signature_by_challenge,
-            state: self.state,
-            keys: self.keys,
-        }
+        self.options.limits.max_iterations = limit;
+        self
     }
 
     /// Returns what the client says of its channel.
     pub fn channel(&self) -> ClientChannel
         ensures { result ≡ self.now.channel }
     {
-        self.channel
+        self.options.channel
     }
 
     /// Returns this client, but it acts for this identity (RFC 5802, section 5.1, `a=`), or for itself if there is none or
     /// it is empty. Set it before the client-first message is sent. The server has to accept that its user acts for the
     /// identity. A client that names one tests extensions like a strict one, so that nobody on the way can change it.
-    pub fn acting_for(self, acts_for: Option<String>) -> Self
+    pub fn acting_for(mut self, acts_for: Option<String>) -> Self
         ensures { result ≡ acting_for self (option_map (λ name. string_bytes name) acts_for) }
     {
-        Self {
-            username: self.username,
-            secret: self.secret,
-            scram: self.scram,
-            limits: self.limits,
-            channel: self.channel,
-            acts_for: identity_named(acts_for),
-            strict: self.strict,
-            signature_by_challenge: self.signature_by_challenge,
-            state: self.state,
-            keys: self.keys,
-        }
+        self.acts_for = identity_named(acts_for);
+        self
     }
 
     /// Returns the identity that the client acts for, or `None` if it acts for itself.
@@ -275,61 +222,14 @@ impl ScramClient {
     fn header(&self) -> ClientHeader<'_>
         ensures { result ≡ header_in self.now }
     {
-        ClientHeader::new(self.channel, self.acts_for())
-    }
-
-    /// Returns this client, but with this option: whether it is strict. A strict client reads messages by the grammar of
-    /// RFC 5802, section 7, after its other tests of a text:
-    ///
-    /// - the server's part of the nonce has to be printable and not empty (`ClientNonceMismatch`);
-    /// - the iteration count has to be without a sign or leading zeros (`IterationCountParseError`);
-    /// - what follows the count, or the signature, has to be an extension (`MisplacedAttribute`), also if the client
-    ///   has a channel, bound or not, or sends an authorization identity.
-    ///
-    /// If it verifies a server's signature, both agree on the whole login, collisions of HMAC values aside
-    /// (`laws::accepted_messages`), whether the server is strict or not.
-    pub fn strict(self, strict: bool) -> Self
-        ensures { result ≡ with_strict self strict }
-    {
-        Self {
-            username: self.username,
-            secret: self.secret,
-            scram: self.scram,
-            limits: self.limits,
-            channel: self.channel,
-            acts_for: self.acts_for,
-            strict,
-            signature_by_challenge: self.signature_by_challenge,
-            state: self.state,
-            keys: self.keys,
-        }
-    }
-
-    /// Returns this client, but with `accept` it accepts the server's signature in a challenge too: the server may send
-    /// its server-final message as a challenge, to which the client sends an empty response, and then an outcome
-    /// without data (RFC 4422, section 5). Without it the signature has to come in the outcome.
-    pub fn signature_by_challenge(self, accept: bool) -> Self
-        ensures { result ≡ with_signature_by_challenge self accept }
-    {
-        Self {
-            username: self.username,
-            secret: self.secret,
-            scram: self.scram,
-            limits: self.limits,
-            channel: self.channel,
-            acts_for: self.acts_for,
-            strict: self.strict,
-            signature_by_challenge: accept,
-            state: self.state,
-            keys: self.keys,
-        }
+        ClientHeader::new(self.options.channel, self.acts_for())
     }
 
     /// Returns whether this client accepts the server's signature in a challenge too.
     pub fn accepts_signature_by_challenge(&self) -> bool
         ensures { result ≡ self.now.signature_by_challenge }
     {
-        self.signature_by_challenge
+        self.options.signature_by_challenge
     }
 
     /// Returns the version, which is that of the client's mechanism (RFC 5802, section 4).
@@ -344,7 +244,7 @@ impl ScramClient {
     pub fn mechanism(&self) -> &'static str
         ensures { result.now ≡ mechanism_of self.now.version (is_bound self.now.channel) }
     {
-        self.scram.mechanism_with(self.channel.is_bound())
+        self.scram.mechanism_with(self.options.channel.is_bound())
     }
 
     /// Writes the client-first message (RFC 5802, section 7), with its GS2 header, and restarts the exchange in every
@@ -425,9 +325,9 @@ impl ScramClient {
                     self.secret.lent(),
                     server_first,
                     client_first_message_bare,
-                    self.limits,
+                    self.options.limits,
                     &self.header(),
-                    self.strict,
+                    self.options.strict,
                     meter,
                 )?;
                 self.state = ScramClientState::ClientFinalSent {
@@ -463,7 +363,7 @@ impl ScramClient {
                 self.scram.validate_server_final_with_header(
                     alloc,
                     &self.header(),
-                    self.strict,
+                    self.options.strict,
                     server_final,
                     server_signature,
                 )?;
@@ -479,7 +379,7 @@ impl ScramClient {
     pub fn expects_signature(&self) -> bool
         ensures { result ≡ expects_signature self.now }
     {
-        self.signature_by_challenge && self.server_signature().is_some()
+        self.options.signature_by_challenge && self.server_signature().is_some()
     }
 
     /// Verifies a server-final message that came in a challenge (RFC 4422, section 5). Answer it by an empty response,
@@ -501,7 +401,7 @@ impl ScramClient {
                 self.scram.validate_server_final_with_header(
                     alloc,
                     &self.header(),
-                    self.strict,
+                    self.options.strict,
                     server_final,
                     server_signature,
                 )?;
@@ -553,7 +453,7 @@ impl fmt::Debug for ScramClient {
         write!(
             f,
             "ScramClient {{ username: {:?}, scram: {:?}, iteration_limit: {}, .. }}",
-            self.username, self.scram, self.limits.max_iterations
+            self.username, self.scram, self.options.limits.max_iterations
         )
     }
 }
@@ -566,11 +466,8 @@ impl Clone for ScramClient {
             username: self.username.clone()?,
             secret: self.secret.clone()?,
             scram: self.scram,
-            limits: self.limits,
-            channel: self.channel,
+            options: self.options,
             acts_for: self.acts_for.clone()?,
-            strict: self.strict,
-            signature_by_challenge: self.signature_by_challenge,
             state: self.state.copy()?,
             keys: self.keys.clone()?,
         })

@@ -109,118 +109,18 @@ impl<C: ScramCredentialProvider> ScramAuthenticator<C> {
         }
     }
 
-    /// Returns this server, but with this option: whether it accepts the GS2 header `y,,` too. A client
-    /// with that header supports channel binding, and assumes that the server does not, since it was
-    /// offered no mechanism with `-PLUS` (RFC 5802, section 6). Its client-final message has to repeat
-    /// the header, and has only extensions between the nonce and the proof (`MisplacedAttribute`). A server
-    /// that offers such a mechanism must not accept that client.
-    pub fn accept_cbind_flag_y(self, accept: bool) -> Self
-        ensures provider { provider_in result ≡ provider_in self }
-        ensures rules { rules_in result ≡ record (rules_in self) { accept_cbind_flag_y = accept } }
-        ensures rights { rights_in result ≡ rights_in self }
-        ensures mock { mock_in result ≡ mock_in self }
-        ensures state { state_in result ≡ state_in self }
-    {
-        let rules = ServerRules {
-            accept_cbind_flag_y: accept,
-            ..self.rules
-        };
-        self.with_rules(rules)
-    }
-
-    /// Returns this server, but with this option: whether it is strict. A strict server reads messages by the grammar of
-    /// RFC 5802, section 7, after its other tests of a text:
-    ///
-    /// - the user name has to be of one or more characters and without NUL (`CannotParseUsername`);
-    /// - the client's nonce has to be printable and not empty (`CannotParseClientNonce`);
-    /// - what follows the nonce has to be an extension (`MisplacedAttribute`), also with `with_channels`.
-    ///
-    /// If a client verifies its signature, both agree on the whole login, collisions of HMAC values aside
-    /// (`laws::accepted_messages`), whether the client is strict or not. libpq sends an empty user name.
-    pub fn strict(self, strict: bool) -> Self
-        ensures provider { provider_in result ≡ provider_in self }
-        ensures rules { rules_in result ≡ record (rules_in self) { strict = strict } }
-        ensures rights { rights_in result ≡ rights_in self }
-        ensures mock { mock_in result ≡ mock_in self }
-        ensures state { state_in result ≡ state_in self }
-    {
-        let rules = ServerRules {
-            strict,
-            ..self.rules
-        };
-        self.with_rules(rules)
-    }
-
-    /// Returns this server, but with this option: whether it rejects what is no extension in the place of one
-    /// (`MisplacedAttribute`), as one with `with_channels` does in any case. An empty user name is accepted. A server that
-    /// offers SCRAM with and without `-PLUS` sets it for both (`laws::bound_channels`).
-    pub fn reject_misplaced(self, reject: bool) -> Self
-        ensures provider { provider_in result ≡ provider_in self }
-        ensures rules { rules_in result ≡ record (rules_in self) { reject_misplaced = reject } }
-        ensures rights { rights_in result ≡ rights_in self }
-        ensures mock { mock_in result ≡ mock_in self }
-        ensures state { state_in result ≡ state_in self }
-    {
-        let rules = ServerRules {
-            reject_misplaced: reject,
-            ..self.rules
-        };
-        self.with_rules(rules)
-    }
-
-    /// Returns this server, but it is one of the mechanism with `-PLUS` (RFC 5802, section 6): it accepts only clients
-    /// that bind this channel, by a kind of which it has the data, and tests extensions like a strict one. Offer it
-    /// beside a server without channel binding that does not accept `y,,`: an attacker then cannot make a client that
-    /// has a channel skip channel binding (`laws::bound_channels`).
-    pub fn with_channels(self, channels: ChannelBindings) -> Self
-        ensures provider { provider_in result ≡ provider_in self }
-        ensures rules { rules_in result ≡ record (rules_in self) { channels = Some channels } }
-        ensures rights { rights_in result ≡ rights_in self }
-        ensures mock { mock_in result ≡ mock_in self }
-        ensures state { state_in result ≡ state_in self }
-    {
-        let rules = ServerRules {
-            channels: Some(channels),
-            ..self.rules
-        };
-        self.with_rules(rules)
-    }
-
-    /// Returns this server, but with this option: whether a client may name an identity to act for (RFC 5802, section 5.1,
-    /// `a=`). By itself the option lets each user name only itself: `with_acting_rights` lets users act for others. The
-    /// server tests extensions like a strict one, so that both sides agree on the identity
-    /// (`laws::accepted_messages`). Without the option such a client gets `CannotParseGs2Header`.
-    pub fn accept_authzid(self, accept: bool) -> Self
-        ensures provider { provider_in result ≡ provider_in self }
-        ensures rules { rules_in result ≡ record (rules_in self) { accept_authzid = accept } }
-        ensures rights { rights_in result ≡ rights_in self }
-        ensures mock { mock_in result ≡ mock_in self }
-        ensures state { state_in result ≡ state_in self }
-    {
-        let rules = ServerRules {
-            accept_authzid: accept,
-            ..self.rules
-        };
-        self.with_rules(rules)
-    }
-
     /// Returns this server, but by these rights users may act for other identities than their own. A client names one only
-    /// with `accept_authzid`. The right is tested after the proof: a user without it gets `AuthenticationFailed`, like
+    /// if the rules accept it. The right is tested after the proof: a user without it gets `AuthenticationFailed`, like
     /// one with a wrong password, at the same cost.
-    pub fn with_acting_rights(self, rights: Arc<ActingRights>) -> Self
+    pub fn with_acting_rights(mut self, rights: Arc<ActingRights>) -> Self
         ensures provider { provider_in result ≡ provider_in self }
         ensures rules { rules_in result ≡ rules_in self }
         ensures rights { rights_in result ≡ rights.value }
         ensures mock { mock_in result ≡ mock_in self }
         ensures state { state_in result ≡ state_in self }
     {
-        Self {
-            credentials: self.credentials,
-            rules: self.rules,
-            rights: SharedRights::of(rights),
-            mock: self.mock,
-            state: self.state,
-        }
+        self.rights = SharedRights::of(rights);
+        self
     }
 
     /// Returns the name of the server's mechanism (RFC 5802, sections 4 and 6), which ends with `-PLUS` if the server
@@ -233,21 +133,22 @@ impl<C: ScramCredentialProvider> ScramAuthenticator<C> {
             .mechanism_with(self.rules.channels.is_some())
     }
 
-    /// Returns this server, but with these rules for the messages of a client.
-    pub fn with_rules(self, rules: ServerRules) -> Self
+    /// Returns this server, but with these rules for the messages of a client. If a client verifies the signature of a strict
+    /// server, both agree on the whole login, collisions of HMAC values aside (`laws::accepted_messages`), whether the
+    /// client is strict or not.
+    ///
+    /// With channels it is a server of the mechanism with `-PLUS`. Offer it beside a server without channel binding that
+    /// does not accept `y,,`: an attacker then cannot make a client that has a channel skip channel binding
+    /// (`laws::bound_channels`).
+    pub fn with_rules(mut self, rules: ServerRules) -> Self
         ensures provider { provider_in result ≡ provider_in self }
         ensures rules { rules_in result ≡ rules }
         ensures rights { rights_in result ≡ rights_in self }
         ensures mock { mock_in result ≡ mock_in self }
         ensures state { state_in result ≡ state_in self }
     {
-        Self {
-            credentials: self.credentials,
-            rules,
-            rights: self.rights,
-            mock: self.mock,
-            state: self.state,
-        }
+        self.rules = rules;
+        self
     }
 
     /// Returns the store of credentials.

@@ -19,8 +19,8 @@ use crate::keys::ScramKeys;
 use crate::passwords::password_in;
 use crate::status::{Status, text, version_of};
 use fe2o3_scram::{
-    CachedKeys, ClientChannel, ClientHeader, ClientSecret, IterationLimits, ScramClient as Machine,
-    ScramVersion,
+    CachedKeys, ClientChannel, ClientHeader, ClientOptions, ClientSecret, IterationLimits,
+    ScramClient as Machine, ScramVersion,
 };
 use std::alloc::Global;
 
@@ -331,15 +331,15 @@ impl Login<'_> {
         let acts_for = identity_in(self.acts_for)?.to_string(alloc)?;
         let username = text(self.username)?.to_string(alloc)?;
         match self.by_secret(alloc, username, version) {
-            Ok(client) => Ok(
-                client
-                    .with_min_iterations(self.min_iterations)
-                    .with_iteration_limit(self.max_iterations)
-                    .with_channel(channel)
-                    .acting_for(Some(acts_for))
-                    .strict(is_set(self.strict))
-                    .signature_by_challenge(is_set(self.signature_by_challenge)),
-            ),
+            Ok(client) => {
+                let options = ClientOptions {
+                    limits: self.limits(),
+                    signature_by_challenge: is_set(self.signature_by_challenge),
+                    strict: is_set(self.strict),
+                    channel,
+                };
+                Ok(client.with_options(options).acting_for(Some(acts_for)))
+            }
             Err(status) => Err(status),
         }
     }

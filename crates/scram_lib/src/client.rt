@@ -8,7 +8,10 @@ use crate::done::Done;
 use crate::task::Process;
 use crate::{keys, nonces};
 use fe2o3_scram::secrets::SecretText;
-use fe2o3_scram::{CachedKeys, ClientSecret, Password, ScramClient, ScramErrorKind, ScramVersion};
+use fe2o3_scram::{
+    CachedKeys, ClientOptions, ClientSecret, IterationLimits, Password, ScramClient,
+    ScramErrorKind, ScramVersion,
+};
 use saslprep::Unassigned;
 use scram_base_lib::backend::Backend;
 use scram_base_lib::channel::client_channel;
@@ -100,12 +103,16 @@ impl Login<'_> {
         let user = self.user.to_string(rt.alloc())?;
         let acts_for = self.identity(rt.alloc())?;
         let client = ScramClient::with_secret(rt.alloc(), user, secret, self.version)?;
-        let client = client
-            .acting_for(acts_for)
-            .with_min_iterations(self.min_iterations)
-            .with_iteration_limit(self.max_iterations)
-            .with_channel(channel)
-            .strict(self.strict);
+        let options = ClientOptions {
+            limits: IterationLimits {
+                min_iterations: self.min_iterations,
+                max_iterations: self.max_iterations,
+            },
+            signature_by_challenge: false,
+            strict: self.strict,
+            channel,
+        };
+        let client = client.with_options(options).acting_for(acts_for);
         Ok(Box::new(rt.alloc(), client)?)
     }
 

@@ -3,8 +3,8 @@
 use crate::events::{Side, answer_events};
 use crate::servers::take_restored;
 use fe2o3_sasl_negotiation::{
-    ChannelBinding, ChannelData, ChannelKind, ClientNegotiation, ClientPolicy, ClientSecret,
-    Password, SaslProfile, ScramClient, ScramVersion, Snapshot, restored_client,
+    ChannelBinding, ChannelData, ChannelKind, ClientNegotiation, ClientOptions, ClientPolicy,
+    ClientSecret, Password, SaslProfile, ScramClient, ScramVersion, Snapshot, restored_client,
 };
 use test_rows::{Row, call};
 
@@ -45,11 +45,11 @@ pub fn named_by(row: &mut Row<'_>) -> Option<(SaslProfile, Option<String>, usize
         "PLAIN" => SaslProfile::plain(user, password),
         name => {
             let version = ScramVersion::from_mechanism(name)?;
-            let client = ScramClient::new(user, password, version)
-                .with_iteration_limit(iterations)
-                .signature_by_challenge(by_challenge)
-                .acting_for(identity);
-            SaslProfile::from(client)
+            let mut options = ClientOptions::new();
+            options.limits.max_iterations = iterations;
+            options.signature_by_challenge = by_challenge;
+            let client = ScramClient::new(user, password, version).with_options(options);
+            SaslProfile::from(client.acting_for(identity))
         }
     };
     Some((profile, hostname, limit))

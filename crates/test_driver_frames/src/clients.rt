@@ -137,10 +137,7 @@ pub fn check_scram(row: &mut Row<'_>, run: &Run<'_>, kind: &str) {
     let words = (user.as_str(), password.as_str(), version);
     again!(row: run_scram(row, words, options, &run.events));
     run.agree(row);
-    let client = ScramClient::new(user, password, version)
-        .with_iteration_limit(options.limits.max_iterations)
-        .with_channel(options.channel)
-        .strict(options.strict);
+    let client = ScramClient::new(user, password, version).with_options(options);
     if let Some(mut client) = client_of(row, Some(SaslProfile::from(client))) {
         check_steps(row, run, &mut client);
     }
@@ -180,10 +177,12 @@ fn profile_of(row: &mut Row<'_>, kind: &str) -> Option<SaslProfile> {
         "both" | "prepared-both" => (row.text_of_digits(), keys_for(row, mechanism, kind)),
         _ => (row.text_of_digits(), None),
     };
-    let least = if kind == "both" { row.number() } else { 1 };
-    let mut limit = u32::MAX;
+    let mut options = ClientOptions::new();
+    if kind == "both" {
+        options.limits.min_iterations = row.number();
+    }
     if !row.is_over() {
-        limit = row.number();
+        options.limits.max_iterations = row.number();
     }
     match mechanism {
         "ANONYMOUS" => Some(SaslProfile::Anonymous),
@@ -196,8 +195,7 @@ fn profile_of(row: &mut Row<'_>, kind: &str) -> Option<SaslProfile> {
             let version = ScramVersion::from_mechanism(name)?;
             let secret = secret_of(kind, &password, &keys);
             let client = ScramClient::with_secret(row.alloc, user, secret, version).ok()?;
-            let client = client.with_min_iterations(least);
-            Some(SaslProfile::from(client.with_iteration_limit(limit)))
+            Some(SaslProfile::from(client.with_options(options)))
         }
     }
 }

@@ -109,24 +109,22 @@ pub fn client_of(row: &mut Row<'_>) -> Option<ScramClient> {
 
 /// Returns the client with the options of the words, up to their end or the word `.`.
 fn with_options(row: &mut Row<'_>, mut client: ScramClient) -> ScramClient {
+    let mut options = ClientOptions::new();
     for _ in 0..9 {
         if row.is_over() || row.takes(".") {
             break;
         }
-        client = match row.word() {
-            "strict" => client.strict(true),
-            "by_challenge" => client.signature_by_challenge(true),
+        match row.word() {
+            "strict" => options.strict = true,
+            "by_challenge" => options.signature_by_challenge = true,
             "limits" => {
-                let client = client.with_min_iterations(row.number());
-                client.with_iteration_limit(row.number())
+                options.limits.min_iterations = row.number();
+                options.limits.max_iterations = row.number();
             }
-            "channel" => client.with_channel(channel_of(row)),
-            "acts_for" => client.acting_for(Some(row.text())),
-            word => {
-                row.refuse(word);
-                client
-            }
-        };
+            "channel" => options.channel = channel_of(row),
+            "acts_for" => client = client.acting_for(Some(row.text())),
+            word => row.refuse(word),
+        }
     }
-    client
+    client.with_options(options)
 }

@@ -12,9 +12,9 @@ use Rattle.fe2o3_scram.specs.declared.hmac.ScramVersion.TheVariants.{Sha1, Sha25
 use Rattle.fe2o3_scram.specs.declared.scram_messages.client_channel.ClientChannel.{ClientChannel}
 use Rattle.fe2o3_scram.specs.declared.scram_messages.client_channel.ClientChannel.TheVariants.{Absent, Bound, NotOffered}
 use Rattle.fe2o3_scram.specs.ClientSecret.{Secret, Password, Keys, Both}
-use Rattle.fe2o3_scram.specs.ScramClient.{ClientSide, fresh_client, identity_named, with_channel, with_limits}
+use Rattle.fe2o3_scram.specs.ScramClient.{ClientSide, fresh_client, identity_named, with_options}
 use Rattle.fe2o3_sasl_core.specs.ActingProfiles.{acting_profile}
-use Rattle.fe2o3_sasl_core.specs.ClientPolicy.{bound_channel, keys_for_version, plain_by, profile_by, scram_by, secret_for, unbound_channel}
+use Rattle.fe2o3_sasl_core.specs.ClientPolicy.{bound_channel, keys_for_version, plain_by, profile_by, scram_by, scram_options, secret_for, unbound_channel}
 use Rattle.fe2o3_sasl_core.specs.Events.{IsSecret, Login}
 use Rattle.fe2o3_sasl_core.specs.ProfileMachine.{IsActing, IsSelected}
 use Rattle.fe2o3_sasl_core.specs.Profiles.{AnonymousMessage, AnonymousProfile, ExternalMessage, ExternalProfile, MessageProfile, Profile, ScramProfile, Selection, scram_profile}
@@ -29,7 +29,7 @@ use Rattle.connection_laws.proofs.lemmas.ProfileKindLemmas.{kind}
 -- a client of SCRAM that a policy selects
 abbrev chosen_client : ClientPolicy → List ℕ → ScramVersion → Secret → ClientChannel → ClientSide
 chosen_client policy user version own channel =
-    with_channel (with_limits (fresh_client user version own) policy.limits) channel
+    with_options (fresh_client user version own) (scram_options policy channel)
 
 -- a profile of SCRAM that a policy selects
 record IsScramOf (policy : ClientPolicy) (user : List ℕ) (secret : Secret) (chosen : Profile) : Type 0 where

@@ -8,7 +8,8 @@ use super::accounts::{Account, Accounts};
 use crate::login::fresh;
 use anyhow::{Context, Result};
 use fe2o3_scram::{
-    DEFAULT_SCRAM_ITERATIONS, ScramAuthenticator, ScramClient, ScramRecord, ScramVersion,
+    ClientOptions, DEFAULT_SCRAM_ITERATIONS, IterationLimits, ScramAuthenticator, ScramClient,
+    ScramRecord, ScramVersion,
 };
 use std::alloc::Global;
 use std::random::RandomSource;
@@ -94,8 +95,13 @@ fn client(alloc: Global, name: &str, password: &str) -> Result<ScramClient> {
     let name = name.to_string(alloc)?;
     let password = password.to_string(alloc)?;
     let client = ScramClient::new(name, password, ScramVersion::Sha256);
-    let client = client.with_min_iterations(4096);
-    Ok(client.with_iteration_limit(100_000))
+    Ok(client.with_options(ClientOptions {
+        limits: IterationLimits {
+            min_iterations: 4096,
+            max_iterations: 100_000,
+        },
+        ..ClientOptions::new()
+    }))
 }
 
 /// The four messages, with a fresh nonce of each side.

@@ -1,13 +1,15 @@
 //! Profiles that ask to act for another identity than their user (RFC 4422, section 2).
 
-ghost use Rattle.std.specs.Prelude.{◌≡◌, MatchOption, Some, string_bytes};
+ghost use Rattle.std.specs.Prelude.{◌≡◌, MatchOption, Some, option_map, string_bytes};
+ghost use Rattle.fe2o3_scram.specs.ScramClient.{acting_for};
 ghost use Rattle.fe2o3_sasl_core.specs.ActingProfiles.{CanActFor, acting_profile};
 ghost use Rattle.fe2o3_sasl_core.specs.PlainWords.{ArePlainWords};
-ghost use Rattle.fe2o3_sasl_core.specs.Profiles.{PlainProfile};
+ghost use Rattle.fe2o3_sasl_core.specs.Profiles.{PlainProfile, ScramProfile};
 ghost use Rattle.fe2o3_sasl_core.specs.SaslProfile.{profile_of};
 
 use super::SaslProfile;
 use crate::plain_server::{is_plain_word, lacks_zero};
+use fe2o3_scram::scram_client::ScramClient;
 use fe2o3_scram::secrets::SecretText;
 
 impl SaslProfile {
@@ -42,15 +44,9 @@ impl SaslProfile {
             } => plain_as(identity, username, password),
             SaslProfile::External => Some(SaslProfile::external_as(identity)),
             SaslProfile::ExternalAs(_) => Some(SaslProfile::external_as(identity)),
-            SaslProfile::ScramSha1(scram) => {
-                Some(SaslProfile::ScramSha1(scram.acting_for(Some(identity))))
-            }
-            SaslProfile::ScramSha256(scram) => {
-                Some(SaslProfile::ScramSha256(scram.acting_for(Some(identity))))
-            }
-            SaslProfile::ScramSha512(scram) => {
-                Some(SaslProfile::ScramSha512(scram.acting_for(Some(identity))))
-            }
+            SaslProfile::ScramSha1(scram) => scram_as(identity, scram.client),
+            SaslProfile::ScramSha256(scram) => scram_as(identity, scram.client),
+            SaslProfile::ScramSha512(scram) => scram_as(identity, scram.client),
             SaslProfile::ByPolicy(login) => {
                 let mut login = login;
                 login.act_for(identity);
@@ -58,6 +54,13 @@ impl SaslProfile {
             }
         }
     }
+}
+
+/// Returns the profile of a SCRAM client that names this identity.
+fn scram_as(identity: String, client: ScramClient) -> Option<SaslProfile>
+    ensures { option_map profile_of result ≡ Some (ScramProfile (acting_for client (Some (string_bytes identity)))) }
+{
+    Some(SaslProfile::scram_of(client.acting_for(Some(identity))))
 }
 
 /// Returns the profile of PLAIN that names this identity, or `None` if no message may have the other words.

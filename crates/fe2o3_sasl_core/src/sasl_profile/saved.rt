@@ -2,12 +2,12 @@
 
 ghost use Rattle.std.specs.Prelude.{◌≡◌, ◌≢◌, Option, Some, None, false, ℕ, List, MatchOption};
 ghost use Rattle.fe2o3_scram.specs.ClientKeys.{ClientKeys};
-ghost use Rattle.fe2o3_scram.specs.ScramClient.{ClientInitial, ClientFirstSent, ClientFinalSent, SignatureVerified, answer_keys, login_keys};
+ghost use Rattle.fe2o3_scram.specs.ScramClient.{ClientInitial, ClientFirstSent, ClientFinalSent, SignatureVerified, answer_keys, login_keys, with_state};
 ghost use Rattle.fe2o3_scram.specs.Texts.{base64_text};
 ghost use Rattle.fe2o3_sasl_core.specs.Profiles.{ScramProfile, accepts_signature_by_challenge, answers_empty_challenge, is_scram, profile_state, in_state};
 ghost use Rattle.fe2o3_sasl_core.specs.SaslProfile.{profile_of, variant_version};
 
-use super::{SaslProfile, SaslScramSha1, SaslScramSha256, SaslScramSha512};
+use super::SaslProfile;
 use fe2o3_scram::cached_keys::CachedKeys;
 use fe2o3_scram::scram_client::ScramClient;
 
@@ -86,24 +86,9 @@ impl SaslProfile {
         ensures { profile_of result ≡ in_state (profile_of self) (ClientFinalSent server_signature.items keys) }
     {
         match self {
-            SaslProfile::ScramSha1(scram) => {
-                let client = scram
-                    .client
-                    .restore_client_final_sent(server_signature, keys);
-                SaslProfile::ScramSha1(SaslScramSha1::of(client))
-            }
-            SaslProfile::ScramSha256(scram) => {
-                let client = scram
-                    .client
-                    .restore_client_final_sent(server_signature, keys);
-                SaslProfile::ScramSha256(SaslScramSha256::of(client))
-            }
-            SaslProfile::ScramSha512(scram) => {
-                let client = scram
-                    .client
-                    .restore_client_final_sent(server_signature, keys);
-                SaslProfile::ScramSha512(SaslScramSha512::of(client))
-            }
+            SaslProfile::ScramSha1(scram) => final_sent(scram.client, server_signature, keys),
+            SaslProfile::ScramSha256(scram) => final_sent(scram.client, server_signature, keys),
+            SaslProfile::ScramSha512(scram) => final_sent(scram.client, server_signature, keys),
             profile => profile,
         }
     }
@@ -116,23 +101,20 @@ impl SaslProfile {
     {
         match self {
             SaslProfile::ScramSha1(scram) => {
-                let client = scram.client.restore_signature_verified(keys);
-                SaslProfile::ScramSha1(SaslScramSha1::of(client))
+                SaslProfile::scram_of(scram.client.restore_signature_verified(keys))
             }
             SaslProfile::ScramSha256(scram) => {
-                let client = scram.client.restore_signature_verified(keys);
-                SaslProfile::ScramSha256(SaslScramSha256::of(client))
+                SaslProfile::scram_of(scram.client.restore_signature_verified(keys))
             }
             SaslProfile::ScramSha512(scram) => {
-                let client = scram.client.restore_signature_verified(keys);
-                SaslProfile::ScramSha512(SaslScramSha512::of(client))
+                SaslProfile::scram_of(scram.client.restore_signature_verified(keys))
             }
             profile => profile,
         }
     }
 
     /// Returns whether the server's signature is accepted in a challenge too, by the option
-    /// [`ScramClient::signature_by_challenge`] of a SCRAM profile.
+    /// `ClientOptions::signature_by_challenge` of a SCRAM profile.
     pub fn accepts_signature_by_challenge(&self) -> bool
         ensures { result ≡ accepts_signature_by_challenge (profile_of self.now) }
     {
@@ -153,4 +135,15 @@ impl SaslProfile {
             _ => false,
         }
     }
+}
+
+/// Returns the profile of a client in the state after its client-final message.
+fn final_sent(
+    client: ScramClient,
+    server_signature: Vec<u8>,
+    keys: Option<CachedKeys>,
+) -> SaslProfile
+    ensures { profile_of result ≡ ScramProfile (with_state client (ClientFinalSent server_signature.items keys)) }
+{
+    SaslProfile::scram_of(client.restore_client_final_sent(server_signature, keys))
 }

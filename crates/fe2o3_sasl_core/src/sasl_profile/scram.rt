@@ -1,16 +1,16 @@
 //! The SCRAM profiles: one type over the versions (RFC 5802, section 5), and a name for each of the three.
 
-ghost use Rattle.std.specs.Prelude.{◌≡◌, ◌↔◌, IfOk, MatchOption, Some, None, string_bytes, option_map};
+ghost use Rattle.std.specs.Prelude.{◌≡◌, ◌↔◌, IfOk, MatchOption, Some, None, string_bytes};
 ghost use Rattle.fe2o3_scram.specs.declared.hmac.ScramVersion.{ScramVersion};
 ghost use Rattle.fe2o3_scram.specs.declared.hmac.ScramVersion.TheVariants.{Sha1, Sha256, Sha512};
 ghost use Rattle.fe2o3_scram.specs.ClientSecret.{IsOfVersion, no_limit, secret_of};
-ghost use Rattle.fe2o3_scram.specs.ScramClient.{acting_for, fresh_client, login_keys, with_channel, with_limits, with_signature_by_challenge, with_strict};
+ghost use Rattle.fe2o3_scram.specs.ScramClient.{fresh_client, login_keys, with_maximum, with_options};
 ghost use Rattle.fe2o3_sasl_core.specs.Profiles.{ScramProfile, scram_profile};
 ghost use Rattle.fe2o3_sasl_core.specs.Runs.{login_of};
 ghost use Rattle.fe2o3_sasl_core.specs.SaslProfile.{profile_of, variant_version};
 
 use super::SaslProfile;
-use fe2o3_scram::ClientChannel;
+use fe2o3_scram::ClientOptions;
 use fe2o3_scram::cached_keys::CachedKeys;
 use fe2o3_scram::client_secret::{ClientSecret, ClientSecretError};
 use fe2o3_scram::hmac::ScramVersion;
@@ -132,50 +132,17 @@ impl<V: OfVersion> SaslScram<V> {
     /// Returns this client, but with a maximum iteration count, above which it rejects a challenge. The limit is for
     /// each challenge: it does not bound how many challenges are answered.
     pub fn with_iteration_limit(self, limit: u32) -> Self
-        ensures { result ≡ with_limits self (record { min_iterations = self.limits.min_iterations; max_iterations = limit }) }
+        ensures { result ≡ with_maximum self limit }
     {
         Self::of(self.client.with_iteration_limit(limit))
     }
 
-    /// Returns this client, but with a minimum iteration count, below which it rejects a challenge by
-    /// `IterationCountTooSmall`. RFC 7677, section 4, asks for at least 4096.
-    pub fn with_min_iterations(self, min_iterations: u32) -> Self
-        ensures { result ≡ with_limits self
-            (record { min_iterations = min_iterations; max_iterations = self.limits.max_iterations }) }
+    /// Returns this client, but with these options ([`ScramClient::with_options`]). With `ClientChannel::Bound` its
+    /// mechanism is the one with `-PLUS`.
+    pub fn with_options(self, options: ClientOptions) -> Self
+        ensures { result ≡ with_options self options }
     {
-        Self::of(self.client.with_min_iterations(min_iterations))
-    }
-
-    /// Returns this client, but it says this of its channel (RFC 5802, section 6). With `ClientChannel::Bound` its
-    /// mechanism is the one with `-PLUS` ([`ScramClient::with_channel`]).
-    pub fn with_channel(self, channel: ClientChannel) -> Self
-        ensures { result ≡ with_channel self channel }
-    {
-        Self::of(self.client.with_channel(channel))
-    }
-
-    /// Returns this client, but it acts for this identity (RFC 5802, section 5.1, `a=`), or for itself if there is none
-    /// ([`ScramClient::acting_for`]).
-    pub fn acting_for(self, acts_for: Option<String>) -> Self
-        ensures { result ≡ acting_for self (option_map (λ name. string_bytes name) acts_for) }
-    {
-        Self::of(self.client.acting_for(acts_for))
-    }
-
-    /// Returns this client, but strict if `strict` is true: it rejects messages that the grammar of RFC 5802, section 7,
-    /// does not allow ([`ScramClient::strict`]).
-    pub fn strict(self, strict: bool) -> Self
-        ensures { result ≡ with_strict self strict }
-    {
-        Self::of(self.client.strict(strict))
-    }
-
-    /// Returns this client, but with `accept` it accepts the server's signature in a challenge too
-    /// ([`ScramClient::signature_by_challenge`]).
-    pub fn signature_by_challenge(self, accept: bool) -> Self
-        ensures { result ≡ with_signature_by_challenge self accept }
-    {
-        Self::of(self.client.signature_by_challenge(accept))
+        Self::of(self.client.with_options(options))
     }
 
     /// Returns the keys of the login, once it has ended with a verified server, and `None` before that (RFC 5802,

@@ -13,6 +13,7 @@ use crate::client_policy::{
     BY_STRENGTH, ClientPolicy, Mechanism, bound_channel, first_taken, secret_for, unbound_channel,
 };
 use crate::offer::Offer;
+use fe2o3_scram::ClientOptions;
 use fe2o3_scram::client_secret::{ClientSecret, ClientSecretError};
 use fe2o3_scram::hmac::ScramVersion;
 use fe2o3_scram::scram_client::ScramClient;
@@ -66,9 +67,12 @@ fn scram_profile(
     let username = String::from_str(alloc, username)?;
     match ScramClient::with_secret(alloc, username, secret, version) {
         Ok(client) => {
-            let client = client.with_min_iterations(policy.limits.min_iterations);
-            let client = client.with_iteration_limit(policy.limits.max_iterations);
-            Ok(Some(SaslProfile::scram_of(client.with_channel(channel))))
+            let options = ClientOptions {
+                limits: policy.limits,
+                channel,
+                ..ClientOptions::new()
+            };
+            Ok(Some(SaslProfile::scram_of(client.with_options(options))))
         }
         Err(ClientSecretError::OutOfMemory) => Err(OutOfMemory),
         Err(ClientSecretError::VersionMismatch) => unreachable!(),

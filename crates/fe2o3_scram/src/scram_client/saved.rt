@@ -75,42 +75,24 @@ impl ScramClient {
     /// Returns this client in the state after its client-final message, in which it waits for this
     /// signature. With the keys of that answer it returns them by `keys` once the server is verified.
     pub fn restore_client_final_sent(
-        self,
+        mut self,
         server_signature: Vec<u8>,
         keys: Option<CachedKeys>,
     ) -> Self
         ensures { result ≡ with_state self (ClientFinalSent server_signature.items keys) }
     {
-        Self {
-            username: self.username,
-            secret: self.secret,
-            scram: self.scram,
-            limits: self.limits,
-            channel: self.channel,
-            acts_for: self.acts_for,
-            strict: self.strict,
-            signature_by_challenge: self.signature_by_challenge,
-            state: ScramClientState::ClientFinalSent { server_signature },
-            keys,
-        }
+        self.state = ScramClientState::ClientFinalSent { server_signature };
+        self.keys = keys;
+        self
     }
 
     /// Returns this client in the state after a challenge with the server's signature, in which it waits for an outcome
     /// without data. With the keys of its answer it returns them by `keys` after that outcome.
-    pub fn restore_signature_verified(self, keys: Option<CachedKeys>) -> Self
+    pub fn restore_signature_verified(mut self, keys: Option<CachedKeys>) -> Self
         ensures { result ≡ with_state self (SignatureVerified keys) }
     {
-        Self {
-            username: self.username,
-            secret: self.secret,
-            scram: self.scram,
-            limits: self.limits,
-            channel: self.channel,
-            acts_for: self.acts_for,
-            strict: self.strict,
-            signature_by_challenge: self.signature_by_challenge,
-            state: ScramClientState::SignatureVerified,
-            keys,
-        }
+        self.state = ScramClientState::SignatureVerified;
+        self.keys = keys;
+        self
     }
 }

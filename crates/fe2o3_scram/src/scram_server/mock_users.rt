@@ -98,7 +98,7 @@ impl<C: ScramCredentialProvider> ScramAuthenticator<C> {
     ///
     /// The only error is `SaltTooLong`, for salts of more than 64 bytes.
     pub fn mock_unknown_users(
-        self,
+        mut self,
         secret: Vec<u8>,
         salt_len: usize,
         iterations: u32,
@@ -116,18 +116,13 @@ impl<C: ScramCredentialProvider> ScramAuthenticator<C> {
             return Err(SaltTooLong);
         }
         let scram_version = *self.credentials.scram_version();
-        Ok(Self {
-            credentials: self.credentials,
-            rules: self.rules,
-            rights: self.rights,
-            mock: Some(KeptMock {
-                scram_version,
-                secret: SecretBytes::new(secret),
-                salt_len,
-                iterations,
-            }),
-            state: self.state,
-        })
+        self.mock = Some(KeptMock {
+            scram_version,
+            secret: SecretBytes::new(secret),
+            salt_len,
+            iterations,
+        });
+        Ok(self)
     }
 }
 

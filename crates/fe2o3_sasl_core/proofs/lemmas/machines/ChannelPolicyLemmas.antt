@@ -12,10 +12,10 @@ use Rattle.fe2o3_scram.specs.ChannelBinding.{flag_of, is_bound, mechanism_of, pl
 use Rattle.fe2o3_scram.specs.ClientFirst.{client_first_bare, client_first_with}
 use Rattle.fe2o3_scram.specs.ClientSecret.{Secret, Password, Keys, Both}
 use Rattle.fe2o3_scram.specs.Hmac.{mechanism_name}
-use Rattle.fe2o3_scram.specs.ScramClient.{ClientSide, fresh_client, with_channel, with_limits}
+use Rattle.fe2o3_scram.specs.ScramClient.{ClientSide, fresh_client, with_options}
 use Rattle.fe2o3_scram.specs.Texts.{base64_text}
 use Rattle.fe2o3_scram.proofs.lemmas.texts.DecisionLemmas.{Decided, same_or}
-use Rattle.fe2o3_sasl_core.specs.ClientPolicy.{CanTake, IsFirstTaken, SelectsProfile, bound_channel, by_strength, is_allowed, is_from, policy_name, profile_by, scram_by, secret_for, unbound_channel}
+use Rattle.fe2o3_sasl_core.specs.ClientPolicy.{CanTake, IsFirstTaken, SelectsProfile, bound_channel, by_strength, is_allowed, is_from, policy_name, profile_by, scram_by, scram_options, secret_for, unbound_channel}
 use Rattle.fe2o3_sasl_core.specs.ClientPolicyLaws.{BeginsWithHeader, BindsExactly, IsAllowedByName, OfferedChannelIsBound, OffersBinding, OffersUnbound, RequiredChannelIsBound, SaysNotOffered, SelectedScramHasChannel, SelectionKeepsChannel, UnofferedChannelIsSaid}
 use Rattle.fe2o3_sasl_core.specs.Profiles.{Profile, ScramProfile, initial_response, profile_name}
 use Rattle.fe2o3_sasl_core.specs.declared.client_policy.ClientPolicy.{ClientPolicy}
@@ -106,7 +106,7 @@ scram_with : (policy : ClientPolicy) (channel : ClientChannel) (user : List ℕ)
     → IsScramWith channel version profile
 scram_with policy channel user version None profile is = absurd (cc)
 scram_with policy channel user version (Some secret) profile is = record {
-  client = with_channel (with_limits (fresh_client user version secret) policy.limits) channel;
+  client = with_options (fresh_client user version secret) (scram_options policy channel);
   scram = sym (the_some _ profile is);
   channel_is = refl;
   own = refl;

@@ -4,7 +4,7 @@ use Rattle.fe2o3_scram.specs.ClientSecret.{no_limit, up_to}
 use Rattle.fe2o3_scram.specs.declared.client_secret.IterationLimits.{IterationLimits}
 use Rattle.fe2o3_scram.specs.declared.hmac.ScramVersion.{ScramVersion}
 use Rattle.fe2o3_scram.specs.declared.scram_messages.client_channel.ClientChannel.TheVariants.{Absent}
-use Rattle.fe2o3_sasl_core.specs.declared.client_options.ClientOptions.{ClientOptions}
+use Rattle.fe2o3_scram.specs.declared.client_options.ClientOptions.{ClientOptions}
 use Rattle.fe2o3_sasl_core.specs.Runs.{login_of, login_with}
 
 -- the options without any

@@ -1,13 +1,13 @@
-//! The options of a SCRAM client in a run and in an audit.
+//! The options of a SCRAM client.
 
 ghost use Rattle.std.specs.Prelude.{◌≡◌, false};
 ghost use Rattle.fe2o3_scram.specs.ClientSecret.{no_limit, up_to};
 ghost use Rattle.fe2o3_scram.specs.declared.scram_messages.client_channel.ClientChannel.TheVariants.{Absent};
 
-use fe2o3_scram::ClientChannel;
-use fe2o3_scram::client_secret::IterationLimits;
+use crate::client_secret::IterationLimits;
+use crate::scram_messages::ClientChannel;
 
-/// The options of the SCRAM client of a whole run or of an audit. `ScramClient` has a method for each.
+/// The options of a SCRAM client.
 #[derive(Debug, Clone, Copy, PartialEq, Eq)]
 pub struct ClientOptions {
     /// The iteration counts that the client accepts. RFC 7677, section 4, asks for at least 4096.
@@ -18,7 +18,7 @@ pub struct ClientOptions {
     pub signature_by_challenge: bool,
 
     /// Whether the client is strict: it rejects messages that the grammar of RFC 5802, section 7, does not allow
-    /// ([`ScramClient::strict`]).
+    /// (`ScramClient::with_options`).
     pub strict: bool,
 
     /// What the client says of its channel (RFC 5802, section 6). With `ClientChannel::Bound` its mechanism is the one
