@@ -30,7 +30,6 @@ pub mod ServerLoginLemmas
 pub mod ServerFunctionLemmas
 pub mod ServedLemmas
 pub mod ServerStepLemmas
-pub mod WayLemmas
 pub mod RestLoginLemmas
 pub mod ConnectionLoginLemmas
 pub mod ConnectionUserLemmas

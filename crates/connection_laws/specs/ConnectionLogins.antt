@@ -15,9 +15,10 @@ use Rattle.fe2o3_scram.specs.Texts.{base64_text}
 use Rattle.fe2o3_scram.specs.declared.hmac.ScramVersion.{ScramVersion}
 use Rattle.fe2o3_sasl_core.specs.Bodies.{SpellsBody}
 use Rattle.fe2o3_sasl_core.specs.Events.{Given}
-use Rattle.fe2o3_sasl_core.specs.Servers.{NotStarted, ServerAt, ServerLogin, ServerSettings, exchange_login, is_offered_by, logged_in_at, provider_by, rules_by, sasl_acting, sasl_machine, sasl_user, way_name}
-use Rattle.fe2o3_sasl_core.specs.declared.server.ways.Way.{Way}
-use Rattle.fe2o3_sasl_core.specs.declared.server.ways.Way.TheVariants as ways
+use Rattle.fe2o3_sasl_core.specs.Mechanisms.{mechanism_symbol}
+use Rattle.fe2o3_sasl_core.specs.Servers.{NotStarted, ServerAt, ServerLogin, ServerSettings, exchange_login, is_offered_by, logged_in_at, provider_by, rules_by, sasl_acting, sasl_machine, sasl_user}
+use Rattle.fe2o3_sasl_core.specs.declared.mechanism.Mechanism.{Mechanism}
+use Rattle.fe2o3_sasl_core.specs.declared.mechanism.Mechanism.TheVariants as mechanisms
 use Rattle.fe2o3_sasl_negotiation.specs.declared.progress.Progress.TheVariants.{Authenticated}
 use Rattle.fe2o3_sasl_negotiation.specs.Connections.{AreFrames, frames_of}
 use Rattle.fe2o3_sasl_negotiation.specs.Framing.{sasl_header}
@@ -60,15 +61,15 @@ pub record ScramMessages (settings : ServerSettings) (version : ScramVersion) (p
 -- an init of this mechanism, whose challenge has this nonce, and responses with these texts complete this login. ANONYMOUS and
 -- EXTERNAL have one message, which may be left out, PLAIN has one, and SCRAM has two (`InitCompletes` says which messages the
 -- three accept)
-abbrev pub MessagesLogIn : ServerSettings → Way → List ℕ → Option (List ℕ) → List (List ℕ) → ServerLogin → Type 0
-MessagesLogIn settings ways.Anonymous nonce response texts login =
-    (texts ≡ []) × InitCompletes settings ways.Anonymous response login
-MessagesLogIn settings ways.External nonce response texts login =
-    (texts ≡ []) × InitCompletes settings ways.External response login
-MessagesLogIn settings ways.Plain nonce response texts login = (text : List ℕ)
+abbrev pub MessagesLogIn : ServerSettings → Mechanism → List ℕ → Option (List ℕ) → List (List ℕ) → ServerLogin → Type 0
+MessagesLogIn settings mechanisms.Anonymous nonce response texts login =
+    (texts ≡ []) × InitCompletes settings mechanisms.Anonymous response login
+MessagesLogIn settings mechanisms.External nonce response texts login =
+    (texts ≡ []) × InitCompletes settings mechanisms.External response login
+MessagesLogIn settings mechanisms.Plain nonce response texts login = (text : List ℕ)
     × AreMessages settings.extra.initial_response response texts (text ∷ [])
-    × InitCompletes settings ways.Plain (Some text) login
-MessagesLogIn settings (ways.Scram version plus) nonce response texts login = (messages : List (List ℕ))
+    × InitCompletes settings mechanisms.Plain (Some text) login
+MessagesLogIn settings (mechanisms.Scram version plus) nonce response texts login = (messages : List (List ℕ))
     × AreMessages settings.extra.initial_response response texts messages
     × ScramMessages settings version plus nonce messages login
 
@@ -77,12 +78,12 @@ MessagesLogIn settings (ways.Scram version plus) nonce response texts login = (m
 pub record CompletesLogin (settings : ServerSettings) (events : List Given) (login : ServerLogin) : Type 0 where
   pub init : Given
   pub later : List Given
-  pub way : Way
+  pub way : Mechanism
   pub response : Option (List ℕ)
   pub hostname : Option (List ℕ)
   pub texts : List (List ℕ)
   pub all : events ≡ init ∷ later
-  pub begins : SpellsBody init.body (Ok (frames.Init (way_name way) response hostname))
+  pub begins : SpellsBody init.body (Ok (frames.Init (mechanism_symbol way) response hostname))
   pub offered : is_offered_by settings way ≡ true
   pub goes_on : AreResponses later texts
   pub completes : MessagesLogIn settings way init.nonce response texts login
@@ -154,4 +155,4 @@ pub record HasScramUser (settings : ServerSettings) (version : ScramVersion) (pl
 abbrev pub ScramUsersMeetRecords : Type 0
 ScramUsersMeetRecords = (settings : ServerSettings) (server : ServerBy sasl_machine (new_server settings))
     (login : ServerLogin) (version : ScramVersion) (plus : Bool) → logged_in_at server.last.state.stage ≡ Some login
-    → login.way ≡ ways.Scram version plus → HasScramUser settings version plus server.connection.events login
+    → login.way ≡ mechanisms.Scram version plus → HasScramUser settings version plus server.connection.events login

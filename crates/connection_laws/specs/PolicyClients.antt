@@ -173,7 +173,7 @@ pub record IsLoginOf (selection : Selection) (host : Option (List ℕ)) (login :
   pub channel : (login.channel ≡ unbound_channel selection.policy.channel)
       ⊎ (login.channel ≡ bound_channel selection.policy.channel)
   pub acts_for : login.acts_for ≡ identity_named selection.acts_for
-  pub strict : login.strict ≡ false
+  pub strict : login.strict ≡ selection.policy.strict
   pub signature_by_challenge : login.signature_by_challenge ≡ false
   pub hostname : login.hostname ≡ host
 

@@ -5,7 +5,7 @@ use Rattle.fe2o3_scram.specs.Credentials.{Record, record_at}
 use Rattle.fe2o3_scram.specs.Mixed.{provider_for}
 use Rattle.fe2o3_sasl_core.specs.MockChoices.{MockChoice, count_of_unknown}
 use Rattle.fe2o3_sasl_core.specs.Servers.{ServerAt, ServerSettings, is_offered_by, sasl_hmacs, sasl_machine, sasl_names}
-use Rattle.fe2o3_sasl_core.specs.declared.server.ways.Way.TheVariants as ways
+use Rattle.fe2o3_sasl_core.specs.declared.mechanism.Mechanism.TheVariants as mechanisms
 use Rattle.fe2o3_sasl_negotiation.specs.Connections.{fresh}
 use Rattle.fe2o3_sasl_negotiation.specs.CostLaws.{MeteredCalls}
 use Rattle.fe2o3_sasl_negotiation.specs.Laws.{Call}
@@ -34,7 +34,7 @@ plain_most false most = 0
 -- the most that one login takes: by SCRAM one look-up, the proof and the signature; by PLAIN one test of a password. ANONYMOUS
 -- and EXTERNAL take none
 abbrev pub login_most : ServerSettings → ℕ → ℕ
-login_most settings most = max (look_up_most settings.mock + 2) (plain_most (is_offered_by settings ways.Plain) most)
+login_most settings most = max (look_up_most settings.mock + 2) (plain_most (is_offered_by settings mechanisms.Plain) most)
 
 -- the names that a server offers
 abbrev pub offered_by_server : ServerAt → List (List ℕ)

@@ -9,19 +9,19 @@ use Rattle.fe2o3_scram.specs.declared.hmac.ScramVersion.{ScramVersion}
 use Rattle.fe2o3_sasl_core.specs.ExternalServer.{AsksFor}
 use Rattle.fe2o3_sasl_core.specs.PlainServer.{PlainParts, asked_identity}
 use Rattle.fe2o3_sasl_core.specs.Servers.{ExchangeOpen, MessageLetsIn, ResponseAsked, ServerAt, ServerLogin, ServerSettings, ServerStage, SignatureShown, UserAuthenticated, asked_way, exchange_login, exchange_server, is_response_asked, logged_in_at, sasl_machine}
-use Rattle.fe2o3_sasl_core.specs.declared.server.ways.Way.{Way}
-use Rattle.fe2o3_sasl_core.specs.declared.server.ways.Way.TheVariants as ways
+use Rattle.fe2o3_sasl_core.specs.declared.mechanism.Mechanism.{Mechanism}
+use Rattle.fe2o3_sasl_core.specs.declared.mechanism.Mechanism.TheVariants as mechanisms
 
 -- an init of this mechanism, which is offered, completes a login by this initial response: everybody's by ANONYMOUS (RFC
 -- 4505); by EXTERNAL that of the name of the transport, if no other name is asked for (RFC 4422, appendix A); and by PLAIN
 -- that of the user of a message whose password and right are tested (RFC 4616, section 2). By SCRAM none.
-abbrev pub InitCompletes : ServerSettings → Way → Option (List ℕ) → ServerLogin → Type 0
-InitCompletes settings ways.Anonymous response login =
-    login ≡ record { way = ways.Anonymous; user = None; acts_for = None }
-InitCompletes settings ways.External response login = AsksFor settings.external response
-    × (login ≡ record { way = ways.External; user = Some settings.external; acts_for = None })
-InitCompletes settings ways.Plain (Some text) login = (parts : PlainParts) × MessageLetsIn settings text parts
-    × (login ≡ record { way = ways.Plain; user = Some parts.user; acts_for = asked_identity parts })
+abbrev pub InitCompletes : ServerSettings → Mechanism → Option (List ℕ) → ServerLogin → Type 0
+InitCompletes settings mechanisms.Anonymous response login =
+    login ≡ record { way = mechanisms.Anonymous; user = None; acts_for = None }
+InitCompletes settings mechanisms.External response login = AsksFor settings.external response
+    × (login ≡ record { way = mechanisms.External; user = Some settings.external; acts_for = None })
+InitCompletes settings mechanisms.Plain (Some text) login = (parts : PlainParts) × MessageLetsIn settings text parts
+    × (login ≡ record { way = mechanisms.Plain; user = Some parts.user; acts_for = asked_identity parts })
 InitCompletes settings way response login = ⊥
 
 -- the client-final message meets the open exchange (RFC 5802, section 5): its proof meets the stored key, and its user has
@@ -43,7 +43,7 @@ ResponseCompletes settings stage text login = ⊥
 -- response
 abbrev pub FrameCompletes : ServerSettings → ServerStage → SaslFrame → ServerLogin → Type 0
 FrameCompletes settings stage (frames.Init name response hostname) login = (is_response_asked stage ≡ false)
-    × ((way : Way) × (asked_way settings name ≡ Some way) × InitCompletes settings way response login)
+    × ((way : Mechanism) × (asked_way settings name ≡ Some way) × InitCompletes settings way response login)
 FrameCompletes settings stage (frames.Response text) login = ResponseCompletes settings stage text login
 FrameCompletes settings stage frame login = ⊥
 

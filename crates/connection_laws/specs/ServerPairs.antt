@@ -18,13 +18,14 @@ use Rattle.fe2o3_sasl_core.specs.Events.{Answered, Given, IsLogin, IsSecret, Log
 use Rattle.fe2o3_sasl_core.specs.Headline.{VerifierAgrees}
 use Rattle.fe2o3_sasl_core.specs.Laws.{HoldsRecords}
 use Rattle.fe2o3_sasl_core.specs.ServerHistory.{Accepted, final_message, full_nonce, server_at}
-use Rattle.fe2o3_sasl_core.specs.Servers.{ServerLogin, ServerSettings, ServerStage, SignatureShown, is_offered_by, logged_in_at, provider_by, rules_by, sasl_machine, settings_with, way_name}
+use Rattle.fe2o3_sasl_core.specs.Mechanisms.{mechanism_symbol}
+use Rattle.fe2o3_sasl_core.specs.Servers.{ServerLogin, ServerSettings, ServerStage, SignatureShown, is_offered_by, logged_in_at, provider_by, rules_by, sasl_machine, settings_with}
 use Rattle.fe2o3_sasl_core.specs.TwoSides.{MessagesCollide, ReportedAnswer, Sides, keys_at, proof_at, sides_of}
 use Rattle.fe2o3_sasl_core.specs.Verdicts.{JudgesProof, Verdict}
 use Rattle.fe2o3_scram.specs.declared.client_options.ClientOptions.{ClientOptions}
 use Rattle.fe2o3_sasl_core.specs.declared.server.options.ServerOptions.{ServerOptions}
 use Rattle.fe2o3_sasl_core.specs.declared.server.options.Transport.{Transport}
-use Rattle.fe2o3_sasl_core.specs.declared.server.ways.Way.TheVariants as ways
+use Rattle.fe2o3_sasl_core.specs.declared.mechanism.Mechanism.TheVariants as mechanisms
 use Rattle.fe2o3_sasl.specs.Agreement.{agree_on_all}
 use Rattle.fe2o3_sasl_negotiation.specs.declared.progress.Progress.TheVariants.{Authenticated}
 use Rattle.connection_laws.specs.ConnectionLogins.{AreMessages, AreResponses, new_server}
@@ -52,8 +53,8 @@ pub record AcceptsScram (settings : ServerSettings) (version : ScramVersion) (pl
   pub final : List ℕ
   pub rest : List (List ℕ)
   pub all : events ≡ init ∷ later
-  pub begins : SpellsBody init.body (Ok (frames.Init (way_name (ways.Scram version plus)) response hostname))
-  pub offered : is_offered_by settings (ways.Scram version plus) ≡ true
+  pub begins : SpellsBody init.body (Ok (frames.Init (mechanism_symbol (mechanisms.Scram version plus)) response hostname))
+  pub offered : is_offered_by settings (mechanisms.Scram version plus) ≡ true
   pub goes_on : AreResponses later texts
   pub messages : AreMessages settings.extra.initial_response response texts (first ∷ final ∷ rest)
   pub reads : ReadsClientFirst (rules_by plus settings.rules) first (Ok accepted.challenge.client)
@@ -70,7 +71,7 @@ signed_login stage = logged_in_at stage
 abbrev pub SignedLoginsAreAccepted : Type 0
 SignedLoginsAreAccepted = (settings : ServerSettings) (server : ServerBy sasl_machine (new_server settings))
     (login : ServerLogin) (version : ScramVersion) (plus : Bool)
-    → signed_login server.last.state.stage ≡ Some login → login.way ≡ ways.Scram version plus
+    → signed_login server.last.state.stage ≡ Some login → login.way ≡ mechanisms.Scram version plus
     → (accepted : Accepted) × AcceptsScram settings version plus server.connection.events accepted
     × (login.user ≡ Some accepted.challenge.client.user) × (login.acts_for ≡ accepted.challenge.client.header.acts_for)
 

@@ -16,7 +16,7 @@ use Rattle.fe2o3_sasl_core.specs.Events.{Given}
 use Rattle.fe2o3_sasl_core.specs.MockChoices.{MockChoice, count_of_unknown, mock_for}
 use Rattle.fe2o3_sasl_core.specs.PlainServer.{PlainParts, SpellsPlain, TestedPassword}
 use Rattle.fe2o3_sasl_core.specs.Servers.{ServerAt, ServerLogin, ServerSettings, logged_in_at, sasl_hmacs, sasl_machine}
-use Rattle.fe2o3_sasl_core.specs.declared.server.ways.Way.TheVariants as ways
+use Rattle.fe2o3_sasl_core.specs.declared.mechanism.Mechanism.TheVariants as mechanisms
 use Rattle.connection_laws.specs.ConnectionLogins.{new_server}
 use Rattle.connection_laws.specs.Servers.{NegotiatesAs, ServerBy}
 
@@ -88,6 +88,6 @@ UnknownNamesCostAlike = (server : ServerAt) (mock : MockChoice) (name : List ℕ
 -- a user who has logged in by PLAIN has a record: mock records log nobody in by PLAIN
 abbrev pub PlainUsersHaveRecords : Type 0
 PlainUsersHaveRecords = (settings : ServerSettings) (server : ServerBy sasl_machine (new_server settings))
-    (login : ServerLogin) → logged_in_at server.last.state.stage ≡ Some login → login.way ≡ ways.Plain
+    (login : ServerLogin) → logged_in_at server.last.state.stage ≡ Some login → login.way ≡ mechanisms.Plain
     → (user : List ℕ) × (stored : Record) × (login.user ≡ Some user)
     × (record_at (provider_for settings.plain_version settings.records).records user ≡ Some stored)

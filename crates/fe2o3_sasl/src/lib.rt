@@ -50,7 +50,7 @@ pub use fe2o3_sasl_core::any_mechanism::HasMechanism;
 pub use fe2o3_sasl_core::any_mechanism::Selected;
 pub use fe2o3_sasl_core::client_policy;
 pub use fe2o3_sasl_core::client_policy::ClientPolicy;
-pub use fe2o3_sasl_core::client_policy::Mechanism;
+pub use fe2o3_sasl_core::Mechanism;
 pub use fe2o3_sasl_core::login_attempts;
 pub use fe2o3_sasl_core::login_attempts::LoginAttempt;
 pub use fe2o3_sasl_core::login_attempts::claimed_user;

@@ -1,38 +1,26 @@
 -- Which mechanism a client selects from a server's offer (AMQP 1.0, part 5, section 5.3.3.2: the client chooses).
-use Rattle.std.specs.Prelude.{◌≡◌, ◌≢◌, ◌&&◌, not, is_some, ℕ, Bool, true, false, Option, Some, None, List, [], ◌∷◌, take, slice_get, codes}
+use Rattle.std.specs.Prelude.{◌≡◌, ◌≢◌, ◌&&◌, not, is_some, ℕ, Bool, true, false, Option, Some, None, List, [], ◌∷◌, take, slice_get}
 use Rattle.std.specs.List.{AllByRecursion, Contains}
 use Rattle.fe2o3_scram.specs.declared.hmac.ScramVersion.{ScramVersion}
 use Rattle.fe2o3_scram.specs.declared.hmac.ScramVersion.TheVariants.{Sha1, Sha256, Sha512}
-use Rattle.fe2o3_scram.specs.ChannelBinding.{plus_name}
 use Rattle.fe2o3_scram.specs.declared.channel_binding.ChannelBinding.{ChannelBinding}
 use Rattle.fe2o3_scram.specs.declared.scram_messages.client_channel.ClientChannel.{ClientChannel}
 use Rattle.fe2o3_scram.specs.declared.scram_messages.client_channel.ClientChannel.TheVariants.{Absent, NotOffered, Bound}
 use Rattle.fe2o3_scram.specs.ClientSecret.{Secret, Password, Keys, Both}
-use Rattle.fe2o3_scram.specs.Hmac.{mechanism_name}
 use Rattle.fe2o3_scram.specs.Passwords.{password_bytes}
 use Rattle.fe2o3_scram.specs.declared.client_options.ClientOptions.{ClientOptions}
 use Rattle.fe2o3_scram.specs.ScramClient.{fresh_client, with_options}
 use Rattle.fe2o3_sasl_core.specs.Profiles.{Profile, ScramProfile, PlainProfile, AnonymousProfile, ExternalProfile}
 use Rattle.fe2o3_sasl_core.specs.declared.client_policy.ClientPolicy.{ClientPolicy}
-use Rattle.fe2o3_sasl_core.specs.declared.client_policy.Mechanism.{Mechanism}
-use Rattle.fe2o3_sasl_core.specs.declared.client_policy.Mechanism.TheVariants.{ScramSha512Plus, ScramSha256Plus, ScramSha1Plus, ScramSha512, ScramSha256, ScramSha1, External, Plain, Anonymous}
+use Rattle.fe2o3_sasl_core.specs.declared.mechanism.Mechanism.{Mechanism}
+use Rattle.fe2o3_sasl_core.specs.declared.mechanism.Mechanism.TheVariants as mechanisms
+use Rattle.fe2o3_sasl_core.specs.Mechanisms.{mechanism_symbol}
 
 -- the mechanisms of clients, the strongest first: no standard orders them all, so this order is this library's
 abbrev pub by_strength : List Mechanism
-by_strength = ScramSha512Plus ∷ ScramSha256Plus ∷ ScramSha1Plus ∷ ScramSha512 ∷ ScramSha256 ∷ ScramSha1 ∷ External
-    ∷ Plain ∷ Anonymous ∷ []
-
--- the name of a mechanism
-abbrev pub policy_name : Mechanism → List ℕ
-policy_name ScramSha512Plus = plus_name Sha512
-policy_name ScramSha256Plus = plus_name Sha256
-policy_name ScramSha1Plus = plus_name Sha1
-policy_name ScramSha512 = mechanism_name Sha512
-policy_name ScramSha256 = mechanism_name Sha256
-policy_name ScramSha1 = mechanism_name Sha1
-policy_name External = codes "EXTERNAL"
-policy_name Plain = codes "PLAIN"
-policy_name Anonymous = codes "ANONYMOUS"
+by_strength = mechanisms.Scram Sha512 true ∷ mechanisms.Scram Sha256 true ∷ mechanisms.Scram Sha1 true
+    ∷ mechanisms.Scram Sha512 false ∷ mechanisms.Scram Sha256 false ∷ mechanisms.Scram Sha1 false ∷ mechanisms.External
+    ∷ mechanisms.Plain ∷ mechanisms.Anonymous ∷ []
 
 -- a hash that is no weaker than the floor, which comes first
 abbrev pub is_from : ScramVersion → ScramVersion → Bool
@@ -45,15 +33,11 @@ is_from Sha512 version = false
 -- whether a policy allows a mechanism: SCRAM from its floor on, with -PLUS if there is a channel, and without it unless
 -- the channel has to be bound (RFC 5802, section 6); and the others if it says so
 abbrev pub is_allowed : ClientPolicy → Mechanism → Bool
-is_allowed policy ScramSha512Plus = is_some policy.channel && is_from policy.floor Sha512
-is_allowed policy ScramSha256Plus = is_some policy.channel && is_from policy.floor Sha256
-is_allowed policy ScramSha1Plus = is_some policy.channel && is_from policy.floor Sha1
-is_allowed policy ScramSha512 = not policy.must_bind && is_from policy.floor Sha512
-is_allowed policy ScramSha256 = not policy.must_bind && is_from policy.floor Sha256
-is_allowed policy ScramSha1 = not policy.must_bind && is_from policy.floor Sha1
-is_allowed policy External = policy.external
-is_allowed policy Plain = policy.plain
-is_allowed policy Anonymous = policy.anonymous
+is_allowed policy (mechanisms.Scram version true) = is_some policy.channel && is_from policy.floor version
+is_allowed policy (mechanisms.Scram version false) = not policy.must_bind && is_from policy.floor version
+is_allowed policy mechanisms.External = policy.external
+is_allowed policy mechanisms.Plain = policy.plain
+is_allowed policy mechanisms.Anonymous = policy.anonymous
 
 -- the first or the second secret, by whether keys of the second version are of the first
 abbrev pub keys_for_version : ScramVersion → ScramVersion → Option Secret → Option Secret → Option Secret
@@ -80,16 +64,24 @@ abbrev pub bound_channel : Option ChannelBinding → ClientChannel
 bound_channel None = Absent
 bound_channel (Some binding) = Bound binding
 
--- the options of a client of SCRAM that says this of its channel, within the limits of a policy
-abbrev pub scram_options : ClientPolicy → ClientChannel → ClientOptions
-scram_options policy channel =
-    record { limits = policy.limits; channel = channel; strict = false; signature_by_challenge = false }
+-- what it says with -PLUS, and without
+abbrev pub channel_with : Bool → Option ChannelBinding → ClientChannel
+channel_with true channel = bound_channel channel
+channel_with false channel = unbound_channel channel
 
--- the user's profile for SCRAM with this secret, if there is one, within the limits of the policy
-abbrev pub scram_by : ClientPolicy → ClientChannel → List ℕ → ScramVersion → Option Secret → Option Profile
-scram_by policy channel user version None = None
-scram_by policy channel user version (Some secret) =
-    Some (ScramProfile (with_options (fresh_client user version secret) (scram_options policy channel)))
+-- the options of a client of SCRAM that a policy selects, with -PLUS or without
+abbrev pub scram_options : ClientPolicy → Bool → ClientOptions
+scram_options policy plus = record {
+  limits = policy.limits;
+  channel = channel_with plus policy.channel;
+  strict = policy.strict;
+  signature_by_challenge = false;
+}
+
+-- the user's profile for SCRAM with this secret, if there is one
+abbrev pub scram_by : ClientOptions → List ℕ → ScramVersion → Option Secret → Option Profile
+scram_by options user version None = None
+scram_by options user version (Some secret) = Some (ScramProfile (with_options (fresh_client user version secret) options))
 
 -- the user's profile for PLAIN (RFC 4616, section 2), which sends the password
 abbrev pub plain_by : List ℕ → Secret → Option Profile
@@ -99,26 +91,16 @@ plain_by user (Both password keys) = Some (PlainProfile [] user (password_bytes 
 
 -- the profile of a user with a secret by a mechanism, if the secret serves for it
 abbrev pub profile_by : ClientPolicy → List ℕ → Secret → Mechanism → Option Profile
-profile_by policy user secret ScramSha512Plus =
-    scram_by policy (bound_channel policy.channel) user Sha512 (secret_for Sha512 secret)
-profile_by policy user secret ScramSha256Plus =
-    scram_by policy (bound_channel policy.channel) user Sha256 (secret_for Sha256 secret)
-profile_by policy user secret ScramSha1Plus =
-    scram_by policy (bound_channel policy.channel) user Sha1 (secret_for Sha1 secret)
-profile_by policy user secret ScramSha512 =
-    scram_by policy (unbound_channel policy.channel) user Sha512 (secret_for Sha512 secret)
-profile_by policy user secret ScramSha256 =
-    scram_by policy (unbound_channel policy.channel) user Sha256 (secret_for Sha256 secret)
-profile_by policy user secret ScramSha1 =
-    scram_by policy (unbound_channel policy.channel) user Sha1 (secret_for Sha1 secret)
-profile_by policy user secret External = Some ExternalProfile
-profile_by policy user secret Plain = plain_by user secret
-profile_by policy user secret Anonymous = Some AnonymousProfile
+profile_by policy user secret (mechanisms.Scram version plus) =
+    scram_by (scram_options policy plus) user version (secret_for version secret)
+profile_by policy user secret mechanisms.External = Some ExternalProfile
+profile_by policy user secret mechanisms.Plain = plain_by user secret
+profile_by policy user secret mechanisms.Anonymous = Some AnonymousProfile
 
 -- a mechanism can be selected: the policy allows it, the secret serves for it, and it is offered
 abbrev pub CanTake : ClientPolicy → List ℕ → Secret → List (List ℕ) → Mechanism → Type 0
 CanTake policy user secret names mechanism = (is_allowed policy mechanism ≡ true)
-    × (profile_by policy user secret mechanism ≢ None) × Contains names (policy_name mechanism)
+    × (profile_by policy user secret mechanism ≢ None) × Contains names (mechanism_symbol mechanism)
 
 -- the first mechanism of a list that can be selected
 abbrev pub IsFirstTaken : ClientPolicy → List ℕ → Secret → List (List ℕ) → List Mechanism → Mechanism → Type 0

@@ -7,6 +7,7 @@ pub mod Complete
 pub mod SaslAcceptor
 pub mod AnyMechanism
 pub mod LoginAttempts
+pub mod Mechanisms
 pub mod AnyMechanismSides
 pub mod ExternalServer
 pub mod PlainServer

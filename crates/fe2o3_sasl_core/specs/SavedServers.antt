@@ -1,5 +1,5 @@
 -- How far the login of a server has come, saved as plain values between two calls.
-use Rattle.std.specs.Prelude.{◌≡◌, ℕ, Bool, true, false, if◌then◌else◌, Option, Some, None, List, [], Ok}
+use Rattle.std.specs.Prelude.{◌≡◌, ℕ, Bool, if◌then◌else◌, Option, Some, None, List, [], Ok}
 use Rattle.fe2o3_sasl_wire.specs.FrameView.{shown}
 use Rattle.fe2o3_scram.specs.ActingRights.{Rights}
 use Rattle.fe2o3_scram.specs.ChannelBinding.{is_required}
@@ -7,23 +7,20 @@ use Rattle.fe2o3_scram.specs.Credentials.{Record}
 use Rattle.fe2o3_scram.specs.ScramServer.{ConcludesFrom, ServerFirstSent, ServerState, challenge_kept}
 use Rattle.fe2o3_scram.specs.ServerFirst.{OpenExchange, ServerChallenge}
 use Rattle.fe2o3_scram.specs.declared.hmac.ScramVersion.{ScramVersion}
-use Rattle.fe2o3_scram.specs.declared.hmac.ScramVersion.TheVariants.{Sha1, Sha256, Sha512}
 use Rattle.fe2o3_scram.specs.declared.scram_messages.server_rules.ServerRules.{ServerRules}
 use Rattle.fe2o3_sasl_wire.specs.SaslFrames.{SaslFrame}
 use Rattle.fe2o3_sasl_core.specs.Servers.{ServerLogin, ServerSettings, ServerStage, ExchangeOpen, NotStarted, ResponseAsked, SignatureShown, UserAuthenticated, StageAnswers, is_offered_by, provider_by}
-use Rattle.fe2o3_sasl_core.specs.declared.client_policy.Mechanism.{Mechanism}
-use Rattle.fe2o3_sasl_core.specs.declared.client_policy.Mechanism.TheVariants as mechanisms
+use Rattle.fe2o3_sasl_core.specs.declared.mechanism.Mechanism.{Mechanism}
+use Rattle.fe2o3_sasl_core.specs.declared.mechanism.Mechanism.TheVariants as mechanisms
 use Rattle.fe2o3_sasl_core.specs.declared.server.saved.SavedLogin.{SavedLogin}
 use Rattle.fe2o3_sasl_core.specs.declared.server.saved.SavedStage.{SavedStage}
 use Rattle.fe2o3_sasl_core.specs.declared.server.saved.SavedStage.TheVariants as saved
-use Rattle.fe2o3_sasl_core.specs.declared.server.ways.Way.{Way}
-use Rattle.fe2o3_sasl_core.specs.declared.server.ways.Way.TheVariants as ways
 
 -- what is saved of how far a login has come: nothing is accepted; an init of this mechanism, with this nonce, was asked for
 -- its initial response; a challenge of SCRAM is open; a signature was sent in a challenge; or a user has logged in
 pub data KeptStage : Type 0 where
   KeptNothing : KeptStage
-  KeptAsked : (way : Way) → (nonce : List ℕ) → KeptStage
+  KeptAsked : (way : Mechanism) → (nonce : List ℕ) → KeptStage
   KeptOpen : (version : ScramVersion) → (challenge : ServerChallenge) → KeptStage
   KeptSignature : (login : ServerLogin) → KeptStage
   KeptLogin : (login : ServerLogin) → KeptStage
@@ -63,8 +60,8 @@ exchange_now settings version challenge = record {
 }
 
 -- SCRAM by which a challenge was sent: with -PLUS if the client binds a channel (RFC 5802, section 6)
-abbrev pub challenge_way : ScramVersion → ServerChallenge → Way
-challenge_way version challenge = ways.Scram version (is_required challenge.header.flag)
+abbrev pub challenge_way : ScramVersion → ServerChallenge → Mechanism
+challenge_way version challenge = mechanisms.Scram version (is_required challenge.header.flag)
 
 -- the stage that is restored: an init or a challenge of a mechanism that the server does not offer is dropped
 abbrev pub restored_stage : ServerSettings → KeptStage → ServerStage
@@ -102,22 +99,10 @@ RestoredStagesAreEqual = (settings : ServerSettings) → IsRestored settings Not
 
 -- ---- the code's values
 
--- the mechanism of a name
-abbrev pub way_for : Mechanism → Way
-way_for mechanisms.ScramSha512Plus = ways.Scram Sha512 true
-way_for mechanisms.ScramSha256Plus = ways.Scram Sha256 true
-way_for mechanisms.ScramSha1Plus = ways.Scram Sha1 true
-way_for mechanisms.ScramSha512 = ways.Scram Sha512 false
-way_for mechanisms.ScramSha256 = ways.Scram Sha256 false
-way_for mechanisms.ScramSha1 = ways.Scram Sha1 false
-way_for mechanisms.Plain = ways.Plain
-way_for mechanisms.Anonymous = ways.Anonymous
-way_for mechanisms.External = ways.External
-
 -- who has logged in
 abbrev pub saved_login : SavedLogin → ServerLogin
 saved_login login = record {
-  way = way_for login.mechanism;
+  way = login.mechanism;
   user = shown login.user;
   acts_for = shown login.acts_for;
 }
@@ -125,7 +110,7 @@ saved_login login = record {
 -- what is saved that a value is
 abbrev pub saved_stage : SavedStage → KeptStage
 saved_stage saved.NotStarted = KeptNothing
-saved_stage (saved.ResponseAsked mechanism nonce) = KeptAsked (way_for mechanism) nonce
+saved_stage (saved.ResponseAsked mechanism nonce) = KeptAsked mechanism nonce
 saved_stage (saved.ChallengeOpen version challenge) = KeptOpen version (challenge_kept challenge)
 saved_stage (saved.SignatureSent login) = KeptSignature (saved_login login)
 saved_stage (saved.Authenticated login) = KeptLogin (saved_login login)

@@ -1,13 +1,13 @@
 -- A server of SCRAM, PLAIN, ANONYMOUS and EXTERNAL over one list of records: what it offers, how far a login has come, and
 -- what it answers to a frame (AMQP 1.0, part 5, sections 5.3.2 and 5.3.3).
-use Rattle.std.specs.Prelude.{◌≡◌, ◌≢◌, ◌⊎◌, ◌&&◌, ◌||◌, ◌++◌, ℕ, Bool, true, false, not, is_some, if◌then◌else◌, Option, Some, None, MatchOption, List, [], ◌∷◌, Result, Ok, Err, codes, nat_eq, option_map, string_bytes}
+use Rattle.std.specs.Prelude.{◌≡◌, ◌≢◌, ◌⊎◌, ◌&&◌, ◌||◌, ◌++◌, ℕ, Bool, true, false, not, is_some, if◌then◌else◌, Option, Some, None, MatchOption, List, [], ◌∷◌, Result, Ok, Err, nat_eq, option_map, string_bytes}
 use Rattle.std.specs.Cmp.Lexicographic.{pointwise}
 use Rattle.fe2o3_sasl_wire.specs.declared.amqp_types.SaslCode.TheVariants as outcomes
 use Rattle.fe2o3_sasl_wire.specs.SaslFrames as frames
 use Rattle.fe2o3_sasl_wire.specs.SaslFrames.{SaslFrame, canonical}
 use Rattle.fe2o3_sasl_wire.specs.declared.sasl_frames.error.Error.{Error}
 use Rattle.fe2o3_scram.specs.ActingRights.{Rights}
-use Rattle.fe2o3_scram.specs.ChannelBinding.{expected_header, mechanism_of, server_mechanism}
+use Rattle.fe2o3_scram.specs.ChannelBinding.{expected_header, server_mechanism}
 use Rattle.fe2o3_scram.specs.ClientFinal.{ReachesBase64, Server}
 use Rattle.fe2o3_scram.specs.Credentials.{Provider, serving, with_rights}
 use Rattle.fe2o3_scram.specs.Mixed.{MultiRecords, provider_for}
@@ -34,16 +34,15 @@ use Rattle.fe2o3_sasl_core.specs.declared.rejection.Rejection.TheVariants as rea
 use Rattle.fe2o3_sasl_core.specs.declared.server.options.ExtraChallenges.{ExtraChallenges}
 use Rattle.fe2o3_sasl_core.specs.declared.plain_server.passwords.PlainPasswords.{PlainPasswords}
 use Rattle.fe2o3_sasl_core.specs.declared.server.options.Mechanisms.{Mechanisms}
-use Rattle.fe2o3_sasl_core.specs.declared.client_policy.Mechanism.{Mechanism}
-use Rattle.fe2o3_sasl_core.specs.declared.client_policy.Mechanism.TheVariants as mechanisms
+use Rattle.fe2o3_sasl_core.specs.Mechanisms.{mechanism_symbol}
+use Rattle.fe2o3_sasl_core.specs.declared.mechanism.Mechanism.{Mechanism}
+use Rattle.fe2o3_sasl_core.specs.declared.mechanism.Mechanism.TheVariants as mechanisms
 use Rattle.fe2o3_sasl_core.specs.declared.server.Server.{Server as Code}
 use Rattle.fe2o3_sasl_core.specs.declared.server.options.ServerOptions.{ServerOptions}
 use Rattle.fe2o3_sasl_core.specs.declared.server.options.Transport.{Transport}
 use Rattle.fe2o3_sasl_core.specs.declared.server.stage.LoginOf.{LoginOf}
 use Rattle.fe2o3_sasl_core.specs.declared.server.stage.Stage.{Stage}
 use Rattle.fe2o3_sasl_core.specs.declared.server.stage.Stage.TheVariants as stages
-use Rattle.fe2o3_sasl_core.specs.declared.server.ways.Way.{Way}
-use Rattle.fe2o3_sasl_core.specs.declared.server.ways.Way.TheVariants as ways
 
 -- ---- what a server knows of users
 
@@ -75,25 +74,6 @@ pub record ServerSettings : Type 0 where
   pub is_tls : Bool
   pub external : List ℕ
 
--- the name of a mechanism (RFC 5802, section 4; RFC 7677; RFC 4616; RFC 4505; RFC 4422, appendix A)
-abbrev pub way_name : Way → List ℕ
-way_name (ways.Scram version plus) = mechanism_of version plus
-way_name ways.Plain = codes "PLAIN"
-way_name ways.Anonymous = codes "ANONYMOUS"
-way_name ways.External = codes "EXTERNAL"
-
--- the mechanism
-abbrev pub mechanism_by : Way → Mechanism
-mechanism_by (ways.Scram Sha512 true) = mechanisms.ScramSha512Plus
-mechanism_by (ways.Scram Sha256 true) = mechanisms.ScramSha256Plus
-mechanism_by (ways.Scram Sha1 true) = mechanisms.ScramSha1Plus
-mechanism_by (ways.Scram Sha512 false) = mechanisms.ScramSha512
-mechanism_by (ways.Scram Sha256 false) = mechanisms.ScramSha256
-mechanism_by (ways.Scram Sha1 false) = mechanisms.ScramSha1
-mechanism_by ways.Plain = mechanisms.Plain
-mechanism_by ways.Anonymous = mechanisms.Anonymous
-mechanism_by ways.External = mechanisms.External
-
 -- whether SCRAM by this hash may be offered
 abbrev pub has_hash : Mechanisms → ScramVersion → Bool
 has_hash mechanisms Sha1 = mechanisms.scram_sha_1
@@ -107,20 +87,20 @@ is_named (byte ∷ bytes) = true
 
 -- whether a server offers a mechanism: with -PLUS where it has data of the channel (RFC 5802, section 6), PLAIN under TLS
 -- (RFC 4616, section 5), and EXTERNAL where the transport authenticated a name (RFC 4422, appendix A)
-abbrev pub is_offered_by : ServerSettings → Way → Bool
-is_offered_by settings (ways.Scram version plus) =
+abbrev pub is_offered_by : ServerSettings → Mechanism → Bool
+is_offered_by settings (mechanisms.Scram version plus) =
     has_hash settings.mechanisms version && (not plus || is_some settings.rules.channels)
-is_offered_by settings ways.Plain = settings.mechanisms.plain && settings.is_tls
-is_offered_by settings ways.Anonymous = settings.mechanisms.anonymous
-is_offered_by settings ways.External = settings.mechanisms.external && is_named settings.external
+is_offered_by settings mechanisms.Plain = settings.mechanisms.plain && settings.is_tls
+is_offered_by settings mechanisms.Anonymous = settings.mechanisms.anonymous
+is_offered_by settings mechanisms.External = settings.mechanisms.external && is_named settings.external
 
 -- all mechanisms, in the order in which they are offered
-abbrev pub offer_order : List Way
-offer_order = ways.Scram Sha512 true ∷ ways.Scram Sha256 true ∷ ways.Scram Sha1 true ∷ ways.Scram Sha512 false
-    ∷ ways.Scram Sha256 false ∷ ways.Scram Sha1 false ∷ ways.Plain ∷ ways.Anonymous ∷ ways.External ∷ []
+abbrev pub offer_order : List Mechanism
+offer_order = mechanisms.Scram Sha512 true ∷ mechanisms.Scram Sha256 true ∷ mechanisms.Scram Sha1 true ∷ mechanisms.Scram Sha512 false
+    ∷ mechanisms.Scram Sha256 false ∷ mechanisms.Scram Sha1 false ∷ mechanisms.Plain ∷ mechanisms.Anonymous ∷ mechanisms.External ∷ []
 
 -- whether a server offers one of these mechanisms, and one of all
-abbrev pub offers_among : ServerSettings → List Way → Bool
+abbrev pub offers_among : ServerSettings → List Mechanism → Bool
 offers_among settings [] = false
 offers_among settings (way ∷ others) = is_offered_by settings way || offers_among settings others
 
@@ -132,26 +112,26 @@ abbrev pub name_where_offered : Bool → List ℕ → List (List ℕ)
 name_where_offered true name = name ∷ []
 name_where_offered false name = []
 
-abbrev pub with_offered : ServerSettings → List (List ℕ) → List Way → List (List ℕ)
+abbrev pub with_offered : ServerSettings → List (List ℕ) → List Mechanism → List (List ℕ)
 with_offered settings names [] = names
 with_offered settings names (way ∷ others) =
-    with_offered settings (names ++ name_where_offered (is_offered_by settings way) (way_name way)) others
+    with_offered settings (names ++ name_where_offered (is_offered_by settings way) (mechanism_symbol way)) others
 
 -- the names that a server offers (AMQP 1.0, part 5, section 5.3.3.1)
 abbrev pub sasl_names : ServerSettings → List (List ℕ)
 sasl_names settings = with_offered settings [] offer_order
 
 -- whether this name asks for a mechanism, which is offered
-abbrev pub is_asked_by : ServerSettings → List ℕ → Way → Bool
-is_asked_by settings name way = is_offered_by settings way && pointwise nat_eq name (way_name way)
+abbrev pub is_asked_by : ServerSettings → List ℕ → Mechanism → Bool
+is_asked_by settings name way = is_offered_by settings way && pointwise nat_eq name (mechanism_symbol way)
 
 -- the mechanism that a name asks for, of these and of all, if it is offered
-abbrev pub asked_among : ServerSettings → List ℕ → List Way → Option Way
+abbrev pub asked_among : ServerSettings → List ℕ → List Mechanism → Option Mechanism
 asked_among settings name [] = None
 asked_among settings name (way ∷ others) =
     if is_asked_by settings name way then Some way else asked_among settings name others
 
-abbrev pub asked_way : ServerSettings → List ℕ → Option Way
+abbrev pub asked_way : ServerSettings → List ℕ → Option Mechanism
 asked_way settings name = asked_among settings name offer_order
 
 -- what SCRAM accepts in a client's messages: with -PLUS the channel of the connection, and otherwise none; and `y,,` only
@@ -184,7 +164,7 @@ plain_by_settings settings = record {
 
 -- who has logged in: by this mechanism, as this user (nobody by ANONYMOUS), for this identity, or for itself
 pub record ServerLogin : Type 0 where
-  pub way : Way
+  pub way : Mechanism
   pub user : Option (List ℕ)
   pub acts_for : Option (List ℕ)
 
@@ -192,7 +172,7 @@ pub record ServerLogin : Type 0 where
 -- is open; the signature of an accepted exchange was sent in a challenge; or a user has logged in
 pub data ServerStage : Type 0 where
   NotStarted : ServerStage
-  ResponseAsked : (way : Way) → (nonce : List ℕ) → ServerStage
+  ResponseAsked : (way : Mechanism) → (nonce : List ℕ) → ServerStage
   ExchangeOpen : (version : ScramVersion) → (plus : Bool) → (exchange : OpenExchange) → ServerStage
   SignatureShown : (login : ServerLogin) → ServerStage
   UserAuthenticated : (login : ServerLogin) → ServerStage
@@ -258,34 +238,34 @@ MessageLetsIn settings text parts = PlainLogsIn (plain_by_settings settings) tex
 abbrev pub PlainInitAnswers : ServerSettings → ServerStage → List ℕ → SaslFrame → ServerStage → Type 0
 PlainInitAnswers settings kept text reply next =
     ((parts : PlainParts) × MessageLetsIn settings text parts × StageAccepts
-    (record { way = ways.Plain; user = Some parts.user; acts_for = asked_identity parts }) reply next)
+    (record { way = mechanisms.Plain; user = Some parts.user; acts_for = asked_identity parts }) reply next)
     ⊎ (((parts : PlainParts) → ¬ MessageLetsIn settings text parts) × StageRejects kept reply next)
 
 -- an init of EXTERNAL (RFC 4422, appendix A)
 abbrev pub ExternalInitAnswers : ServerSettings → ServerStage → Option (List ℕ) → SaslFrame → ServerStage → Type 0
 ExternalInitAnswers settings kept response reply next =
     (AsksFor settings.external response × StageAccepts
-    (record { way = ways.External; user = Some settings.external; acts_for = None }) reply next)
+    (record { way = mechanisms.External; user = Some settings.external; acts_for = None }) reply next)
     ⊎ (¬ AsksFor settings.external response × StageRejects kept reply next)
 
 -- an init without an initial response, of a mechanism that needs one: it is asked for it by an empty challenge (RFC 4422,
 -- section 5), if the server does so, and otherwise rejected
-abbrev pub AsksForResponse : Bool → Way → ServerStage → List ℕ → SaslFrame → ServerStage → Type 0
+abbrev pub AsksForResponse : Bool → Mechanism → ServerStage → List ℕ → SaslFrame → ServerStage → Type 0
 AsksForResponse true way kept nonce reply next = (reply ≡ frames.Challenge []) × (next ≡ ResponseAsked way nonce)
 AsksForResponse false way kept nonce reply next = StageRejects kept reply next
 
 -- an init of this mechanism, which is offered, with this initial response
-abbrev pub InitAnswers : ServerSettings → Way → ServerStage → List ℕ → Option (List ℕ) → SaslFrame → ServerStage → Type 0
-InitAnswers settings ways.Anonymous kept nonce response reply next =
-    StageAccepts (record { way = ways.Anonymous; user = None; acts_for = None }) reply next
-InitAnswers settings ways.External kept nonce response reply next =
+abbrev pub InitAnswers : ServerSettings → Mechanism → ServerStage → List ℕ → Option (List ℕ) → SaslFrame → ServerStage → Type 0
+InitAnswers settings mechanisms.Anonymous kept nonce response reply next =
+    StageAccepts (record { way = mechanisms.Anonymous; user = None; acts_for = None }) reply next
+InitAnswers settings mechanisms.External kept nonce response reply next =
     ExternalInitAnswers settings kept response reply next
-InitAnswers settings ways.Plain kept nonce None reply next =
-    AsksForResponse settings.extra.initial_response ways.Plain kept nonce reply next
-InitAnswers settings ways.Plain kept nonce (Some text) reply next = PlainInitAnswers settings kept text reply next
-InitAnswers settings (ways.Scram version plus) kept nonce None reply next =
-    AsksForResponse settings.extra.initial_response (ways.Scram version plus) kept nonce reply next
-InitAnswers settings (ways.Scram version plus) kept nonce (Some text) reply next =
+InitAnswers settings mechanisms.Plain kept nonce None reply next =
+    AsksForResponse settings.extra.initial_response mechanisms.Plain kept nonce reply next
+InitAnswers settings mechanisms.Plain kept nonce (Some text) reply next = PlainInitAnswers settings kept text reply next
+InitAnswers settings (mechanisms.Scram version plus) kept nonce None reply next =
+    AsksForResponse settings.extra.initial_response (mechanisms.Scram version plus) kept nonce reply next
+InitAnswers settings (mechanisms.Scram version plus) kept nonce (Some text) reply next =
     ScramInitAnswers settings version plus kept nonce text reply next
 
 -- whether a server waits for the response that completes an init
@@ -303,7 +283,7 @@ InitWhere false settings stage nonce name response reply next = MatchOption (ask
 -- who an accepted exchange logs in
 abbrev pub exchange_login : ScramVersion → Bool → OpenExchange → ServerLogin
 exchange_login version plus exchange = record {
-  way = ways.Scram version plus;
+  way = mechanisms.Scram version plus;
   user = Some exchange.challenge.user;
   acts_for = exchange.challenge.header.acts_for;
 }
@@ -361,13 +341,13 @@ sasl_machine server nonce frame reply next = (next.settings ≡ server.settings)
 -- ---- why a frame is rejected
 
 -- an init of this mechanism, which is offered
-abbrev pub InitRejects : ServerSettings → Way → Option (List ℕ) → Rejection → Type 0
-InitRejects settings ways.Anonymous response reason = ⊥
-InitRejects settings ways.External response reason = reason ≡ reasons.OtherIdentity
-InitRejects settings ways.Plain None reason = reason ≡ reasons.NoInitialResponse
-InitRejects settings ways.Plain (Some text) reason = MessageRejected (plain_by_settings settings) text reason
-InitRejects settings (ways.Scram version plus) None reason = reason ≡ reasons.NoInitialResponse
-InitRejects settings (ways.Scram version plus) (Some text) reason =
+abbrev pub InitRejects : ServerSettings → Mechanism → Option (List ℕ) → Rejection → Type 0
+InitRejects settings mechanisms.Anonymous response reason = ⊥
+InitRejects settings mechanisms.External response reason = reason ≡ reasons.OtherIdentity
+InitRejects settings mechanisms.Plain None reason = reason ≡ reasons.NoInitialResponse
+InitRejects settings mechanisms.Plain (Some text) reason = MessageRejected (plain_by_settings settings) text reason
+InitRejects settings (mechanisms.Scram version plus) None reason = reason ≡ reasons.NoInitialResponse
+InitRejects settings (mechanisms.Scram version plus) (Some text) reason =
     FirstRejected (known_for settings.records version).all (provider_by settings version plus) text reason
 
 -- an init
@@ -400,11 +380,11 @@ sasl_reasons server frame reason = ⊥
 
 -- an init of this mechanism: SCRAM for an escaped name or a challenge, PLAIN to prepare a password and to keep the names of
 -- a login, EXTERNAL to keep its name
-abbrev pub InitAllocates : ServerSettings → Way → Option (List ℕ) → Type 0
-InitAllocates settings ways.External response = AsksFor settings.external response
-InitAllocates settings ways.Plain (Some text) =
+abbrev pub InitAllocates : ServerSettings → Mechanism → Option (List ℕ) → Type 0
+InitAllocates settings mechanisms.External response = AsksFor settings.external response
+InitAllocates settings mechanisms.Plain (Some text) =
     PreparesPassword (plain_by_settings settings) text ⊎ ((parts : PlainParts) × MessageLetsIn settings text parts)
-InitAllocates settings (ways.Scram version plus) (Some text) = ReachesChallenge (provider_by settings version plus) text
+InitAllocates settings (mechanisms.Scram version plus) (Some text) = ReachesChallenge (provider_by settings version plus) text
 InitAllocates settings way response = ⊥
 
 -- a response
@@ -423,11 +403,11 @@ sasl_allocates server frame = IsInitFrame frame
 -- ---- how many HMAC values an answer takes (RFC 5802, section 3)
 
 -- an init of this mechanism: as many as that of one of SCRAM or PLAIN by itself
-abbrev pub init_hmacs : ServerSettings → Way → Option (List ℕ) → ℕ → Type 0
-init_hmacs settings (ways.Scram version plus) (Some text) n = let provider = provider_by settings version plus in
+abbrev pub init_hmacs : ServerSettings → Mechanism → Option (List ℕ) → ℕ → Type 0
+init_hmacs settings (mechanisms.Scram version plus) (Some text) n = let provider = provider_by settings version plus in
     acceptor_hmacs (ScramAcceptor provider Initial)
     (frames.Init (server_mechanism provider.version provider.rules) (Some text) None) n
-init_hmacs settings ways.Plain (Some text) n = plain_hmacs (plain_by_settings settings) text n
+init_hmacs settings mechanisms.Plain (Some text) n = plain_hmacs (plain_by_settings settings) text n
 init_hmacs settings way response n = n ≡ 0
 
 abbrev pub init_where_hmacs : Bool → ServerSettings → List ℕ → Option (List ℕ) → ℕ → Type 0

@@ -7,7 +7,7 @@ ghost use Rattle.fe2o3_sasl_core.specs.SaslAcceptor.{ends_with, sent_frame};
 ghost use Rattle.fe2o3_sasl_wire.specs.declared.amqp_types.SaslCode.TheVariants.{Auth};
 
 use crate::OutOfMemory;
-use crate::mechanism_names::{ANONYMOUS, PLAIN};
+use crate::mechanism::{ANONYMOUS, PLAIN};
 use crate::rejection::Rejection;
 use crate::sasl_acceptor::{
     AuthenticatedUser, SaslAcceptor, SaslAnonymousMechanism, SaslPlainMechanism, SaslServerFrame,

@@ -15,7 +15,7 @@ ghost use Rattle.fe2o3_sasl_core.specs.LoginAttempts.{ClaimAllocates, ClaimIn, C
 pub mod laws;
 
 use crate::OutOfMemory;
-use crate::mechanism_names::PLAIN;
+use crate::mechanism::PLAIN;
 use crate::plain_server::plain_user;
 use crate::rejection::Rejection;
 use crate::sasl_acceptor::SaslServerFrame;

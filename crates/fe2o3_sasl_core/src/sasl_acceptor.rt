@@ -9,7 +9,7 @@ ghost use Rattle.fe2o3_sasl_core.specs.Costs.{acceptor_hmacs, CostsAtMost};
 ghost use Rattle.fe2o3_sasl_core.specs.SaslAcceptor.{Acceptor, PlainAcceptor, AnonymousAcceptor, acceptor_names, acceptor_machine, acceptor_allocates, acceptor_user, offered, NamesPlain, PlainRejected, ZeroPart, ends_with, plain_acceptor, HasReason, acceptor_reasons, no_users, sent_frame};
 
 use crate::OutOfMemory;
-use crate::mechanism_names::{ANONYMOUS, PLAIN, symbol_of};
+use crate::mechanism::{ANONYMOUS, PLAIN, symbol_of};
 use crate::rejection::Rejection;
 use fe2o3_sasl_wire::{
     Array, SaslChallenge, SaslCode, SaslInit, SaslMechanisms, SaslOutcome, SaslResponse, Symbol,

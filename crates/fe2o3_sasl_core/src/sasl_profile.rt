@@ -20,7 +20,7 @@ mod single_message;
 
 use crate::OutOfMemory;
 use crate::client_policy::ClientPolicy;
-use crate::mechanism_names::{ANONYMOUS, EXTERNAL, PLAIN, symbol_of};
+use crate::mechanism::{ANONYMOUS, EXTERNAL, PLAIN, symbol_of};
 use crate::plain_server::is_plain_word;
 pub use error::{ProfileError, UrlError};
 use fe2o3_sasl_wire::{Binary, SaslInit, SaslOutcome, SaslResponse, Symbol};

@@ -10,7 +10,8 @@ ghost use Rattle.fe2o3_sasl_core.specs.Costs.{AcceptorStepCosts, CostsAtMost, Co
 ghost use Rattle.fe2o3_sasl_core.specs.LoginAttempts.{IsAttempt, LateAllocates, LateUser, attempt_of};
 ghost use Rattle.fe2o3_sasl_core.specs.Runs.{AcceptorAnswers, AcceptorSteps, server_answer};
 ghost use Rattle.fe2o3_sasl_core.specs.SaslAcceptor.{HasReason, reason_in, sent_frame};
-ghost use Rattle.fe2o3_sasl_core.specs.Servers.{KeepsReason, NotStarted, StepKeepsReason, ServerAt, acting_of_login, logged_in_at, server_login, mechanism_by, name_where_offered, is_offered_by, offers_any, rejection_of_server, sasl_allocates, sasl_hmacs, sasl_machine, sasl_reasons, sasl_acting, sasl_server, sasl_names, sasl_user, settings_with, settings_in, stage_of, user_of_login, way_name};
+ghost use Rattle.fe2o3_sasl_core.specs.Mechanisms.{mechanism_symbol};
+ghost use Rattle.fe2o3_sasl_core.specs.Servers.{KeepsReason, NotStarted, StepKeepsReason, ServerAt, acting_of_login, logged_in_at, server_login, name_where_offered, is_offered_by, offers_any, rejection_of_server, sasl_allocates, sasl_hmacs, sasl_machine, sasl_reasons, sasl_acting, sasl_server, sasl_names, sasl_user, settings_with, settings_in, stage_of, user_of_login};
 ghost use Rattle.fe2o3_sasl_core.specs.private.ServerMoves.{after, claimed};
 
 mod answers;
@@ -19,19 +20,16 @@ pub mod options;
 mod reasons;
 pub mod saved;
 mod stage;
-mod ways;
 
 use crate::OutOfMemory;
 use crate::any_mechanism::HasMechanism;
-use crate::client_policy::Mechanism;
 use crate::events::ServerReply;
 use crate::login_attempts::{LoginAttempt, rejection_of, response_of, with_late};
-use crate::mechanism_names::symbol_of;
+use crate::mechanism::{Mechanism, symbol_of};
 use crate::rejection::Rejection;
 use crate::sasl_acceptor::{AuthenticatedUser, SaslAcceptor, SaslServerFrame};
 use crate::server::options::{ServerOptions, Transport};
 use crate::server::stage::{LoginOf, Move, Stage};
-use crate::server::ways::Way;
 use crate::steps::write_reply;
 use fe2o3_sasl_wire::{Array, Error, FrameView, SaslInit, SaslResponse, Symbol, view_frame};
 use fe2o3_scram::MultiRecordStore;
@@ -102,23 +100,23 @@ impl<'a> Server<'a> {
     pub fn offers_any(&self) -> bool
         ensures { result ≡ offers_any (settings_in self.now) }
     {
-        self.offers(Way::Scram(ScramVersion::Sha512, true))
-            || self.offers(Way::Scram(ScramVersion::Sha256, true))
-            || self.offers(Way::Scram(ScramVersion::Sha1, true))
-            || self.offers(Way::Scram(ScramVersion::Sha512, false))
-            || self.offers(Way::Scram(ScramVersion::Sha256, false))
-            || self.offers(Way::Scram(ScramVersion::Sha1, false))
-            || self.offers(Way::Plain)
-            || self.offers(Way::Anonymous)
-            || self.offers(Way::External)
+        self.offers(Mechanism::Scram(ScramVersion::Sha512, true))
+            || self.offers(Mechanism::Scram(ScramVersion::Sha256, true))
+            || self.offers(Mechanism::Scram(ScramVersion::Sha1, true))
+            || self.offers(Mechanism::Scram(ScramVersion::Sha512, false))
+            || self.offers(Mechanism::Scram(ScramVersion::Sha256, false))
+            || self.offers(Mechanism::Scram(ScramVersion::Sha1, false))
+            || self.offers(Mechanism::Plain)
+            || self.offers(Mechanism::Anonymous)
+            || self.offers(Mechanism::External)
     }
 
     /// Returns the mechanism by which somebody has logged in, from the outcome Ok on. By ANONYMOUS it is nobody.
     pub fn mechanism(&self) -> Option<Mechanism>
-        ensures { result ≡ option_map (λ login. mechanism_by login.way) (logged_in_at (sasl_server self.now).stage) }
+        ensures { result ≡ option_map (λ login. login.way) (logged_in_at (sasl_server self.now).stage) }
     {
         match &self.stage {
-            Stage::Authenticated(login) => Some(login.way.mechanism()),
+            Stage::Authenticated(login) => Some(login.way),
             _ => None,
         }
     }
@@ -360,9 +358,14 @@ impl<'a> Server<'a> {
     }
 
     /// Appends the name of a mechanism, if it is offered.
-    fn offer(&self, alloc: Global, names: &mut Vec<Symbol>, way: Way) -> Result<(), OutOfMemory>
+    fn offer(
+        &self,
+        alloc: Global,
+        names: &mut Vec<Symbol>,
+        way: Mechanism,
+    ) -> Result<(), OutOfMemory>
         ensures { OnOk result (names.new.items
-            ≡ names.old.items ++ name_where_offered (is_offered_by (settings_in self.now) way) (way_name way)) }
+            ≡ names.old.items ++ name_where_offered (is_offered_by (settings_in self.now) way) (mechanism_symbol way)) }
     {
         if self.offers(way) {
             names.push(symbol_of(alloc, way.name())?)?;
@@ -412,15 +415,39 @@ impl SaslAcceptor for Server<'_> {
 
     fn mechanisms(&self, alloc: Global) -> Result<Array<Symbol>, OutOfMemory> {
         let mut names = Vec::new(alloc);
-        self.offer(alloc, &mut names, Way::Scram(ScramVersion::Sha512, true))?;
-        self.offer(alloc, &mut names, Way::Scram(ScramVersion::Sha256, true))?;
-        self.offer(alloc, &mut names, Way::Scram(ScramVersion::Sha1, true))?;
-        self.offer(alloc, &mut names, Way::Scram(ScramVersion::Sha512, false))?;
-        self.offer(alloc, &mut names, Way::Scram(ScramVersion::Sha256, false))?;
-        self.offer(alloc, &mut names, Way::Scram(ScramVersion::Sha1, false))?;
-        self.offer(alloc, &mut names, Way::Plain)?;
-        self.offer(alloc, &mut names, Way::Anonymous)?;
-        self.offer(alloc, &mut names, Way::External)?;
+        self.offer(
+            alloc,
+            &mut names,
+            Mechanism::Scram(ScramVersion::Sha512, true),
+        )?;
+        self.offer(
+            alloc,
+            &mut names,
+            Mechanism::Scram(ScramVersion::Sha256, true),
+        )?;
+        self.offer(
+            alloc,
+            &mut names,
+            Mechanism::Scram(ScramVersion::Sha1, true),
+        )?;
+        self.offer(
+            alloc,
+            &mut names,
+            Mechanism::Scram(ScramVersion::Sha512, false),
+        )?;
+        self.offer(
+            alloc,
+            &mut names,
+            Mechanism::Scram(ScramVersion::Sha256, false),
+        )?;
+        self.offer(
+            alloc,
+            &mut names,
+            Mechanism::Scram(ScramVersion::Sha1, false),
+        )?;
+        self.offer(alloc, &mut names, Mechanism::Plain)?;
+        self.offer(alloc, &mut names, Mechanism::Anonymous)?;
+        self.offer(alloc, &mut names, Mechanism::External)?;
         Ok(Array(names))
     }
 

@@ -6,10 +6,11 @@ use Rattle.fe2o3_sasl_wire.specs.SaslFrames as frames
 use Rattle.fe2o3_sasl_wire.specs.SaslFrames.{canonical}
 use Rattle.fe2o3_sasl_wire.specs.declared.sasl_frames.error.Error.TheVariants.{TooLarge}
 use Rattle.fe2o3_sasl_core.specs.Bodies.{SpellsBody}
-use Rattle.fe2o3_sasl_core.specs.ClientPolicy.{is_allowed, policy_name}
+use Rattle.fe2o3_sasl_core.specs.Mechanisms.{mechanism_symbol}
+use Rattle.fe2o3_sasl_core.specs.ClientPolicy.{is_allowed}
 use Rattle.fe2o3_sasl_core.specs.ProfileMachine.{IsSelected, NoneIsSelected}
 use Rattle.fe2o3_sasl_core.specs.Profiles.{PolicyProfile, Profile, Selection}
-use Rattle.fe2o3_sasl_core.specs.declared.client_policy.Mechanism.{Mechanism}
+use Rattle.fe2o3_sasl_core.specs.declared.mechanism.Mechanism.{Mechanism}
 use Rattle.fe2o3_sasl_core.specs.declared.sasl_profile.error.ProfileError.TheVariants.{Frame as FrameFault, NotImplemented}
 use Rattle.fe2o3_sasl_negotiation.specs.ClientNegotiation.{ClientReceives}
 use Rattle.fe2o3_sasl_negotiation.specs.Framing.{framed}
@@ -67,8 +68,8 @@ pub record SendsAllowed (hostname : Option (List ℕ)) (selection : Selection) (
   pub completes : Completes side bytes turns.Mechanisms body
   pub spells : SpellsBody body (Ok (frames.Mechanisms names))
   pub allowed : is_allowed selection.policy mechanism ≡ true
-  pub offered : Contains names (policy_name mechanism)
-  pub written : canonical (frames.Init (policy_name mechanism) response hostname) ≡ Some init
+  pub offered : Contains names (mechanism_symbol mechanism)
+  pub written : canonical (frames.Init (mechanism_symbol mechanism) response hostname) ≡ Some init
   pub sends : sent ≡ framed init
 
 -- all that a client sends before it has selected a profile is an init of a mechanism that the policy allows and the server offers

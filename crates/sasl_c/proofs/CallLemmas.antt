@@ -11,8 +11,8 @@ use Rattle.fe2o3_scram.specs.declared.hmac.ScramVersion.{ScramVersion}
 use Rattle.fe2o3_sasl_core.specs.MockChoices.{MockChoice}
 use Rattle.fe2o3_sasl_core.specs.SavedServers.{IsRestored, KeptStage, KeptNothing, challenge_way, exchange_now, kept_stage, record_now, restored_stage}
 use Rattle.fe2o3_sasl_core.specs.Servers.{ExchangeOpen, NotStarted, ResponseAsked, is_offered_by, ServerAt, ServerSettings, ServerStage, sasl_machine}
-use Rattle.fe2o3_sasl_core.specs.declared.server.ways.Way.{Way}
-use Rattle.fe2o3_sasl_core.specs.declared.server.ways.Way.TheVariants as ways
+use Rattle.fe2o3_sasl_core.specs.declared.mechanism.Mechanism.{Mechanism}
+use Rattle.fe2o3_sasl_core.specs.declared.mechanism.Mechanism.TheVariants as mechanisms
 use Rattle.fe2o3_sasl_negotiation.specs.Connections.{fresh}
 use Rattle.fe2o3_sasl_negotiation.specs.Laws.{Calls}
 use Rattle.fe2o3_sasl_negotiation.specs.Negotiations.{Reading, ReceivesAt, Side}
@@ -337,14 +337,14 @@ stored_now settings version plus exchange is = stored_where version plus (is_req
     (is_offered_by settings (challenge_way version exchange.challenge)) is
 
 module _ (settings : ServerSettings) where
-  one_init : (way : Way) (response : Option (List ℕ))
+  one_init : (way : Mechanism) (response : Option (List ℕ))
       → InitAlike settings settings.records settings.rights settings.mock settings.plain_version way response
-  one_init (ways.Scram version plus) (Some text) = λ client reads. refl
-  one_init (ways.Scram version plus) None = tt
-  one_init ways.Plain (Some text) = λ parts. ((λ lets. lets), λ lets. lets)
-  one_init ways.Plain None = tt
-  one_init ways.Anonymous response = tt
-  one_init ways.External response = tt
+  one_init (mechanisms.Scram version plus) (Some text) = λ client reads. refl
+  one_init (mechanisms.Scram version plus) None = tt
+  one_init mechanisms.Plain (Some text) = λ parts. ((λ lets. lets), λ lets. lets)
+  one_init mechanisms.Plain None = tt
+  one_init mechanisms.Anonymous response = tt
+  one_init mechanisms.External response = tt
 
   one_response : (stage other : ServerStage) (text : List ℕ) → Looks stage other → IsRestored settings stage
       → IsRestored settings other

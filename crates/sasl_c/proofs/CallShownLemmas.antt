@@ -13,9 +13,11 @@ use Rattle.fe2o3_scram.specs.declared.scram_messages.channel_binding_flag.Channe
 use Rattle.fe2o3_scram.specs.declared.scram_messages.channel_binding_flag.ChannelBindingFlag.TheVariants.{NotSupported, ClientSupports, Required}
 use Rattle.fe2o3_sasl_core.specs.MockChoices.{MockChoice}
 use Rattle.fe2o3_sasl_core.specs.SavedServers.{IsRestored, KeptStage, KeptNothing, KeptAsked, KeptOpen, KeptSignature, KeptLogin, challenge_way, exchange_now, kept_stage, restored_stage}
-use Rattle.fe2o3_sasl_core.specs.Servers.{ExchangeOpen, NotStarted, ResponseAsked, ServerSettings, ServerStage, SignatureShown, UserAuthenticated, is_offered_by, logged_in_at, way_name}
-use Rattle.fe2o3_sasl_core.specs.declared.server.ways.Way.{Way}
-use Rattle.fe2o3_sasl_core.specs.declared.server.ways.Way.TheVariants as ways
+use Rattle.fe2o3_sasl_core.specs.Mechanisms.{mechanism_symbol}
+use Rattle.fe2o3_sasl_core.specs.Servers.{ExchangeOpen, NotStarted, ResponseAsked, ServerSettings, ServerStage, SignatureShown, UserAuthenticated, is_offered_by, logged_in_at}
+use Rattle.fe2o3_sasl_core.specs.declared.mechanism.Mechanism.{Mechanism}
+use Rattle.fe2o3_sasl_core.specs.declared.mechanism.Mechanism.TheVariants as mechanisms
+use Rattle.fe2o3_sasl_core.proofs.lemmas.machines.MechanismLemmas.{one_mechanism}
 use Rattle.sasl_c.specs.declared.server.ScramServer.{ScramServer as ScramStruct}
 use Rattle.sasl_c.specs.Server.{HasSigned, HoldsIdentity, ShowsSigned, ShowsStage, ShowsUser, fresh_server_struct, open_number, stage_struct, struct_challenge, struct_where}
 use Rattle.sasl_c.proofs.CallLooksLemmas.{Looks}
@@ -84,34 +86,6 @@ some_signed : (scram : ScramStruct) (user acts_for : Option (List ℕ)) → Show
 some_signed scram None acts_for shows none = shows
 some_signed scram (Some user) acts_for shows none = none user acts_for shows
 
--- ---- names of mechanisms
-
-way_of : List ℕ → Option Way
-way_of name = if pointwise nat_eq name (way_name (ways.Scram Sha512 true)) then Some (ways.Scram Sha512 true) else
-    if pointwise nat_eq name (way_name (ways.Scram Sha256 true)) then Some (ways.Scram Sha256 true) else
-    if pointwise nat_eq name (way_name (ways.Scram Sha1 true)) then Some (ways.Scram Sha1 true) else
-    if pointwise nat_eq name (way_name (ways.Scram Sha512 false)) then Some (ways.Scram Sha512 false) else
-    if pointwise nat_eq name (way_name (ways.Scram Sha256 false)) then Some (ways.Scram Sha256 false) else
-    if pointwise nat_eq name (way_name (ways.Scram Sha1 false)) then Some (ways.Scram Sha1 false) else
-    if pointwise nat_eq name (way_name ways.Plain) then Some ways.Plain else
-    if pointwise nat_eq name (way_name ways.Anonymous) then Some ways.Anonymous else Some ways.External
-
-way_of_name : (way : Way) → way_of (way_name way) ≡ Some way
-unfolding way_of
-way_of_name (ways.Scram Sha512 true) = refl
-way_of_name (ways.Scram Sha256 true) = refl
-way_of_name (ways.Scram Sha1 true) = refl
-way_of_name (ways.Scram Sha512 false) = refl
-way_of_name (ways.Scram Sha256 false) = refl
-way_of_name (ways.Scram Sha1 false) = refl
-way_of_name ways.Plain = refl
-way_of_name ways.Anonymous = refl
-way_of_name ways.External = refl
-
-one_way : (way other : Way) → way_name way ≡ way_name other → way ≡ other
-one_way way other same =
-    let both : Some way ≡ Some other = sym (way_of_name way) ∙ (ap way_of same ∙ way_of_name other) in cc
-
 -- ---- the stage that is restored
 
 module _ (settings : ServerSettings) (records : MultiRecords) (rights : Rights) (mock : Option MockChoice)
@@ -119,7 +93,7 @@ module _ (settings : ServerSettings) (records : MultiRecords) (rights : Rights) 
   abbrev passed : ServerSettings
   passed = over records rights mock plain settings
 
-  asked_looks : (way : Way) (nonce : List ℕ) (stage : ServerStage) (is : Bool)
+  asked_looks : (way : Mechanism) (nonce : List ℕ) (stage : ServerStage) (is : Bool)
       → (if is then ResponseAsked way nonce else NotStarted) ≡ ResponseAsked way nonce
       → stage ≡ (if is then ResponseAsked way nonce else NotStarted) → Looks (ResponseAsked way nonce) stage
   asked_looks way nonce stage true was same =
@@ -136,7 +110,7 @@ module _ (settings : ServerSettings) (records : MultiRecords) (rights : Rights) 
       subst (λ (s : ServerStage). Looks (ExchangeOpen version plus exchange) s) (sym same) (refl, one, challenge)
   open_looks version plus exchange mine other binds stage false challenge was same = absurd (cc)
 
-  restored_asked : (way other_way : Way) (nonce other_nonce : List ℕ) (stage : ServerStage) → other_way ≡ way
+  restored_asked : (way other_way : Mechanism) (nonce other_nonce : List ℕ) (stage : ServerStage) → other_way ≡ way
       → other_nonce ≡ nonce → IsRestored settings (ResponseAsked way nonce)
       → stage ≡ restored_stage passed (KeptAsked other_way other_nonce) → Looks (ResponseAsked way nonce) stage
   unfolding IsRestored
@@ -180,7 +154,7 @@ module _ (settings : ServerSettings) (records : MultiRecords) (rights : Rights) 
   restored_looks scram (ResponseAsked way nonce) other KeptNothing out was written shows too same =
       absurd (too.2 way nonce shows)
   restored_looks scram (ResponseAsked way nonce) other (KeptAsked other_way other_nonce) out was written shows too same =
-      restored_asked way other_way nonce other_nonce other (one_way other_way way (too.4 ∙ sym shows.4))
+      restored_asked way other_way nonce other_nonce other (one_mechanism other_way way (too.4 ∙ sym shows.4))
       (too.2 ∙ sym shows.2) was same
   restored_looks scram (ResponseAsked way nonce) other (KeptOpen version challenge) out was written shows too same =
       absurd (not_five challenge.header.flag (sym too.1.0 ∙ shows.0))
@@ -256,7 +230,7 @@ shown_alike scram NotStarted (UserAuthenticated other) looks shows =
     keeps_nothing scram KeptNothing refl (zero_state scram other.user other.acts_for looks shows)
 shown_alike scram (ResponseAsked way nonce) (ResponseAsked other_way other_nonce) looks shows =
     let one : KeptAsked other_way other_nonce ≡ KeptAsked way nonce =
-    ap (λ (w : Way). KeptAsked w other_nonce) looks.0 ∙ ap (KeptAsked way) looks.1 in
+    ap (λ (w : Mechanism). KeptAsked w other_nonce) looks.0 ∙ ap (KeptAsked way) looks.1 in
     subst (ShowsStage scram) one shows
 shown_alike scram (ExchangeOpen version plus exchange) (ExchangeOpen other_version other_plus other) looks shows =
     let one : KeptOpen other_version other.challenge ≡ KeptOpen version exchange.challenge =
@@ -292,7 +266,7 @@ written_alike NotStarted NotStarted looks = refl
 written_alike NotStarted (UserAuthenticated other) looks = fresh_where 2 other.user other.acts_for looks
 written_alike (ResponseAsked way nonce) (ResponseAsked other_way other_nonce) looks =
     let one : KeptAsked other_way other_nonce ≡ KeptAsked way nonce =
-    ap (λ (w : Way). KeptAsked w other_nonce) looks.0 ∙ ap (KeptAsked way) looks.1 in
+    ap (λ (w : Mechanism). KeptAsked w other_nonce) looks.0 ∙ ap (KeptAsked way) looks.1 in
     ap stage_struct one
 written_alike (ExchangeOpen version plus exchange) (ExchangeOpen other_version other_plus other) looks =
     let one : KeptOpen other_version other.challenge ≡ KeptOpen version exchange.challenge =

@@ -19,8 +19,8 @@ use Rattle.fe2o3_sasl_core.specs.MockChoices.{MockChoice}
 use Rattle.fe2o3_sasl_core.specs.PlainServer.{PlainParts}
 use Rattle.fe2o3_sasl_core.specs.SavedServers.{IsRestored}
 use Rattle.fe2o3_sasl_core.specs.Servers.{AsksForResponse, ClosesExchange, ConfirmsSignature, ExchangeOpen, InitAnswers, InitWhere, MessageLetsIn, NotStarted, OpensScram, ResponseAnswers, ResponseAsked, SendsSignature, ServerAt, ServerLogin, ServerSettings, ServerStage, SignatureShown, StageAnswers, StageRejects, UserAuthenticated, asked_way, is_response_asked, logged_in_at, provider_by, rules_by, sasl_machine}
-use Rattle.fe2o3_sasl_core.specs.declared.server.ways.Way.{Way}
-use Rattle.fe2o3_sasl_core.specs.declared.server.ways.Way.TheVariants as ways
+use Rattle.fe2o3_sasl_core.specs.declared.mechanism.Mechanism.{Mechanism}
+use Rattle.fe2o3_sasl_core.specs.declared.mechanism.Mechanism.TheVariants as mechanisms
 use Rattle.fe2o3_sasl_core.proofs.lemmas.machines.SavedServerLemmas.{stage_goes}
 use Rattle.sasl_c.proofs.CallLooksLemmas.{Looks, looks_same, one_asked, some_record}
 
@@ -46,9 +46,9 @@ module _ (settings : ServerSettings) (records : MultiRecords) (rights : Rights) 
   abbrev pub PlainAlike : List ℕ → Type 0
   PlainAlike text = (parts : PlainParts) → MessageLetsIn passed text parts ↔ MessageLetsIn settings text parts
 
-  abbrev pub InitAlike : Way → Option (List ℕ) → Type 0
-  InitAlike (ways.Scram version plus) (Some text) = ScramAlike version plus text
-  InitAlike ways.Plain (Some text) = PlainAlike text
+  abbrev pub InitAlike : Mechanism → Option (List ℕ) → Type 0
+  InitAlike (mechanisms.Scram version plus) (Some text) = ScramAlike version plus text
+  InitAlike mechanisms.Plain (Some text) = PlainAlike text
   InitAlike way response = Unit {0}
 
   -- a response: that of an init, or one to an exchange of one record, whose user has one right
@@ -62,7 +62,7 @@ module _ (settings : ServerSettings) (records : MultiRecords) (rights : Rights) 
 
   abbrev pub FrameAlike : ServerStage → ServerStage → SaslFrame → Type 0
   FrameAlike stage other (frames.Init name response hostname) =
-      (way : Way) → asked_way settings name ≡ Some way → InitAlike way response
+      (way : Mechanism) → asked_way settings name ≡ Some way → InitAlike way response
   FrameAlike stage other (frames.Response text) = ResponseAlike stage other text
   FrameAlike stage other frame = Unit {0}
 
@@ -70,7 +70,7 @@ module _ (settings : ServerSettings) (records : MultiRecords) (rights : Rights) 
   abbrev Both : ServerStage → ServerStage → ServerStage → (ServerStage → Type 0) → Type 0
   Both stage other next Answers = Answers next ⊎ (Answers stage × (next ≡ other))
 
-  asks_both : (does : Bool) (way : Way) (stage other next : ServerStage) (nonce : List ℕ) (reply : SaslFrame)
+  asks_both : (does : Bool) (way : Mechanism) (stage other next : ServerStage) (nonce : List ℕ) (reply : SaslFrame)
       → AsksForResponse does way other nonce reply next
       → Both stage other next (λ after. AsksForResponse does way stage nonce reply after)
   asks_both true way stage other next nonce reply is = inl is
@@ -95,7 +95,7 @@ module _ (settings : ServerSettings) (records : MultiRecords) (rights : Rights) 
       (answer : Result (Option (List ℕ × OpenExchange)) ServerScramErrorKind) (reply : SaslFrame)
       → BeginsExchange (provider_by settings version plus) nonce text answer
       → OpensScram version plus other answer reply next
-      → Both stage other next (λ after. InitAnswers settings (ways.Scram version plus) stage nonce (Some text) reply after)
+      → Both stage other next (λ after. InitAnswers settings (mechanisms.Scram version plus) stage nonce (Some text) reply after)
   opens_both version plus stage other next nonce text (Ok (Some opened)) reply begins is =
       inl (Ok (Some opened), begins, is)
   opens_both version plus stage other next nonce text (Ok None) reply begins is =
@@ -103,27 +103,27 @@ module _ (settings : ServerSettings) (records : MultiRecords) (rights : Rights) 
   opens_both version plus stage other next nonce text (Err fault) reply begins is =
       inr ((Err fault, begins, (is.0, refl)), is.1)
 
-  init_both : (way : Way) (stage other next : ServerStage) (nonce : List ℕ) (response : Option (List ℕ))
+  init_both : (way : Mechanism) (stage other next : ServerStage) (nonce : List ℕ) (response : Option (List ℕ))
       (reply : SaslFrame) → InitAlike way response → InitAnswers passed way other nonce response reply next
       → Both stage other next (λ after. InitAnswers settings way stage nonce response reply after)
-  init_both ways.Anonymous stage other next nonce response reply alike is = inl is
-  init_both ways.External stage other next nonce response reply alike (inl is) = inl (inl is)
-  init_both ways.External stage other next nonce response reply alike (inr (not, is)) =
+  init_both mechanisms.Anonymous stage other next nonce response reply alike is = inl is
+  init_both mechanisms.External stage other next nonce response reply alike (inl is) = inl (inl is)
+  init_both mechanisms.External stage other next nonce response reply alike (inr (not, is)) =
       inr (inr (not, (is.0, refl)), is.1)
-  init_both ways.Plain stage other next nonce None reply alike is =
-      asks_both settings.extra.initial_response ways.Plain stage other next nonce reply is
-  init_both ways.Plain stage other next nonce (Some text) reply alike (inl (parts, lets, is)) =
+  init_both mechanisms.Plain stage other next nonce None reply alike is =
+      asks_both settings.extra.initial_response mechanisms.Plain stage other next nonce reply is
+  init_both mechanisms.Plain stage other next nonce (Some text) reply alike (inl (parts, lets, is)) =
       inl (inl (parts, (alike parts).0 lets, is))
-  init_both ways.Plain stage other next nonce (Some text) reply alike (inr (none, is)) =
+  init_both mechanisms.Plain stage other next nonce (Some text) reply alike (inr (none, is)) =
       inr (inr ((λ parts lets. none parts ((alike parts).1 lets)), (is.0, refl)), is.1)
-  init_both (ways.Scram version plus) stage other next nonce None reply alike is =
-      asks_both settings.extra.initial_response (ways.Scram version plus) stage other next nonce reply is
-  init_both (ways.Scram version plus) stage other next nonce (Some text) reply alike (answer, begins, is) =
+  init_both (mechanisms.Scram version plus) stage other next nonce None reply alike is =
+      asks_both settings.extra.initial_response (mechanisms.Scram version plus) stage other next nonce reply is
+  init_both (mechanisms.Scram version plus) stage other next nonce (Some text) reply alike (answer, begins, is) =
       opens_both version plus stage other next nonce text answer reply
       (begins_both version plus nonce text answer alike begins) is
 
-  asked_both : (found : Option Way) (stage other next : ServerStage) (nonce : List ℕ) (response : Option (List ℕ))
-      (reply : SaslFrame) → ((way : Way) → found ≡ Some way → InitAlike way response)
+  asked_both : (found : Option Mechanism) (stage other next : ServerStage) (nonce : List ℕ) (response : Option (List ℕ))
+      (reply : SaslFrame) → ((way : Mechanism) → found ≡ Some way → InitAlike way response)
       → MatchOption found (StageRejects other reply next)
       (λ way. InitAnswers passed way other nonce response reply next)
       → Both stage other next (λ after. MatchOption found (StageRejects stage reply after)
@@ -134,7 +134,7 @@ module _ (settings : ServerSettings) (records : MultiRecords) (rights : Rights) 
 
   where_both : (due : Bool) (name : List ℕ) (stage other next : ServerStage) (nonce : List ℕ)
       (response : Option (List ℕ)) (reply : SaslFrame)
-      → ((way : Way) → asked_way settings name ≡ Some way → InitAlike way response)
+      → ((way : Mechanism) → asked_way settings name ≡ Some way → InitAlike way response)
       → InitWhere due passed other nonce name response reply next
       → Both stage other next (λ after. InitWhere due settings stage nonce name response reply after)
   where_both true name stage other next nonce response reply alike is = inl is
@@ -171,7 +171,7 @@ module _ (settings : ServerSettings) (records : MultiRecords) (rights : Rights) 
   rest_answered stage other next reply looks is =
       (stage, (is.0, refl), subst (λ (s : ServerStage). Looks stage s) (sym is.1) looks)
 
-  started_anew : (way : Way) (next : ServerStage) (nonce text : List ℕ) (reply : SaslFrame)
+  started_anew : (way : Mechanism) (next : ServerStage) (nonce text : List ℕ) (reply : SaslFrame)
       → Both NotStarted NotStarted next (λ after. InitAnswers settings way NotStarted nonce (Some text) reply after)
       → InitAnswers settings way NotStarted nonce (Some text) reply next
   started_anew way next nonce text reply (inl is) = is
@@ -233,7 +233,7 @@ module _ (settings : ServerSettings) (records : MultiRecords) (rights : Rights) 
     next,
     started_anew way next nonce text reply (init_both way NotStarted NotStarted next nonce (Some text) reply alike
         (subst (λ (n : List ℕ). InitAnswers passed way NotStarted n (Some text) reply next) looks.1
-        (subst (λ (w : Way). InitAnswers passed w NotStarted other_nonce (Some text) reply next) looks.0 is))),
+        (subst (λ (w : Mechanism). InitAnswers passed w NotStarted other_nonce (Some text) reply next) looks.0 is))),
     looks_same next,
   )
   response_answered (ExchangeOpen version plus exchange) (ExchangeOpen other_version other_plus other) next text reply looks
@@ -292,7 +292,7 @@ module _ (settings : ServerSettings) (records : MultiRecords) (rights : Rights) 
   out_so : (stage next : ServerStage) → next ≡ stage → IsOut stage → IsOut next
   out_so stage next same out = subst IsOut (sym same) out
 
-  asks_quiet : (does : Bool) (way : Way) (stage next : ServerStage) (nonce : List ℕ) (reply : SaslFrame)
+  asks_quiet : (does : Bool) (way : Mechanism) (stage next : ServerStage) (nonce : List ℕ) (reply : SaslFrame)
       → AsksForResponse does way stage nonce reply next → Quiet reply next
   asks_quiet true way stage next nonce reply is = inr (out_so (ResponseAsked way nonce) next is.1 refl)
   asks_quiet false way stage next nonce reply is = inl (_, _, is.0)
@@ -305,21 +305,21 @@ module _ (settings : ServerSettings) (records : MultiRecords) (rights : Rights) 
   opens_quiet version plus stage next (Ok None) reply is = inl (_, _, is.0)
   opens_quiet version plus stage next (Err fault) reply is = inl (_, _, is.0)
 
-  init_quiet : (way : Way) (stage next : ServerStage) (nonce : List ℕ) (response : Option (List ℕ)) (reply : SaslFrame)
+  init_quiet : (way : Mechanism) (stage next : ServerStage) (nonce : List ℕ) (response : Option (List ℕ)) (reply : SaslFrame)
       → InitAnswers settings way stage nonce response reply next → Quiet reply next
-  init_quiet ways.Anonymous stage next nonce response reply is = inl (_, _, is.0)
-  init_quiet ways.External stage next nonce response reply (inl (asks, is)) = inl (_, _, is.0)
-  init_quiet ways.External stage next nonce response reply (inr (not, is)) = inl (_, _, is.0)
-  init_quiet ways.Plain stage next nonce None reply is =
-      asks_quiet settings.extra.initial_response ways.Plain stage next nonce reply is
-  init_quiet ways.Plain stage next nonce (Some text) reply (inl (parts, lets, is)) = inl (_, _, is.0)
-  init_quiet ways.Plain stage next nonce (Some text) reply (inr (none, is)) = inl (_, _, is.0)
-  init_quiet (ways.Scram version plus) stage next nonce None reply is =
-      asks_quiet settings.extra.initial_response (ways.Scram version plus) stage next nonce reply is
-  init_quiet (ways.Scram version plus) stage next nonce (Some text) reply (answer, begins, is) =
+  init_quiet mechanisms.Anonymous stage next nonce response reply is = inl (_, _, is.0)
+  init_quiet mechanisms.External stage next nonce response reply (inl (asks, is)) = inl (_, _, is.0)
+  init_quiet mechanisms.External stage next nonce response reply (inr (not, is)) = inl (_, _, is.0)
+  init_quiet mechanisms.Plain stage next nonce None reply is =
+      asks_quiet settings.extra.initial_response mechanisms.Plain stage next nonce reply is
+  init_quiet mechanisms.Plain stage next nonce (Some text) reply (inl (parts, lets, is)) = inl (_, _, is.0)
+  init_quiet mechanisms.Plain stage next nonce (Some text) reply (inr (none, is)) = inl (_, _, is.0)
+  init_quiet (mechanisms.Scram version plus) stage next nonce None reply is =
+      asks_quiet settings.extra.initial_response (mechanisms.Scram version plus) stage next nonce reply is
+  init_quiet (mechanisms.Scram version plus) stage next nonce (Some text) reply (answer, begins, is) =
       opens_quiet version plus stage next answer reply is
 
-  asked_quiet : (found : Option Way) (stage next : ServerStage) (nonce : List ℕ) (response : Option (List ℕ))
+  asked_quiet : (found : Option Mechanism) (stage next : ServerStage) (nonce : List ℕ) (response : Option (List ℕ))
       (reply : SaslFrame) → MatchOption found (StageRejects stage reply next)
       (λ way. InitAnswers settings way stage nonce response reply next) → Quiet reply next
   asked_quiet None stage next nonce response reply is = inl (_, _, is.0)

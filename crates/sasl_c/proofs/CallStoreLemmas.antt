@@ -17,10 +17,11 @@ use Rattle.fe2o3_sasl_core.specs.LoginAttempts.{ClaimIn, ClaimsUser}
 use Rattle.fe2o3_sasl_core.specs.MockChoices.{MockChoice, mock_for}
 use Rattle.fe2o3_sasl_core.specs.PlainServer.{IsTaken, MeetsUser, PlainParts, SpellsPlain, TestedPassword}
 use Rattle.fe2o3_sasl_core.specs.SavedServers.{IsRestored, exchange_now, kept_stage, or_no_record, record_now, restored_stage}
-use Rattle.fe2o3_sasl_core.specs.Servers.{ExchangeOpen, NotStarted, ResponseAsked, ServerAt, ServerSettings, ServerStage, asked_among, has_hash, is_asked_by, is_offered_by, offer_order, provider_by, rules_by, way_name}
+use Rattle.fe2o3_sasl_core.specs.Mechanisms.{mechanism_symbol}
+use Rattle.fe2o3_sasl_core.specs.Servers.{ExchangeOpen, NotStarted, ResponseAsked, ServerAt, ServerSettings, ServerStage, asked_among, has_hash, is_asked_by, is_offered_by, offer_order, provider_by, rules_by}
 use Rattle.fe2o3_sasl_core.specs.declared.server.options.Mechanisms.{Mechanisms}
-use Rattle.fe2o3_sasl_core.specs.declared.server.ways.Way.{Way}
-use Rattle.fe2o3_sasl_core.specs.declared.server.ways.Way.TheVariants as ways
+use Rattle.fe2o3_sasl_core.specs.declared.mechanism.Mechanism.{Mechanism}
+use Rattle.fe2o3_sasl_core.specs.declared.mechanism.Mechanism.TheVariants as mechanisms
 use Rattle.fe2o3_sasl_core.proofs.lemmas.machines.ClaimLemmas.{claims_what_servers_read}
 use Rattle.fe2o3_sasl_negotiation.specs.Connections.{fresh}
 use Rattle.fe2o3_sasl_negotiation.specs.Framing.{IsWhole, body_read, size_of, unextended, unit_read, unit_size}
@@ -53,27 +54,27 @@ both_true : (one other : Bool) → (one && other) ≡ true → (one ≡ true) ×
 both_true true other is = (refl, is)
 both_true false other is = absurd (cc)
 
-module _ (settings : ServerSettings) (name : List ℕ) (way : Way) where
+module _ (settings : ServerSettings) (name : List ℕ) (way : Mechanism) where
   abbrev IsOffered : Type 0
-  IsOffered = (name ≡ way_name way) × (is_offered_by settings way ≡ true)
+  IsOffered = (name ≡ mechanism_symbol way) × (is_offered_by settings way ≡ true)
 
-  asked_of : (first : Way) (rest : Option Way) (is : Bool) → is_asked_by settings name first ≡ is
+  asked_of : (first : Mechanism) (rest : Option Mechanism) (is : Bool) → is_asked_by settings name first ≡ is
       → (if is then Some first else rest) ≡ Some way → (rest ≡ Some way → IsOffered) → IsOffered
   asked_of first rest true asks same later =
       let one : first ≡ way = cc in
-      let both = both_true (is_offered_by settings first) (pointwise nat_eq name (way_name first)) asks in
-      subst (λ (w : Way). (name ≡ way_name w) × (is_offered_by settings w ≡ true)) one
-      (same_text name (way_name first) (sym both.1), both.0)
+      let both = both_true (is_offered_by settings first) (pointwise nat_eq name (mechanism_symbol first)) asks in
+      subst (λ (w : Mechanism). (name ≡ mechanism_symbol w) × (is_offered_by settings w ≡ true)) one
+      (same_text name (mechanism_symbol first) (sym both.1), both.0)
   asked_of first rest false asks same later = later same
 
-  asked_offers : (order : List Way) → asked_among settings name order ≡ Some way → IsOffered
+  asked_offers : (order : List Mechanism) → asked_among settings name order ≡ Some way → IsOffered
   asked_offers [] same = absurd (cc)
   asked_offers (first ∷ others) same =
       asked_of first (asked_among settings name others) _ refl same (asked_offers others)
 
 -- SCRAM with -PLUS is offered only with a channel
 plus_of : (plus : Bool) (settings : ServerSettings) (version : ScramVersion)
-    → is_offered_by settings (ways.Scram version plus) ≡ true → is_some (rules_by plus settings.rules).channels ≡ plus
+    → is_offered_by settings (mechanisms.Scram version plus) ≡ true → is_some (rules_by plus settings.rules).channels ≡ plus
 plus_of true settings version is =
     (both_true (has_hash settings.mechanisms version) (not true || is_some settings.rules.channels) is).1
 plus_of false settings version is = refl
@@ -85,27 +86,27 @@ module _ (settings : ServerSettings) (records : MultiRecords) (rights : Rights) 
 
   -- both settings have the same of this user, for the texts that are said
   record Agrees (Says : List ℕ → Type 0) (user : List ℕ) : Type 0 where
-    scram : (version : ScramVersion) (plus : Bool) → is_offered_by settings (ways.Scram version plus) ≡ true
+    scram : (version : ScramVersion) (plus : Bool) → is_offered_by settings (mechanisms.Scram version plus) ≡ true
         → (provider_by passed version plus).records user ≡ (provider_by settings version plus).records user
     plain_meets : (text : List ℕ) (parts : PlainParts) (password : PasswordText) → Says text → SpellsPlain parts text
-        → is_offered_by settings ways.Plain ≡ true → TestedPassword settings.plain_passwords parts.password password
+        → is_offered_by settings mechanisms.Plain ≡ true → TestedPassword settings.plain_passwords parts.password password
         → MeetsUser (provider_for plain records) user password
         ↔ MeetsUser (provider_for settings.plain_version settings.records) user password
     may : (acts_for : Option (List ℕ)) → may_act rights user acts_for ≡ may_act settings.rights user acts_for
 
-  abbrev Init : Way → Option (List ℕ) → Type 0
+  abbrev Init : Mechanism → Option (List ℕ) → Type 0
   Init way response = InitAlike settings records rights mock plain way response
 
-  init_alike : (Says : List ℕ → Type 0) (way : Way) (name text : List ℕ) → Says text → name ≡ way_name way
+  init_alike : (Says : List ℕ → Type 0) (way : Mechanism) (name text : List ℕ) → Says text → name ≡ mechanism_symbol way
       → is_offered_by settings way ≡ true → ((user : List ℕ) → ClaimsUser name text user → Agrees Says user)
       → Init way (Some text)
-  init_alike Says (ways.Scram version plus) name text says same offers claims = λ client reads.
+  init_alike Says (mechanisms.Scram version plus) name text says same offers claims = λ client reads.
       let rules = rules_by plus settings.rules in
       let claim = claims_what_servers_read version rules text client reads in
       let own : mechanism_of version (is_some rules.channels) ≡ name =
       ap (mechanism_of version) (plus_of plus settings version offers) ∙ sym same in
       (claims client.user (subst (λ (n : List ℕ). ClaimsUser n text client.user) own claim)).scram version plus offers
-  init_alike Says ways.Plain name text says same offers claims = λ parts. (
+  init_alike Says mechanisms.Plain name text says same offers claims = λ parts. (
     λ lets. let agrees = named parts lets.0 lets.1 in (
       lets.0,
       lets.1,
@@ -128,32 +129,32 @@ module _ (settings : ServerSettings) (records : MultiRecords) (rights : Rights) 
           → Agrees Says parts.user
       named parts spells taken =
           claims parts.user (inr (same, (parts, spells, (tt, taken.1, taken.2, taken.3), refl)))
-  init_alike Says ways.Anonymous name text says same offers claims = tt
-  init_alike Says ways.External name text says same offers claims = tt
+  init_alike Says mechanisms.Anonymous name text says same offers claims = tt
+  init_alike Says mechanisms.External name text says same offers claims = tt
 
-  response_init : (Says : List ℕ → Type 0) (way : Way) (name : List ℕ) (response : Option (List ℕ))
-      → ((text : List ℕ) → response ≡ Some text → Says text) → name ≡ way_name way → is_offered_by settings way ≡ true
+  response_init : (Says : List ℕ → Type 0) (way : Mechanism) (name : List ℕ) (response : Option (List ℕ))
+      → ((text : List ℕ) → response ≡ Some text → Says text) → name ≡ mechanism_symbol way → is_offered_by settings way ≡ true
       → ((user : List ℕ) → ClaimIn name response (Some user) → Agrees Says user) → Init way response
   response_init Says way name (Some text) says same offers claims =
       init_alike Says way name text (says text refl) same offers claims
-  response_init Says (ways.Scram version plus) name None says same offers claims = tt
-  response_init Says ways.Plain name None says same offers claims = tt
-  response_init Says ways.Anonymous name None says same offers claims = tt
-  response_init Says ways.External name None says same offers claims = tt
+  response_init Says (mechanisms.Scram version plus) name None says same offers claims = tt
+  response_init Says mechanisms.Plain name None says same offers claims = tt
+  response_init Says mechanisms.Anonymous name None says same offers claims = tt
+  response_init Says mechanisms.External name None says same offers claims = tt
 
-  offered_so : (way : Way) (nonce : List ℕ) (is : Bool)
+  offered_so : (way : Mechanism) (nonce : List ℕ) (is : Bool)
       → (if is then ResponseAsked way nonce else NotStarted) ≡ ResponseAsked way nonce → is ≡ true
   offered_so way nonce true same = refl
   offered_so way nonce false same = absurd (cc)
 
-  offered : (way : Way) (nonce : List ℕ) → IsRestored settings (ResponseAsked way nonce)
+  offered : (way : Mechanism) (nonce : List ℕ) → IsRestored settings (ResponseAsked way nonce)
       → is_offered_by settings way ≡ true
   unfolding IsRestored
   offered way nonce was = offered_so way nonce (is_offered_by settings way) was
 
   -- the record of a user is one
   one_record : (Says : List ℕ → Type 0) (version : ScramVersion) (plus : Bool) (user : List ℕ)
-      → is_offered_by settings (ways.Scram version plus) ≡ true → Agrees Says user
+      → is_offered_by settings (mechanisms.Scram version plus) ≡ true → Agrees Says user
       → record_now passed version plus user ≡ record_now settings version plus user
   one_record Says version plus user offers agrees = ap or_no_record (agrees.scram version plus offers)
 
@@ -164,11 +165,11 @@ module _ (settings : ServerSettings) (records : MultiRecords) (rights : Rights) 
 
   opened : (version : ScramVersion) (plus : Bool) (exchange : OpenExchange)
       → IsRestored settings (ExchangeOpen version plus exchange)
-      → is_offered_by settings (ways.Scram version (is_required exchange.challenge.header.flag)) ≡ true
+      → is_offered_by settings (mechanisms.Scram version (is_required exchange.challenge.header.flag)) ≡ true
   unfolding IsRestored
   opened version plus exchange was = opened_so version plus (is_required exchange.challenge.header.flag) exchange
       (exchange_now settings version exchange.challenge)
-      (is_offered_by settings (ways.Scram version (is_required exchange.challenge.header.flag))) was
+      (is_offered_by settings (mechanisms.Scram version (is_required exchange.challenge.header.flag))) was
 
   response_alike : (scram : ScramStruct) (stage other : ServerStage) (text : List ℕ) → Looks stage other
       → IsRestored settings stage → IsRestored passed other → ShowsStage scram (kept_stage stage)
@@ -176,7 +177,7 @@ module _ (settings : ServerSettings) (records : MultiRecords) (rights : Rights) 
       → Agrees (CarriesText (frames.Response text)) user)
       → ResponseAlike settings records rights mock plain stage other text
   response_alike scram (ResponseAsked way nonce) other text looks was is shows names =
-      init_alike (CarriesText (frames.Response text)) way (way_name way) text refl refl (offered way nonce was)
+      init_alike (CarriesText (frames.Response text)) way (mechanism_symbol way) text refl refl (offered way nonce was)
       (λ user claims. names user (inr (way, nonce, shows, claims)))
   response_alike scram (ExchangeOpen version plus exchange) (ExchangeOpen other_version other_plus other) text looks was is
       shows names =

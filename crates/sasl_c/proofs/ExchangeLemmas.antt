@@ -12,14 +12,11 @@ use Rattle.fe2o3_scram.specs.declared.hmac.ScramVersion.TheVariants.{Sha1, Sha25
 use Rattle.fe2o3_scram.specs.declared.scram_messages.channel_binding_flag.ChannelBindingFlag.{ChannelBindingFlag}
 use Rattle.fe2o3_scram.specs.declared.scram_messages.channel_binding_flag.ChannelBindingFlag.TheVariants.{NotSupported, ClientSupports, Required}
 use Rattle.fe2o3_scram.specs.ServerFirst.{ServerChallenge}
-use Rattle.fe2o3_sasl_core.proofs.lemmas.machines.ServerAnswerLemmas.{IsAscii-way_name}
-use Rattle.fe2o3_sasl_core.specs.ClientPolicy.{policy_name}
-use Rattle.fe2o3_sasl_core.specs.SavedServers.{KeptStage, KeptNothing, KeptOpen, way_for}
-use Rattle.fe2o3_sasl_core.specs.Servers.{mechanism_by, way_name}
-use Rattle.fe2o3_sasl_core.specs.declared.client_policy.Mechanism.{Mechanism}
-use Rattle.fe2o3_sasl_core.specs.declared.client_policy.Mechanism.TheVariants as mechanisms
-use Rattle.fe2o3_sasl_core.specs.declared.server.ways.Way.{Way}
-use Rattle.fe2o3_sasl_core.specs.declared.server.ways.Way.TheVariants as ways
+use Rattle.fe2o3_sasl_core.proofs.lemmas.machines.ServerAnswerLemmas.{IsAscii-mechanism_symbol}
+use Rattle.fe2o3_sasl_core.specs.Mechanisms.{mechanism_symbol}
+use Rattle.fe2o3_sasl_core.specs.SavedServers.{KeptStage, KeptNothing, KeptOpen}
+use Rattle.fe2o3_sasl_core.specs.declared.mechanism.Mechanism.{Mechanism}
+use Rattle.fe2o3_sasl_core.specs.declared.mechanism.Mechanism.TheVariants as mechanisms
 use Rattle.sasl_c.specs.declared.server.ScramServer.{ScramServer as ScramStruct}
 use Rattle.sasl_c.specs.Server.{ChallengeHasRoom, HasAsked, HasSigned, IdentityHasRoom, IsLoggedIn, IsOpen, ShowsSigned, ShowsStage, ShowsUser, asked_struct, open_number, struct_where, named_struct, fresh_server_struct}
 use Rattle.sasl_c.specs.Status.{version_number}
@@ -143,36 +140,13 @@ pub ruleset of_login = (
 
 -- ---- the struct of an init that was asked
 
--- the name of a mechanism, by either of its definitions
-pub name_of : (mechanism : Mechanism) → way_name (way_for mechanism) ≡ policy_name mechanism
-name_of mechanisms.ScramSha512Plus = refl
-name_of mechanisms.ScramSha256Plus = refl
-name_of mechanisms.ScramSha1Plus = refl
-name_of mechanisms.ScramSha512 = refl
-name_of mechanisms.ScramSha256 = refl
-name_of mechanisms.ScramSha1 = refl
-name_of mechanisms.External = refl
-name_of mechanisms.Plain = refl
-name_of mechanisms.Anonymous = refl
-
-name_by : (way : Way) → policy_name (mechanism_by way) ≡ way_name way
-name_by (ways.Scram Sha512 true) = refl
-name_by (ways.Scram Sha256 true) = refl
-name_by (ways.Scram Sha1 true) = refl
-name_by (ways.Scram Sha512 false) = refl
-name_by (ways.Scram Sha256 false) = refl
-name_by (ways.Scram Sha1 false) = refl
-name_by ways.Plain = refl
-name_by ways.Anonymous = refl
-name_by ways.External = refl
-
-pub short_name : (mechanism : Mechanism) → length (policy_name mechanism) ≤ 1024
-short_name mechanisms.ScramSha512Plus = omega arith
-short_name mechanisms.ScramSha256Plus = omega arith
-short_name mechanisms.ScramSha1Plus = omega arith
-short_name mechanisms.ScramSha512 = omega arith
-short_name mechanisms.ScramSha256 = omega arith
-short_name mechanisms.ScramSha1 = omega arith
+pub short_name : (mechanism : Mechanism) → length (mechanism_symbol mechanism) ≤ 1024
+short_name (mechanisms.Scram Sha1 true) = omega arith
+short_name (mechanisms.Scram Sha256 true) = omega arith
+short_name (mechanisms.Scram Sha512 true) = omega arith
+short_name (mechanisms.Scram Sha1 false) = omega arith
+short_name (mechanisms.Scram Sha256 false) = omega arith
+short_name (mechanisms.Scram Sha512 false) = omega arith
 short_name mechanisms.External = omega arith
 short_name mechanisms.Plain = omega arith
 short_name mechanisms.Anonymous = omega arith
@@ -182,34 +156,34 @@ head_of : (n : ℕ) (text : List ℕ) → text ≡ take (length text) (zero_fill
 head_of n text = sym (take-append_seam text (replicate (n - length text) 0))
 
 pub asked_shows : (scram : ScramStruct) (mechanism : Mechanism) (nonce : List ℕ)
-    → scram ≡ asked_struct (way_for mechanism) nonce → length nonce ≡ 32 → HasAsked scram (way_for mechanism) nonce
+    → scram ≡ asked_struct mechanism nonce → length nonce ≡ 32 → HasAsked scram mechanism nonce
 asked_shows scram mechanism nonce same sized =
-    carried (λ (s : ScramStruct). HasAsked s (way_for mechanism) nonce) (asked_struct (way_for mechanism) nonce) scram
+    carried (λ (s : ScramStruct). HasAsked s mechanism nonce) (asked_struct mechanism nonce) scram
     (sym same) (
       refl,
       refl,
       head_of 512 nonce ∙ ap (λ n. take n (zero_filled 512 nonce)) sized,
-      omega (arith, short_name mechanism, ap length (name_of mechanism)),
-      head_of 1024 (way_name (way_for mechanism)),
+      short_name mechanism,
+      head_of 1024 (mechanism_symbol mechanism),
     )
 
 -- a struct whose text is not UTF-8, or not the name of a mechanism, shows no init
 pub not_utf8 : (scram : ScramStruct) (text : List ℕ) → text ≡ take scram.first_len scram.first → ¬ IsUtf8 text
-    → (way : Way) (nonce : List ℕ) → ¬ HasAsked scram way nonce
-not_utf8 scram text same wrong way nonce asked = wrong (carried IsUtf8 (way_name way) text (asked.4 ∙ sym same)
-    (IsUtf8-from_ascii (way_name way) (IsAscii-way_name way)))
+    → (way : Mechanism) (nonce : List ℕ) → ¬ HasAsked scram way nonce
+not_utf8 scram text same wrong way nonce asked = wrong (carried IsUtf8 (mechanism_symbol way) text (asked.4 ∙ sym same)
+    (IsUtf8-from_ascii (mechanism_symbol way) (IsAscii-mechanism_symbol way)))
 
 pub not_named : (scram : ScramStruct) (text : List ℕ) → text ≡ take scram.first_len scram.first
-    → ((mechanism : Mechanism) → policy_name mechanism ≢ text) → (way : Way) (nonce : List ℕ)
+    → ((mechanism : Mechanism) → mechanism_symbol mechanism ≢ text) → (way : Mechanism) (nonce : List ℕ)
     → ¬ HasAsked scram way nonce
-not_named scram text same none way nonce asked = none (mechanism_by way) (name_by way ∙ (asked.4 ∙ sym same))
+not_named scram text same none way nonce asked = none way (asked.4 ∙ sym same)
 
 pub named_asked : (scram : ScramStruct) (mechanism : Mechanism) (text nonce : List ℕ)
-    → text ≡ take scram.first_len scram.first → policy_name mechanism ≡ text → scram.state ≡ 5 → scram.nonce_len ≡ 32
-    → scram.first_len ≤ 1024 → nonce ≡ take 32 scram.nonce → HasAsked scram (way_for mechanism) nonce
+    → text ≡ take scram.first_len scram.first → mechanism_symbol mechanism ≡ text → scram.state ≡ 5 → scram.nonce_len ≡ 32
+    → scram.first_len ≤ 1024 → nonce ≡ take 32 scram.nonce → HasAsked scram mechanism nonce
 named_asked scram mechanism text nonce same named state sized few is =
-    (state, sized, is, few, name_of mechanism ∙ (named ∙ same))
+    (state, sized, is, few, named ∙ same)
 
 pub ruleset reads_asked = (not_utf8, not_named, named_asked)
 
-pub ruleset asks = (name_of, short_name)
+pub ruleset asks = (short_name)

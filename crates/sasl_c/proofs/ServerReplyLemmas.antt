@@ -16,7 +16,7 @@ use Rattle.fe2o3_sasl_core.specs.Runs.{AcceptorAnswers, AcceptorGives, SendsCano
 use Rattle.fe2o3_sasl_core.specs.SavedServers.{IsRestored, KeptStage, KeptNothing, KeptAsked, KeptOpen, KeptSignature, KeptLogin, challenge_way, exchange_now, kept_stage, restored_stage}
 use Rattle.fe2o3_sasl_core.specs.Servers.{ExchangeOpen, NotStarted, ResponseAsked, ServerSettings, ServerStage, SignatureShown, UserAuthenticated, is_offered_by, logged_in_at, sasl_reasons}
 use Rattle.fe2o3_sasl_core.specs.declared.rejection.Rejection.{Rejection}
-use Rattle.fe2o3_sasl_core.specs.declared.server.ways.Way.{Way}
+use Rattle.fe2o3_sasl_core.specs.declared.mechanism.Mechanism.{Mechanism}
 use Rattle.fe2o3_sasl_core.proofs.lemmas.machines.SavedServerLemmas.{stage_goes}
 use Rattle.sasl_c.specs.declared.sasl_server.SaslServerConfig.{SaslServerConfig as Config}
 use Rattle.sasl_c.specs.Rejections.{IsReasonOf, Logged, server_machine}
@@ -28,7 +28,7 @@ use Rattle.sasl_c.proofs.StatusLemmas.{carried}
 -- ---- a stage that is restored
 
 module _ (settings : ServerSettings) where
-  again_asked : (way : Way) (nonce : List ℕ) (is : Bool) → is_offered_by settings way ≡ is
+  again_asked : (way : Mechanism) (nonce : List ℕ) (is : Bool) → is_offered_by settings way ≡ is
       → IsRestored settings (if is then ResponseAsked way nonce else NotStarted)
   unfolding IsRestored
   again_asked way nonce true offers = ap (λ (is : Bool). if is then ResponseAsked way nonce else NotStarted) offers

@@ -9,12 +9,9 @@ use Rattle.fe2o3_scram.specs.declared.scram_messages.channel_binding_flag.Channe
 use Rattle.fe2o3_scram.specs.declared.scram_messages.channel_binding_flag.ChannelBindingFlag.TheVariants.{NotSupported, ClientSupports, Required}
 use Rattle.fe2o3_scram.specs.ServerFirst.{ServerChallenge}
 use Rattle.fe2o3_scram.specs.Readings.{IsFirst}
-use Rattle.fe2o3_sasl_core.specs.ClientPolicy.{policy_name}
+use Rattle.fe2o3_sasl_core.specs.Mechanisms.{mechanism_symbol}
 use Rattle.fe2o3_sasl_core.specs.LoginAttempts.{ClaimAllocates, ClaimIn, ClaimsUser}
-use Rattle.fe2o3_sasl_core.specs.SavedServers.{way_for}
-use Rattle.fe2o3_sasl_core.specs.Servers.{way_name}
-use Rattle.fe2o3_sasl_core.specs.declared.client_policy.Mechanism.{Mechanism}
-use Rattle.fe2o3_sasl_core.specs.declared.server.ways.Way.{Way}
+use Rattle.fe2o3_sasl_core.specs.declared.mechanism.Mechanism.{Mechanism}
 use Rattle.fe2o3_sasl_negotiation.specs.declared.snapshot.Snapshot.{Snapshot}
 use Rattle.fe2o3_sasl_negotiation.specs.declared.progress.Expected.{Expected}
 use Rattle.fe2o3_sasl_negotiation.specs.declared.progress.Expected.TheVariants.{Frame}
@@ -32,7 +29,6 @@ use Rattle.sasl_c.specs.Connection.{Keeps, accepts_extended, side_tests}
 use Rattle.sasl_c.specs.SaslServer.{AnswerNeedsMemory, AnswerNames, BodyAsks, BodyNames, BodyNamesNoUser, FrameAsks, FrameNames, Named, NotNamed, ResponseAsks, read_by}
 use Rattle.sasl_c.specs.Peeks.{AwaitsFrame}
 use Rattle.sasl_c.specs.Server.{HasAsked, IsOpen, open_number}
-use Rattle.sasl_c.proofs.ExchangeLemmas.{name_of}
 use Rattle.sasl_c.proofs.PeekLemmas.{awaits}
 use Rattle.sasl_c.proofs.ServerCallLemmas.{keeps_no_part, none_holds}
 use Rattle.sasl_c.proofs.StatusLemmas.{carried}
@@ -60,7 +56,7 @@ pub ruleset response_user = (response_claims, response_claims_none, response_ask
 -- ---- a response
 
 -- a struct in which a challenge is open shows no init that was asked
-other_states : (scram : ScramStruct) (challenge : ServerChallenge) (way : Way) (nonce : List ℕ) → IsOpen scram challenge
+other_states : (scram : ScramStruct) (challenge : ServerChallenge) (way : Mechanism) (nonce : List ℕ) → IsOpen scram challenge
     → HasAsked scram way nonce → ⊥
 other_states scram challenge way nonce shows asked = differ challenge.header.flag shows.0
   where
@@ -73,33 +69,31 @@ other_states scram challenge way nonce shows asked = differ challenge.header.fla
 
 -- the response is the initial response of an init that was asked, by a mechanism of this name
 pub answer_completes : (scram : ScramStruct) (mechanism : Mechanism) (nonce text name : List ℕ)
-    → HasAsked scram (way_for mechanism) nonce → ClaimsUser (policy_name mechanism) text name → AnswerNames scram text name
+    → HasAsked scram mechanism nonce → ClaimsUser (mechanism_symbol mechanism) text name → AnswerNames scram text name
 answer_completes scram mechanism nonce text name asked names = inr (
-  way_for mechanism,
+  mechanism,
   nonce,
   asked,
-  carried (λ (m : List ℕ). ClaimsUser m text name) (policy_name mechanism) (way_name (way_for mechanism))
-      (sym (name_of mechanism)) names,
+  names,
 )
 
 pub completes_no_user : (scram : ScramStruct) (mechanism : Mechanism) (nonce text : List ℕ)
-    → HasAsked scram (way_for mechanism) nonce → ((name : List ℕ) → ¬ ClaimsUser (policy_name mechanism) text name)
+    → HasAsked scram mechanism nonce → ((name : List ℕ) → ¬ ClaimsUser (mechanism_symbol mechanism) text name)
     → (name : List ℕ) → ¬ AnswerNames scram text name
 completes_no_user scram mechanism nonce text asked none name (inl (challenge, shows, same)) =
-    other_states scram challenge (way_for mechanism) nonce shows asked
+    other_states scram challenge mechanism nonce shows asked
 completes_no_user scram mechanism nonce text asked none name (inr (other, then, too, names)) =
-    none name (carried (λ (m : List ℕ). ClaimsUser m text name) (way_name other) (policy_name mechanism)
-    (too.4 ∙ (sym asked.4 ∙ name_of mechanism)) names)
+    none name (carried (λ (m : List ℕ). ClaimsUser m text name) (mechanism_symbol other) (mechanism_symbol mechanism)
+    (too.4 ∙ sym asked.4) names)
 
 pub completing_asks : (scram : ScramStruct) (mechanism : Mechanism) (nonce text : List ℕ)
-    → HasAsked scram (way_for mechanism) nonce → ClaimAllocates (policy_name mechanism) text
+    → HasAsked scram mechanism nonce → ClaimAllocates (mechanism_symbol mechanism) text
     → AnswerNeedsMemory scram text
 completing_asks scram mechanism nonce text asked asks = inr (
-  way_for mechanism,
+  mechanism,
   nonce,
   asked,
-  carried (λ (m : List ℕ). ClaimAllocates m text) (policy_name mechanism) (way_name (way_for mechanism))
-      (sym (name_of mechanism)) asks,
+  asks,
 )
 
 -- or it answers the open challenge
@@ -108,7 +102,7 @@ pub answer_opens : (scram : ScramStruct) (challenge : ServerChallenge) (text nam
 answer_opens scram challenge text name shows same = inl (challenge, shows, same)
 
 pub opens_no_user : (scram : ScramStruct) (text : List ℕ)
-    → ((way : Way) (nonce : List ℕ) → ¬ HasAsked scram way nonce)
+    → ((way : Mechanism) (nonce : List ℕ) → ¬ HasAsked scram way nonce)
     → ((challenge : ServerChallenge) → ¬ IsOpen scram challenge) → (name : List ℕ) → ¬ AnswerNames scram text name
 opens_no_user scram text none closed name (inl (challenge, shows, same)) = closed challenge shows
 opens_no_user scram text none closed name (inr (way, nonce, asked, names)) = none way nonce asked

@@ -15,10 +15,11 @@ use Rattle.fe2o3_sasl_core.specs.LoginAttempts.{ClaimAllocates, ClaimIn, ClaimsU
 use Rattle.fe2o3_sasl_core.specs.MockChoices.{MockChoice}
 use Rattle.fe2o3_sasl_core.specs.declared.server.options.ExtraChallenges.{ExtraChallenges}
 use Rattle.fe2o3_sasl_core.specs.SavedServers.{KeptStage, kept_stage, restored_stage}
-use Rattle.fe2o3_sasl_core.specs.Servers.{ServerAt, ServerSettings, offers_any, settings_with, way_name}
+use Rattle.fe2o3_sasl_core.specs.Mechanisms.{mechanism_symbol}
+use Rattle.fe2o3_sasl_core.specs.Servers.{ServerAt, ServerSettings, offers_any, settings_with}
 use Rattle.fe2o3_sasl_core.specs.declared.server.options.Mechanisms.{Mechanisms}
 use Rattle.fe2o3_sasl_core.specs.declared.server.options.ServerOptions.{ServerOptions}
-use Rattle.fe2o3_sasl_core.specs.declared.server.ways.Way.{Way}
+use Rattle.fe2o3_sasl_core.specs.declared.mechanism.Mechanism.{Mechanism}
 use Rattle.fe2o3_sasl_core.specs.declared.rejection.Rejection.{Rejection}
 use Rattle.fe2o3_sasl_core.specs.declared.plain_server.passwords.PlainPasswords.{PlainPasswords}
 use Rattle.fe2o3_sasl_core.specs.declared.plain_server.passwords.PlainPasswords.TheVariants as forms
@@ -304,7 +305,7 @@ ReceivesAsServer config bytes nonce before after taken (Err status) = NotReceive
 -- the user that the initial response names
 abbrev pub AnswerNames : ScramStruct → List ℕ → List ℕ → Type 0
 AnswerNames scram text name = ((challenge : ServerChallenge) × IsOpen scram challenge × (name ≡ challenge.user))
-    ⊎ ((way : Way) × (nonce : List ℕ) × HasAsked scram way nonce × ClaimsUser (way_name way) text name)
+    ⊎ ((way : Mechanism) × (nonce : List ℕ) × HasAsked scram way nonce × ClaimsUser (mechanism_symbol way) text name)
 
 -- a frame in turn names this user: an init, or a response
 abbrev pub FrameNames : ScramStruct → FrameKind → SaslFrame → List ℕ → Type 0
@@ -329,7 +330,7 @@ ResponseAsks mechanism None = ⊥
 -- and for a response: where a challenge is open, or for an initial response
 abbrev pub AnswerNeedsMemory : ScramStruct → List ℕ → Type 0
 AnswerNeedsMemory scram text = ((challenge : ServerChallenge) × IsOpen scram challenge)
-    ⊎ ((way : Way) × (nonce : List ℕ) × HasAsked scram way nonce × ClaimAllocates (way_name way) text)
+    ⊎ ((way : Mechanism) × (nonce : List ℕ) × HasAsked scram way nonce × ClaimAllocates (mechanism_symbol way) text)
 
 -- and for a frame in turn: an init, or a response
 abbrev pub FrameAsks : ScramStruct → FrameKind → SaslFrame → Type 0

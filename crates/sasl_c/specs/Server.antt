@@ -18,8 +18,8 @@ use Rattle.fe2o3_scram.specs.ServerFinal.{FinalCosts}
 use Rattle.fe2o3_scram.specs.ServerFirst.{AnswersClientFirst, ServerChallenge}
 use Rattle.fe2o3_scram.specs.Texts.{base64_text}
 use Rattle.fe2o3_sasl_core.specs.SavedServers.{KeptStage, KeptNothing, KeptAsked, KeptOpen, KeptSignature, KeptLogin}
-use Rattle.fe2o3_sasl_core.specs.Servers.{way_name}
-use Rattle.fe2o3_sasl_core.specs.declared.server.ways.Way.{Way}
+use Rattle.fe2o3_sasl_core.specs.Mechanisms.{mechanism_symbol}
+use Rattle.fe2o3_sasl_core.specs.declared.mechanism.Mechanism.{Mechanism}
 use Rattle.sasl_c.specs.Acting.{rights_for}
 use Rattle.sasl_c.specs.declared.records.ScramRecord.{ScramRecord as Kept}
 use Rattle.sasl_c.specs.declared.server.ScramServer.{ScramServer as Struct}
@@ -113,9 +113,9 @@ HasSigned server user acts_for = (server.state ≡ 4) × (server.user_len ≤ 25
 
 -- the struct is that of a server that has asked an init of this mechanism, with this nonce of 32 bytes, for its initial
 -- response (AMQP 1.0, part 5, section 5.3.3.2; RFC 4422, section 5)
-abbrev pub HasAsked : Struct → Way → List ℕ → Type 0
+abbrev pub HasAsked : Struct → Mechanism → List ℕ → Type 0
 HasAsked server way nonce = (server.state ≡ 5) × (server.nonce_len ≡ 32) × (nonce ≡ take 32 server.nonce)
-    × (server.first_len ≤ 1024) × (way_name way ≡ take server.first_len server.first)
+    × (server.first_len ≤ 1024) × (mechanism_symbol way ≡ take server.first_len server.first)
 
 -- the struct is that of a server that has logged this user in, for this identity or for itself. ANONYMOUS has no user
 abbrev pub ShowsUser : Struct → Option (List ℕ) → Option (List ℕ) → Type 0
@@ -132,7 +132,7 @@ abbrev pub ShowsStage : Struct → KeptStage → Type 0
 ShowsStage server KeptNothing =
     ((version : ScramVersion) (challenge : ServerChallenge) → ¬ IsOpenBy server version challenge)
     × ((user : List ℕ) (acts_for : Option (List ℕ)) → ¬ HasSigned server user acts_for)
-    × ((way : Way) (nonce : List ℕ) → ¬ HasAsked server way nonce)
+    × ((way : Mechanism) (nonce : List ℕ) → ¬ HasAsked server way nonce)
 ShowsStage server (KeptAsked way nonce) = HasAsked server way nonce
 ShowsStage server (KeptOpen version challenge) = IsOpenBy server version challenge
 ShowsStage server (KeptSignature login) = ShowsSigned server login.user login.acts_for
@@ -217,20 +217,20 @@ abbrev pub signed_struct : List ℕ → Option (List ℕ) → Struct
 signed_struct user acts_for = named_struct 4 user acts_for
 
 -- of one that has asked an init for its initial response: the mechanism's name is where the server-first message is otherwise
-abbrev pub asked_struct : Way → List ℕ → Struct
+abbrev pub asked_struct : Mechanism → List ℕ → Struct
 asked_struct way nonce = record {
   state = 5;
   version = 0;
   user_len = 0;
   bare_len = 0;
   nonce_len = 32;
-  first_len = length (way_name way);
+  first_len = length (mechanism_symbol way);
   acts_for_len = 0;
   rejection = 0;
   user = replicate 256 0;
   bare = replicate 1024 0;
   nonce = zero_filled 512 nonce;
-  first = zero_filled 1024 (way_name way);
+  first = zero_filled 1024 (mechanism_symbol way);
   acts_for = replicate 256 0;
 }
 

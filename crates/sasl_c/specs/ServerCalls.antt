@@ -12,7 +12,7 @@ use Rattle.fe2o3_sasl_core.specs.Bodies.{SpellsBody}
 use Rattle.fe2o3_sasl_core.specs.PlainServer.{MeetsUser, PlainParts, SpellsPlain, TestedPassword}
 use Rattle.fe2o3_sasl_core.specs.SavedServers.{kept_stage}
 use Rattle.fe2o3_sasl_core.specs.Servers.{NotStarted, ServerAt, ServerSettings, is_offered_by, provider_by, sasl_machine, sasl_names}
-use Rattle.fe2o3_sasl_core.specs.declared.server.ways.Way.TheVariants as ways
+use Rattle.fe2o3_sasl_core.specs.declared.mechanism.Mechanism.TheVariants as mechanisms
 use Rattle.fe2o3_sasl_negotiation.specs.Connections.{fresh}
 use Rattle.fe2o3_sasl_negotiation.specs.Laws.{Call, Calls}
 use Rattle.fe2o3_sasl_negotiation.specs.Negotiations.{Completes, Side}
@@ -165,11 +165,11 @@ pub record HasStoredUser (settings : ServerSettings) (server : Struct) (bytes : 
     : Type 0 where
   pub username : config.username.now ≡ user
   pub scram : (records : MultiRecords) (version : ScramVersion) (plus : Bool) → HasRecords config records
-      → is_offered_by settings (ways.Scram version plus) ≡ true
+      → is_offered_by settings (mechanisms.Scram version plus) ≡ true
       → (provider_by (record settings { records = records; mock = mock_of config }) version plus).records user
       ≡ (provider_by settings version plus).records user
   pub plain : (records : MultiRecords) (parts : PlainParts) (password : PasswordText) → HasRecords config records
-      → is_offered_by settings ways.Plain ≡ true → CompletesPlain server bytes parts
+      → is_offered_by settings mechanisms.Plain ≡ true → CompletesPlain server bytes parts
       → TestedPassword settings.plain_passwords parts.password password
       → MeetsUser (provider_for (plain_version_for settings.mechanisms records) records) user password
       ↔ MeetsUser (provider_for settings.plain_version settings.records) user password
@@ -220,7 +220,7 @@ StoredUsersAreHad = (settings : ServerSettings) (server : Struct) (bytes : List 
     (records : MultiRecords) → settings.mock ≡ mock_of config → config.username.now ≡ user → HasRecords config records
     → ((version : ScramVersion) → record_at (provider_for version records).records user
     ≡ record_at (provider_for version settings.records).records user)
-    → (is_offered_by settings ways.Plain ≡ true → (first : List ℕ × VersionedRecord) (others : MultiRecords)
+    → (is_offered_by settings mechanisms.Plain ≡ true → (first : List ℕ × VersionedRecord) (others : MultiRecords)
     → records ≡ first ∷ others → first.1.version ≡ settings.plain_version)
     → ((acts_for : Option (List ℕ)) → may_act (rights_for user config.identities.now) user acts_for
     ≡ may_act settings.rights user acts_for)

@@ -1,16 +1,17 @@
 //! How far the login of a server has come, as the struct of a SCRAM server holds it.
 
 ghost use Rattle.std.specs.Prelude.{◌≡◌, ◌<◌, ◌⊎◌, List, ℕ, Option, MatchBool, MatchOption, length};
-ghost use Rattle.fe2o3_sasl_core.specs.SavedServers.{saved_login, saved_stage, way_for};
+ghost use Rattle.fe2o3_sasl_core.specs.SavedServers.{saved_login, saved_stage};
 ghost use Rattle.fe2o3_sasl_wire.specs.FrameView.{shown};
 ghost use Rattle.sasl_c.specs.Server.{HasAsked, HasSigned, IdentityHasRoom, IsUnfinished, ShowsSigned, ShowsStage, ShowsUser, asked_struct, signed_struct, stage_struct, struct_where};
-ghost use Rattle.fe2o3_sasl_core.specs.declared.server.ways.Way.{Way as WayOf};
+ghost use Rattle.fe2o3_sasl_core.specs.declared.mechanism.Mechanism.{Mechanism as MechanismOf};
 ghost use Rattle.sasl_c.specs.declared.server.ScramServer.{ScramServer as ScramStruct};
 
 use crate::arrays::{fill, head};
 use crate::server::{ScramServer, identity_text};
 use crate::status::number_of;
 use fe2o3_sasl_core::{Mechanism, SavedLogin, SavedStage};
+use fe2o3_scram::ScramVersion;
 
 impl ScramServer {
     /// Returns how far the login has come. By which mechanism a signature was sent the struct does not say; it is taken as
@@ -21,7 +22,7 @@ impl ScramServer {
     {
         if let Some((user, acts_for)) = self.signed_user() {
             return SavedStage::SignatureSent(SavedLogin {
-                mechanism: Mechanism::ScramSha256,
+                mechanism: Mechanism::Scram(ScramVersion::Sha256, false),
                 user: Some(user),
                 acts_for,
             });
@@ -42,8 +43,8 @@ impl ScramServer {
     /// Returns the mechanism and the nonce of the init that was asked for its initial response, if the struct holds one.
     #[tactic(auto, using(crate::proofs::ExchangeLemmas::reads_asked))]
     pub fn asked_init(&self) -> Option<(Mechanism, [u8; 32])>
-        ensures { MatchOption result ((way : WayOf) (nonce : List ℕ) → ¬ HasAsked self.now way nonce)
-            (λ asked. HasAsked self.now (way_for asked.0) asked.1) }
+        ensures { MatchOption result ((way : MechanismOf) (nonce : List ℕ) → ¬ HasAsked self.now way nonce)
+            (λ asked. HasAsked self.now asked.0 asked.1) }
     {
         if self.state != 5 || self.nonce_len != 32 {
             return None;
@@ -93,8 +94,8 @@ impl ScramServer {
     /// Turns the struct into that of a server that has asked an init of this mechanism, with this nonce, for its initial
     /// response.
     fn hold_asked(&mut self, mechanism: Mechanism, nonce: &[u8; 32])
-        ensures shows { HasAsked self.new (way_for mechanism) nonce.now }
-        ensures writes { self.new ≡ asked_struct (way_for mechanism) nonce.now }
+        ensures shows { HasAsked self.new mechanism nonce.now }
+        ensures writes { self.new ≡ asked_struct mechanism nonce.now }
     {
         self.ask(mechanism, nonce);
     }
@@ -102,7 +103,7 @@ impl ScramServer {
     /// Writes the struct of such a server.
     #[tactic(auto, using(crate::proofs::ExchangeLemmas::asks))]
     fn ask(&mut self, mechanism: Mechanism, nonce: &[u8; 32])
-        ensures { self.new ≡ asked_struct (way_for mechanism) nonce.now }
+        ensures { self.new ≡ asked_struct mechanism nonce.now }
     {
         let name = mechanism.name().as_bytes();
         self.clear();

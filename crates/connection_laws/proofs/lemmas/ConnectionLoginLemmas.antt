@@ -10,9 +10,10 @@ use Rattle.fe2o3_sasl_core.specs.Bodies.{SpellsBody, server_says}
 use Rattle.fe2o3_sasl_core.specs.Events.{Given, ServerSays, Challenged, Concluded, Failed}
 use Rattle.fe2o3_sasl_core.specs.Runs.{SendsCanonical}
 use Rattle.fe2o3_sasl_core.specs.SaslAcceptor.{ends_with}
-use Rattle.fe2o3_sasl_core.specs.Servers.{ExchangeOpen, InitAnswers, NotStarted, ResponseAsked, ServerAt, ServerLogin, ServerSettings, ServerStage, SignatureShown, StageRejects, UserAuthenticated, asked_way, is_offered_by, logged_in_at, sasl_machine, way_name}
-use Rattle.fe2o3_sasl_core.specs.declared.server.ways.Way.{Way}
-use Rattle.fe2o3_sasl_core.specs.declared.server.ways.Way.TheVariants as ways
+use Rattle.fe2o3_sasl_core.specs.Mechanisms.{mechanism_symbol}
+use Rattle.fe2o3_sasl_core.specs.Servers.{ExchangeOpen, InitAnswers, NotStarted, ResponseAsked, ServerAt, ServerLogin, ServerSettings, ServerStage, SignatureShown, StageRejects, UserAuthenticated, asked_way, is_offered_by, logged_in_at, sasl_machine}
+use Rattle.fe2o3_sasl_core.specs.declared.mechanism.Mechanism.{Mechanism}
+use Rattle.fe2o3_sasl_core.specs.declared.mechanism.Mechanism.TheVariants as mechanisms
 use Rattle.fe2o3_sasl_core.proofs.lemmas.frames.SpellingLemmas.{sent}
 use Rattle.fe2o3_sasl_negotiation.specs.declared.progress.FrameKind.TheVariants as turns
 use Rattle.fe2o3_sasl_negotiation.specs.Connections.{Piece, AreFrames, LastReply, IsOkSent}
@@ -26,7 +27,7 @@ use Rattle.connection_laws.proofs.lemmas.ServedLemmas.{Served, Stepped, init_of,
 use Rattle.connection_laws.proofs.lemmas.ServerLemmas.{response_of}
 use Rattle.connection_laws.proofs.lemmas.ServerLoginLemmas.{lets_in, only_lets_in}
 use Rattle.connection_laws.proofs.lemmas.ServerStepLemmas.{Kind, challenge, challenge_has_memory, machine_kind}
-use Rattle.connection_laws.proofs.lemmas.WayLemmas.{asked_offers, offered_asked}
+use Rattle.fe2o3_sasl_core.proofs.lemmas.machines.MechanismLemmas.{asked_offers, offered_asked}
 
 -- no login is at two stages that are one
 pub no_login : {A : Type 0} (stage : ServerStage) (login : ServerLogin) → logged_in_at stage ≡ None
@@ -107,10 +108,10 @@ responses_rest pieces limit at server (event ∷ second ∷ events) replies last
 
 no_rest : {A : Type 0} (settings : ServerSettings) (stage : ServerStage) (login : ServerLogin)
     → RestLogsIn settings stage [] login → A
-no_rest settings (ResponseAsked (ways.Scram version plus) nonce) login rest = let no = rest.all in absurd (cc)
-no_rest settings (ResponseAsked ways.Plain nonce) login rest = let no = rest.1 in absurd (cc)
-no_rest settings (ResponseAsked ways.Anonymous nonce) login rest = let no = rest.1 in absurd (cc)
-no_rest settings (ResponseAsked ways.External nonce) login rest = let no = rest.1 in absurd (cc)
+no_rest settings (ResponseAsked (mechanisms.Scram version plus) nonce) login rest = let no = rest.all in absurd (cc)
+no_rest settings (ResponseAsked mechanisms.Plain nonce) login rest = let no = rest.1 in absurd (cc)
+no_rest settings (ResponseAsked mechanisms.Anonymous nonce) login rest = let no = rest.1 in absurd (cc)
+no_rest settings (ResponseAsked mechanisms.External nonce) login rest = let no = rest.1 in absurd (cc)
 no_rest settings (ExchangeOpen version plus exchange) login rest = let no = rest.1 in absurd (cc)
 no_rest settings (SignatureShown shown) login rest = let no = rest.0 in absurd (cc)
 no_rest settings NotStarted login rest = absurd rest
@@ -156,36 +157,36 @@ rest_responses server (event ∷ second ∷ events) replies last texts login (te
 -- ---- an init
 
 -- an init that completes a login, and what its messages are
-init_last : (settings : ServerSettings) (way : Way) (nonce : List ℕ) (response : Option (List ℕ)) (login : ServerLogin)
+init_last : (settings : ServerSettings) (way : Mechanism) (nonce : List ℕ) (response : Option (List ℕ)) (login : ServerLogin)
     → InitCompletes settings way response login → MessagesLogIn settings way nonce response [] login
-init_last settings ways.Anonymous nonce response login completes = (refl, completes)
-init_last settings ways.External nonce response login completes = (refl, completes)
-init_last settings ways.Plain nonce None login completes = absurd completes
-init_last settings ways.Plain nonce (Some text) login completes = (text, refl, completes)
-init_last settings (ways.Scram version plus) nonce response login completes = absurd completes
+init_last settings mechanisms.Anonymous nonce response login completes = (refl, completes)
+init_last settings mechanisms.External nonce response login completes = (refl, completes)
+init_last settings mechanisms.Plain nonce None login completes = absurd completes
+init_last settings mechanisms.Plain nonce (Some text) login completes = (text, refl, completes)
+init_last settings (mechanisms.Scram version plus) nonce response login completes = absurd completes
 
-last_init : (settings : ServerSettings) (way : Way) (nonce : List ℕ) (response : Option (List ℕ)) (login : ServerLogin)
+last_init : (settings : ServerSettings) (way : Mechanism) (nonce : List ℕ) (response : Option (List ℕ)) (login : ServerLogin)
     → MessagesLogIn settings way nonce response [] login → InitCompletes settings way response login
-last_init settings ways.Anonymous nonce response login messages = messages.1
-last_init settings ways.External nonce response login messages = messages.1
-last_init settings ways.Plain nonce None login (text, (asks, is), completes) = absurd (cc)
-last_init settings ways.Plain nonce (Some said) login (text, is, completes) =
+last_init settings mechanisms.Anonymous nonce response login messages = messages.1
+last_init settings mechanisms.External nonce response login messages = messages.1
+last_init settings mechanisms.Plain nonce None login (text, (asks, is), completes) = absurd (cc)
+last_init settings mechanisms.Plain nonce (Some said) login (text, is, completes) =
     let same : text ≡ said = cc in
-    subst (λ (t : List ℕ). InitCompletes settings ways.Plain (Some t) login) same completes
-last_init settings (ways.Scram version plus) nonce None login (messages, (asks, is), scram) =
+    subst (λ (t : List ℕ). InitCompletes settings mechanisms.Plain (Some t) login) same completes
+last_init settings (mechanisms.Scram version plus) nonce None login (messages, (asks, is), scram) =
     let no = sym is ∙ scram.all in absurd (cc)
-last_init settings (ways.Scram version plus) nonce (Some said) login (messages, is, scram) =
+last_init settings (mechanisms.Scram version plus) nonce (Some said) login (messages, is, scram) =
     let no = sym is ∙ scram.all in absurd (cc)
 
 -- the answers to an init whose mechanism is found
-abbrev pub FoundAnswers : Option Way → ServerSettings → List ℕ → Option (List ℕ) → SaslFrame → ServerStage → Type 0
+abbrev pub FoundAnswers : Option Mechanism → ServerSettings → List ℕ → Option (List ℕ) → SaslFrame → ServerStage → Type 0
 FoundAnswers found settings nonce response reply next = MatchOption found (StageRejects NotStarted reply next)
     (λ way. InitAnswers settings way NotStarted nonce response reply next)
 
-pub found_way : (found : Option Way) (settings : ServerSettings) (nonce : List ℕ) (response : Option (List ℕ))
+pub found_way : (found : Option Mechanism) (settings : ServerSettings) (nonce : List ℕ) (response : Option (List ℕ))
     (reply : SaslFrame) (next : ServerStage) → IsChallenged reply
     → FoundAnswers found settings nonce response reply next
-    → (way : Way) × (found ≡ Some way) × InitAnswers settings way NotStarted nonce response reply next
+    → (way : Mechanism) × (found ≡ Some way) × InitAnswers settings way NotStarted nonce response reply next
 found_way None settings nonce response reply next (text, is) answers =
     let no : ◌≡◌ {A = SaslFrame} (frames.Challenge text) (ends_with outcomes.Auth) = sym is ∙ answers.0 in absurd (cc)
 found_way (Some way) settings nonce response reply next challenged answers = (way, refl, answers)
@@ -243,9 +244,9 @@ logins_of pieces limit settings (event ∷ second ∷ events) replies last login
     }
 
 -- a served run whose frames complete a login ends with it
-ends_with_login : (settings : ServerSettings) (init : Given) (later : List Given) (way : Way)
+ends_with_login : (settings : ServerSettings) (init : Given) (later : List Given) (way : Mechanism)
     (response hostname : Option (List ℕ)) (texts : List (List ℕ)) (replies : List ServerSays) (last : ServerAt)
-    (login : ServerLogin) → SpellsBody init.body (Ok (frames.Init (way_name way) response hostname))
+    (login : ServerLogin) → SpellsBody init.body (Ok (frames.Init (mechanism_symbol way) response hostname))
     → is_offered_by settings way ≡ true → AreResponses later texts
     → MessagesLogIn settings way init.nonce response texts login
     → Served sasl_machine (new_server settings) (init ∷ later) replies last → Ends replies last login
@@ -254,15 +255,15 @@ ends_with_login settings init [] way response hostname texts replies last login 
     let completes = last_init settings way init.nonce response login
     (subst (λ (l : List (List ℕ)). MessagesLogIn settings way init.nonce response l login) are messages) in
     ends_by replies last says login all
-    (let_in (new_server settings) last init.nonce (frames.Init (way_name way) response hostname) says login refl
+    (let_in (new_server settings) last init.nonce (frames.Init (mechanism_symbol way) response hostname) says login refl
     (refl, (way, offered_asked settings way offered, completes))
-    (init_step sasl_machine (new_server settings) last init says (way_name way) response hostname spells memory step))
+    (init_step sasl_machine (new_server settings) last init says (mechanism_symbol way) response hostname spells memory step))
 ends_with_login settings init (second ∷ events) way response hostname texts replies last login spells offered are messages
     (body, next, others, all, step, run) =
-    let c = challenge (new_server settings) next init.nonce (frames.Init (way_name way) response hostname) body
-    (init_step sasl_machine (new_server settings) next init (Challenged body) (way_name way) response hostname spells
+    let c = challenge (new_server settings) next init.nonce (frames.Init (mechanism_symbol way) response hostname) body
+    (init_step sasl_machine (new_server settings) next init (Challenged body) (mechanism_symbol way) response hostname spells
     (challenge_has_memory body) step) in
-    let answers = subst (λ (found : Option Way). FoundAnswers found settings init.nonce response c.reply next.stage)
+    let answers = subst (λ (found : Option Mechanism). FoundAnswers found settings init.nonce response c.reply next.stage)
     (offered_asked settings way offered) c.by.1 in
     let rest = rest_init settings NotStarted next.stage init.nonce c.reply c.is texts login way response answers messages in
     let ends = rest_responses next (second ∷ events) others last texts login are run c.waits

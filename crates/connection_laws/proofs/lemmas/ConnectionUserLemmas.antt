@@ -7,8 +7,8 @@ use Rattle.fe2o3_scram.specs.Texts.{base64_text}
 use Rattle.fe2o3_scram.specs.declared.hmac.ScramVersion.{ScramVersion}
 use Rattle.fe2o3_scram.proofs.lemmas.messages.ClientFinalLemmas.{NamesAcceptedFinal, names_client_final}
 use Rattle.fe2o3_sasl_core.specs.Servers.{ServerLogin, ServerSettings, acting_of_login, exchange_login, exchange_server, logged_in_at, provider_by, user_of_login}
-use Rattle.fe2o3_sasl_core.specs.declared.server.ways.Way.{Way}
-use Rattle.fe2o3_sasl_core.specs.declared.server.ways.Way.TheVariants as ways
+use Rattle.fe2o3_sasl_core.specs.declared.mechanism.Mechanism.{Mechanism}
+use Rattle.fe2o3_sasl_core.specs.declared.mechanism.Mechanism.TheVariants as mechanisms
 use Rattle.connection_laws.specs.ConnectionLogins.{ActingUsersHaveRights, AreMessages, MessagesLogIn, ScramMessages, ScramUser, ScramUsersMeetRecords, confirmation}
 use Rattle.connection_laws.proofs.lemmas.ConnectionLoginLemmas.{of_login}
 
@@ -51,18 +51,18 @@ SaysUser settings version plus nonce response texts login = (first : List ℕ) �
     (first ∷ final ∷ confirmation settings.extra.signature)
     × ScramUser settings version plus nonce first final login
 
-says_user : (settings : ServerSettings) (version : ScramVersion) (plus : Bool) (nonce : List ℕ) (way : Way)
+says_user : (settings : ServerSettings) (version : ScramVersion) (plus : Bool) (nonce : List ℕ) (way : Mechanism)
     (response : Option (List ℕ)) (texts : List (List ℕ)) (login : ServerLogin)
-    → MessagesLogIn settings way nonce response texts login → login.way ≡ ways.Scram version plus
+    → MessagesLogIn settings way nonce response texts login → login.way ≡ mechanisms.Scram version plus
     → SaysUser settings version plus nonce response texts login
-says_user settings version plus nonce ways.Anonymous response texts login completes is =
+says_user settings version plus nonce mechanisms.Anonymous response texts login completes is =
     let no = sym (ap (λ (l : ServerLogin). l.way) completes.1) ∙ is in absurd (cc)
-says_user settings version plus nonce ways.External response texts login completes is =
+says_user settings version plus nonce mechanisms.External response texts login completes is =
     let no = sym (ap (λ (l : ServerLogin). l.way) completes.1.1) ∙ is in absurd (cc)
-says_user settings version plus nonce ways.Plain response texts login completes is =
+says_user settings version plus nonce mechanisms.Plain response texts login completes is =
     let no = sym (ap (λ (l : ServerLogin). l.way) completes.2.2) ∙ is in absurd (cc)
-says_user settings version plus nonce (ways.Scram own bound) response texts login (messages, are, scram) is =
-    let one : ways.Scram own bound ≡ ways.Scram version plus = sym (ap (λ (l : ServerLogin). l.way) scram.made) ∙ is in
+says_user settings version plus nonce (mechanisms.Scram own bound) response texts login (messages, are, scram) is =
+    let one : mechanisms.Scram own bound ≡ mechanisms.Scram version plus = sym (ap (λ (l : ServerLogin). l.way) scram.made) ∙ is in
     let hash : own ≡ version = cc in
     let kind : bound ≡ plus = cc in
     let says = scram_user settings own bound nonce messages login scram in (
@@ -96,18 +96,18 @@ has_right settings login user identity asked who whom right is = (
   subst (λ (named : Option (List ℕ)). may_act settings.rights user named ≡ true) (sym whom ∙ is) right,
 )
 
-rights_of : (settings : ServerSettings) (nonce : List ℕ) (way : Way) (response : Option (List ℕ))
+rights_of : (settings : ServerSettings) (nonce : List ℕ) (way : Mechanism) (response : Option (List ℕ))
     (texts : List (List ℕ)) (login : ServerLogin) (identity : List ℕ)
     → MessagesLogIn settings way nonce response texts login → login.acts_for ≡ Some identity
     → HasRight settings login identity
-rights_of settings nonce ways.Anonymous response texts login identity completes is =
+rights_of settings nonce mechanisms.Anonymous response texts login identity completes is =
     let no = sym (ap (λ (l : ServerLogin). l.acts_for) completes.1) ∙ is in absurd (cc)
-rights_of settings nonce ways.External response texts login identity completes is =
+rights_of settings nonce mechanisms.External response texts login identity completes is =
     let no = sym (ap (λ (l : ServerLogin). l.acts_for) completes.1.1) ∙ is in absurd (cc)
-rights_of settings nonce ways.Plain response texts login identity (text, are, (parts, lets_in, made)) is =
+rights_of settings nonce mechanisms.Plain response texts login identity (text, are, (parts, lets_in, made)) is =
     has_right settings login parts.user identity _ (ap (λ (l : ServerLogin). l.user) made)
     (ap (λ (l : ServerLogin). l.acts_for) made) lets_in.2.1 is
-rights_of settings nonce (ways.Scram version plus) response texts login identity (messages, are, scram) is =
+rights_of settings nonce (mechanisms.Scram version plus) response texts login identity (messages, are, scram) is =
     let says = scram_user settings version plus nonce messages login scram in
     has_right settings login says.client.user identity says.client.header.acts_for says.user says.acts_for says.right is
 

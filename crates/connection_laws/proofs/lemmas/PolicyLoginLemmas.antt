@@ -1,5 +1,5 @@
 -- The login of a profile of SCRAM that a policy selects (RFC 5802, sections 3, 5 and 6): `logins_meet_premises`.
-use Rattle.std.proofs.Common.{◌≡◌, ◌≢◌, ◌⊎◌, ◌<◌, ◌^◌, ℕ, false, Option, Some, None, List, refl, sym, ◌∙◌, ap, subst, inl, inr}
+use Rattle.std.proofs.Common.{◌≡◌, ◌≢◌, ◌⊎◌, ◌<◌, ◌^◌, ℕ, Bool, true, false, Option, Some, None, List, refl, sym, ◌∙◌, ap, subst, inl, inr}
 use Rattle.std.proofs.lemmas.Option.{same_Some}
 use Rattle.std.specs.Str.{IsUtf8}
 use Rattle.base64.specs.GeneralPurpose.{IsBytes}
@@ -12,47 +12,45 @@ use Rattle.fe2o3_scram.specs.declared.hmac.ScramVersion.TheVariants.{Sha1, Sha25
 use Rattle.fe2o3_scram.specs.declared.scram_messages.client_channel.ClientChannel.{ClientChannel}
 use Rattle.fe2o3_scram.specs.declared.scram_messages.client_channel.ClientChannel.TheVariants.{Absent, Bound, NotOffered}
 use Rattle.fe2o3_scram.specs.ClientSecret.{Secret, Password, Keys, Both}
-use Rattle.fe2o3_scram.specs.ScramClient.{ClientSide, fresh_client, identity_named, with_options}
+use Rattle.fe2o3_scram.specs.ScramClient.{fresh_client, identity_named, with_options}
 use Rattle.fe2o3_sasl_core.specs.ActingProfiles.{acting_profile}
-use Rattle.fe2o3_sasl_core.specs.ClientPolicy.{bound_channel, keys_for_version, plain_by, profile_by, scram_by, scram_options, secret_for, unbound_channel}
+use Rattle.fe2o3_sasl_core.specs.ClientPolicy.{bound_channel, channel_with, keys_for_version, plain_by, profile_by, scram_by, scram_options, secret_for, unbound_channel}
 use Rattle.fe2o3_sasl_core.specs.Events.{IsSecret, Login}
 use Rattle.fe2o3_sasl_core.specs.ProfileMachine.{IsActing, IsSelected}
 use Rattle.fe2o3_sasl_core.specs.Profiles.{AnonymousMessage, AnonymousProfile, ExternalMessage, ExternalProfile, MessageProfile, Profile, ScramProfile, Selection, scram_profile}
 use Rattle.fe2o3_sasl_core.specs.declared.client_policy.ClientPolicy.{ClientPolicy}
-use Rattle.fe2o3_sasl_core.specs.declared.client_policy.Mechanism.{Mechanism}
-use Rattle.fe2o3_sasl_core.specs.declared.client_policy.Mechanism.TheVariants.{ScramSha512Plus, ScramSha256Plus, ScramSha1Plus, ScramSha512, ScramSha256, ScramSha1, External, Plain, Anonymous}
+use Rattle.fe2o3_sasl_core.specs.declared.mechanism.Mechanism.{Mechanism}
+use Rattle.fe2o3_sasl_core.specs.declared.mechanism.Mechanism.TheVariants as mechanisms
 use Rattle.connection_laws.specs.PolicyClients.{IsLoginOf, LoginsMeetPremises}
 use Rattle.connection_laws.proofs.lemmas.ProfileKindLemmas.{kind}
 
 -- ---- what a policy selects
 
--- a client of SCRAM that a policy selects
-abbrev chosen_client : ClientPolicy → List ℕ → ScramVersion → Secret → ClientChannel → ClientSide
-chosen_client policy user version own channel =
-    with_options (fresh_client user version own) (scram_options policy channel)
-
 -- a profile of SCRAM that a policy selects
 record IsScramOf (policy : ClientPolicy) (user : List ℕ) (secret : Secret) (chosen : Profile) : Type 0 where
   pub version : ScramVersion
   pub own : Secret
-  pub channel : ClientChannel
+  pub plus : Bool
   pub serves : secret_for version secret ≡ Some own
-  pub says : (channel ≡ unbound_channel policy.channel) ⊎ (channel ≡ bound_channel policy.channel)
-  pub is : chosen ≡ ScramProfile (chosen_client policy user version own channel)
+  pub is : chosen ≡ ScramProfile (with_options (fresh_client user version own) (scram_options policy plus))
 
-by_scram : (policy : ClientPolicy) (user : List ℕ) (secret : Secret) (version : ScramVersion) (channel : ClientChannel)
+by_scram : (policy : ClientPolicy) (user : List ℕ) (secret : Secret) (version : ScramVersion) (plus : Bool)
     (chosen : Profile) (found : Option Secret) → secret_for version secret ≡ found
-    → (channel ≡ unbound_channel policy.channel) ⊎ (channel ≡ bound_channel policy.channel)
-    → scram_by policy channel user version found ≡ Some chosen → IsScramOf policy user secret chosen
-by_scram policy user secret version channel chosen None serves says is = absurd (cc)
-by_scram policy user secret version channel chosen (Some own) serves says is = record {
+    → scram_by (scram_options policy plus) user version found ≡ Some chosen → IsScramOf policy user secret chosen
+by_scram policy user secret version plus chosen None serves is = absurd (cc)
+by_scram policy user secret version plus chosen (Some own) serves is = record {
   version = version;
   own = own;
-  channel = channel;
+  plus = plus;
   serves = serves;
-  says = says;
-  is = sym (same_Some (ScramProfile (chosen_client policy user version own channel)) chosen is);
+  is = sym (same_Some (ScramProfile (with_options (fresh_client user version own) (scram_options policy plus))) chosen is);
 }
+
+-- and what it says of its channel
+says : (channel : Option ChannelBinding) (plus : Bool)
+    → (channel_with plus channel ≡ unbound_channel channel) ⊎ (channel_with plus channel ≡ bound_channel channel)
+says channel true = inr refl
+says channel false = inl refl
 
 other_kind : (profile chosen : Profile) → kind profile ≡ Some false → Some profile ≡ Some chosen → kind chosen ≡ Some false
 other_kind profile chosen other is = sym (ap kind (same_Some profile chosen is)) ∙ other
@@ -66,15 +64,11 @@ by_plain user (Both password keys) chosen is = other_kind _ chosen refl is
 chosen_kind : (policy : ClientPolicy) (user : List ℕ) (secret : Secret) (mechanism : Mechanism) (chosen : Profile)
     → profile_by policy user secret mechanism ≡ Some chosen
     → IsScramOf policy user secret chosen ⊎ (kind chosen ≡ Some false)
-chosen_kind policy user secret ScramSha512Plus chosen is = inl (by_scram policy user secret Sha512 _ chosen _ refl (inr refl) is)
-chosen_kind policy user secret ScramSha256Plus chosen is = inl (by_scram policy user secret Sha256 _ chosen _ refl (inr refl) is)
-chosen_kind policy user secret ScramSha1Plus chosen is = inl (by_scram policy user secret Sha1 _ chosen _ refl (inr refl) is)
-chosen_kind policy user secret ScramSha512 chosen is = inl (by_scram policy user secret Sha512 _ chosen _ refl (inl refl) is)
-chosen_kind policy user secret ScramSha256 chosen is = inl (by_scram policy user secret Sha256 _ chosen _ refl (inl refl) is)
-chosen_kind policy user secret ScramSha1 chosen is = inl (by_scram policy user secret Sha1 _ chosen _ refl (inl refl) is)
-chosen_kind policy user secret External chosen is = inr (other_kind ExternalProfile chosen refl is)
-chosen_kind policy user secret Plain chosen is = inr (by_plain user secret chosen is)
-chosen_kind policy user secret Anonymous chosen is = inr (other_kind AnonymousProfile chosen refl is)
+chosen_kind policy user secret (mechanisms.Scram version plus) chosen is =
+    inl (by_scram policy user secret version plus chosen _ refl is)
+chosen_kind policy user secret mechanisms.External chosen is = inr (other_kind ExternalProfile chosen refl is)
+chosen_kind policy user secret mechanisms.Plain chosen is = inr (by_plain user secret chosen is)
+chosen_kind policy user secret mechanisms.Anonymous chosen is = inr (other_kind AnonymousProfile chosen refl is)
 
 -- ---- whom it acts for
 
@@ -92,36 +86,36 @@ kept_kind (Some identity) chosen profile (can, is) = ap kind is ∙ acting_kind 
 -- ---- the login
 
 -- the login of a version, by what the secret is for it, that says this of its channel
-abbrev login_by : Selection → Option (List ℕ) → ScramVersion → Secret → ClientChannel → Login
-login_by selection hostname version own channel = record {
+abbrev login_by : Selection → Option (List ℕ) → ScramVersion → Secret → Bool → Login
+login_by selection hostname version own plus = record {
   user = selection.user;
   secret = own;
   version = version;
   limits = selection.policy.limits;
-  channel = channel;
+  channel = channel_with plus selection.policy.channel;
   acts_for = identity_named selection.acts_for;
-  strict = false;
+  strict = selection.policy.strict;
   signature_by_challenge = false;
   hostname = hostname;
 }
 
 -- a client that acts for the identity of the selection
-acts_as : (policy : ClientPolicy) (user : List ℕ) (version : ScramVersion) (own : Secret) (channel : ClientChannel)
+acts_as : (policy : ClientPolicy) (user : List ℕ) (version : ScramVersion) (own : Secret) (plus : Bool)
     (acts_for hostname : Option (List ℕ)) (profile : Profile)
-    → IsActing acts_for (ScramProfile (chosen_client policy user version own channel)) profile
+    → IsActing acts_for (ScramProfile (with_options (fresh_client user version own) (scram_options policy plus))) profile
     → profile ≡ scram_profile (record {
       user = user;
       secret = own;
       version = version;
       limits = policy.limits;
-      channel = channel;
+      channel = channel_with plus policy.channel;
       acts_for = identity_named acts_for;
-      strict = false;
+      strict = policy.strict;
       signature_by_challenge = false;
       hostname = hostname;
     })
-acts_as policy user version own channel None hostname profile is = is
-acts_as policy user version own channel (Some identity) hostname profile (can, is) = is
+acts_as policy user version own plus None hostname profile is = is
+acts_as policy user version own plus (Some identity) hostname profile (can, is) = is
 
 -- a selected profile is of SCRAM, and begins a login of the selection, or is of another kind
 pub selected_login : (selection : Selection) (hostname : Option (List ℕ)) (names : List (List ℕ)) (profile : Profile)
@@ -134,18 +128,18 @@ selected_login selection hostname names profile (chosen, (mechanism, first, is),
         → ((login : Login) × IsLoginOf selection hostname login × (profile ≡ scram_profile login)) ⊎ (kind profile ≡ Some false)
     go (inr other) = inr (kept_kind selection.acts_for chosen profile acting ∙ other)
     go (inl scram) = inl (
-      login_by selection hostname scram.version scram.own scram.channel,
+      login_by selection hostname scram.version scram.own scram.plus,
       record {
         user = refl;
         secret = scram.serves;
         limits = refl;
-        channel = scram.says;
+        channel = says selection.policy.channel scram.plus;
         acts_for = refl;
         strict = refl;
         signature_by_challenge = refl;
         hostname = refl;
       },
-      acts_as selection.policy selection.user scram.version scram.own scram.channel selection.acts_for hostname
+      acts_as selection.policy selection.user scram.version scram.own scram.plus selection.acts_for hostname
           profile (subst (λ (p : Profile). IsActing selection.acts_for p profile) scram.is acting),
     )
 

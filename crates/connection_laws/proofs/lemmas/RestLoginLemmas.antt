@@ -9,8 +9,8 @@ use Rattle.fe2o3_scram.specs.ServerFirst.{OpenExchange}
 use Rattle.fe2o3_scram.specs.declared.hmac.ScramVersion.{ScramVersion}
 use Rattle.fe2o3_scram.specs.declared.scram_messages.error.ServerScramErrorKind.{ServerScramErrorKind}
 use Rattle.fe2o3_sasl_core.specs.Servers.{AsksForResponse, ClosesExchange, ConfirmsSignature, ExchangeOpen, InitAnswers, NotStarted, OpensScram, ResponseAnswers, ResponseAsked, ServerLogin, ServerSettings, ServerStage, SignatureShown, UserAuthenticated, exchange_login, exchange_server, provider_by}
-use Rattle.fe2o3_sasl_core.specs.declared.server.ways.Way.{Way}
-use Rattle.fe2o3_sasl_core.specs.declared.server.ways.Way.TheVariants as ways
+use Rattle.fe2o3_sasl_core.specs.declared.mechanism.Mechanism.{Mechanism}
+use Rattle.fe2o3_sasl_core.specs.declared.mechanism.Mechanism.TheVariants as mechanisms
 use Rattle.connection_laws.specs.ConnectionLogins.{MessagesLogIn, ScramMessages, confirmation}
 use Rattle.connection_laws.specs.ServerLogins.{InitCompletes, MeetsExchange, ResponseCompletes}
 use Rattle.connection_laws.proofs.lemmas.ServerFunctionLemmas.{one_opened}
@@ -18,8 +18,8 @@ use Rattle.connection_laws.proofs.lemmas.ServerFunctionLemmas.{one_opened}
 -- ---- from a stage on
 
 -- the responses of an init that was asked for its initial response
-abbrev pub AskedLogsIn : ServerSettings → Way → List ℕ → List (List ℕ) → ServerLogin → Type 0
-AskedLogsIn settings (ways.Scram version plus) nonce texts login =
+abbrev pub AskedLogsIn : ServerSettings → Mechanism → List ℕ → List (List ℕ) → ServerLogin → Type 0
+AskedLogsIn settings (mechanisms.Scram version plus) nonce texts login =
     ScramMessages settings version plus nonce texts login
 AskedLogsIn settings way nonce texts login =
     (text : List ℕ) × (texts ≡ text ∷ []) × InitCompletes settings way (Some text) login
@@ -60,10 +60,10 @@ unconfirmed false text final same = (refl, cc)
 
 pub last_rests : (settings : ServerSettings) (stage : ServerStage) (text : List ℕ) (login : ServerLogin)
     → ResponseCompletes settings stage text login → RestLogsIn settings stage (text ∷ []) login
-last_rests settings (ResponseAsked ways.Plain nonce) text login completes = (text, refl, completes)
-last_rests settings (ResponseAsked ways.Anonymous nonce) text login completes = (text, refl, completes)
-last_rests settings (ResponseAsked ways.External nonce) text login completes = (text, refl, completes)
-last_rests settings (ResponseAsked (ways.Scram version plus) nonce) text login completes = absurd completes
+last_rests settings (ResponseAsked mechanisms.Plain nonce) text login completes = (text, refl, completes)
+last_rests settings (ResponseAsked mechanisms.Anonymous nonce) text login completes = (text, refl, completes)
+last_rests settings (ResponseAsked mechanisms.External nonce) text login completes = (text, refl, completes)
+last_rests settings (ResponseAsked (mechanisms.Scram version plus) nonce) text login completes = absurd completes
 last_rests settings (ExchangeOpen version plus exchange) text login (unsigned, meets, made) =
     (text, ap (λ (signs : Bool). text ∷ confirmation signs) (sym unsigned), meets, made)
 last_rests settings (SignatureShown shown) text login (empty, made) =
@@ -71,7 +71,7 @@ last_rests settings (SignatureShown shown) text login (empty, made) =
 last_rests settings NotStarted text login completes = absurd completes
 last_rests settings (UserAuthenticated before) text login completes = absurd completes
 
-asked_last : (settings : ServerSettings) (way : Way) (text : List ℕ) (login : ServerLogin)
+asked_last : (settings : ServerSettings) (way : Mechanism) (text : List ℕ) (login : ServerLogin)
     → ((other : List ℕ) × (◌≡◌ {A = List (List ℕ)} (text ∷ []) (other ∷ []))
     × InitCompletes settings way (Some other) login) → InitCompletes settings way (Some text) login
 asked_last settings way text login (other, same, completes) =
@@ -79,12 +79,12 @@ asked_last settings way text login (other, same, completes) =
 
 pub rests_last : (settings : ServerSettings) (stage : ServerStage) (text : List ℕ) (login : ServerLogin)
     → RestLogsIn settings stage (text ∷ []) login → ResponseCompletes settings stage text login
-rests_last settings (ResponseAsked ways.Plain nonce) text login rest = asked_last settings ways.Plain text login rest
-rests_last settings (ResponseAsked ways.Anonymous nonce) text login rest =
-    asked_last settings ways.Anonymous text login rest
-rests_last settings (ResponseAsked ways.External nonce) text login rest =
-    asked_last settings ways.External text login rest
-rests_last settings (ResponseAsked (ways.Scram version plus) nonce) text login rest =
+rests_last settings (ResponseAsked mechanisms.Plain nonce) text login rest = asked_last settings mechanisms.Plain text login rest
+rests_last settings (ResponseAsked mechanisms.Anonymous nonce) text login rest =
+    asked_last settings mechanisms.Anonymous text login rest
+rests_last settings (ResponseAsked mechanisms.External nonce) text login rest =
+    asked_last settings mechanisms.External text login rest
+rests_last settings (ResponseAsked (mechanisms.Scram version plus) nonce) text login rest =
     one_is_two text rest.first rest.final (confirmation settings.extra.signature) rest.all
 rests_last settings (ExchangeOpen version plus exchange) text login (final, same, meets, made) =
     let (unsigned, is) = unconfirmed settings.extra.signature text final same in
@@ -144,43 +144,43 @@ module _ (settings : ServerSettings) (kept next : ServerStage) (nonce : List ℕ
       subst (λ (s : ServerStage). RestLogsIn settings s texts login) (sym one.1)
       (scram.final, rest, scram.meets, scram.made)
 
-  asks_rest : (asks : Bool) (way : Way) → AsksForResponse asks way kept nonce reply next
+  asks_rest : (asks : Bool) (way : Mechanism) → AsksForResponse asks way kept nonce reply next
       → (asks ≡ true) × (next ≡ ResponseAsked way nonce)
   asks_rest true way is = (refl, is.1)
   asks_rest false way is = not_outcome reply _ _ challenged is.0
 
-  pub init_rest : (way : Way) (response : Option (List ℕ)) → InitAnswers settings way kept nonce response reply next
+  pub init_rest : (way : Mechanism) (response : Option (List ℕ)) → InitAnswers settings way kept nonce response reply next
       → RestLogsIn settings next texts login → MessagesLogIn settings way nonce response texts login
-  init_rest ways.Anonymous response is rest = not_outcome reply _ _ challenged is.0
-  init_rest ways.External response (inl is) rest = not_outcome reply _ _ challenged is.1.0
-  init_rest ways.External response (inr is) rest = not_outcome reply _ _ challenged is.1.0
-  init_rest ways.Plain None is rest =
-      let (asks, at) = asks_rest settings.extra.initial_response ways.Plain is in
+  init_rest mechanisms.Anonymous response is rest = not_outcome reply _ _ challenged is.0
+  init_rest mechanisms.External response (inl is) rest = not_outcome reply _ _ challenged is.1.0
+  init_rest mechanisms.External response (inr is) rest = not_outcome reply _ _ challenged is.1.0
+  init_rest mechanisms.Plain None is rest =
+      let (asks, at) = asks_rest settings.extra.initial_response mechanisms.Plain is in
       let (text, one, completes) = subst (λ (s : ServerStage). RestLogsIn settings s texts login) at rest in
       (text, (asks, sym one), completes)
-  init_rest ways.Plain (Some text) (inl is) rest = not_outcome reply _ _ challenged is.2.0
-  init_rest ways.Plain (Some text) (inr is) rest = not_outcome reply _ _ challenged is.1.0
-  init_rest (ways.Scram version plus) None is rest =
-      let (asks, at) = asks_rest settings.extra.initial_response (ways.Scram version plus) is in
+  init_rest mechanisms.Plain (Some text) (inl is) rest = not_outcome reply _ _ challenged is.2.0
+  init_rest mechanisms.Plain (Some text) (inr is) rest = not_outcome reply _ _ challenged is.1.0
+  init_rest (mechanisms.Scram version plus) None is rest =
+      let (asks, at) = asks_rest settings.extra.initial_response (mechanisms.Scram version plus) is in
       (texts, (asks, refl), subst (λ (s : ServerStage). RestLogsIn settings s texts login) at rest)
-  init_rest (ways.Scram version plus) (Some first) (answer, begins, opens) rest =
+  init_rest (mechanisms.Scram version plus) (Some first) (answer, begins, opens) rest =
       (first ∷ texts, refl, opens_rest version plus first answer begins opens rest)
 
-  pub rest_init : (way : Way) (response : Option (List ℕ)) → InitAnswers settings way kept nonce response reply next
+  pub rest_init : (way : Mechanism) (response : Option (List ℕ)) → InitAnswers settings way kept nonce response reply next
       → MessagesLogIn settings way nonce response texts login → RestLogsIn settings next texts login
-  rest_init ways.Anonymous response is messages = not_outcome reply _ _ challenged is.0
-  rest_init ways.External response (inl is) messages = not_outcome reply _ _ challenged is.1.0
-  rest_init ways.External response (inr is) messages = not_outcome reply _ _ challenged is.1.0
-  rest_init ways.Plain None is (text, (asks, one), completes) =
-      let at = (asks_rest settings.extra.initial_response ways.Plain is).1 in
+  rest_init mechanisms.Anonymous response is messages = not_outcome reply _ _ challenged is.0
+  rest_init mechanisms.External response (inl is) messages = not_outcome reply _ _ challenged is.1.0
+  rest_init mechanisms.External response (inr is) messages = not_outcome reply _ _ challenged is.1.0
+  rest_init mechanisms.Plain None is (text, (asks, one), completes) =
+      let at = (asks_rest settings.extra.initial_response mechanisms.Plain is).1 in
       subst (λ (s : ServerStage). RestLogsIn settings s texts login) (sym at) (text, sym one, completes)
-  rest_init ways.Plain (Some text) (inl is) messages = not_outcome reply _ _ challenged is.2.0
-  rest_init ways.Plain (Some text) (inr is) messages = not_outcome reply _ _ challenged is.1.0
-  rest_init (ways.Scram version plus) None is (messages, (asks, one), scram) =
-      let at = (asks_rest settings.extra.initial_response (ways.Scram version plus) is).1 in
+  rest_init mechanisms.Plain (Some text) (inl is) messages = not_outcome reply _ _ challenged is.2.0
+  rest_init mechanisms.Plain (Some text) (inr is) messages = not_outcome reply _ _ challenged is.1.0
+  rest_init (mechanisms.Scram version plus) None is (messages, (asks, one), scram) =
+      let at = (asks_rest settings.extra.initial_response (mechanisms.Scram version plus) is).1 in
       subst (λ (s : ServerStage). RestLogsIn settings s texts login) (sym at)
       (subst (λ (l : List (List ℕ)). ScramMessages settings version plus nonce l login) one scram)
-  rest_init (ways.Scram version plus) (Some first) (answer, begins, opens) (messages, one, scram) =
+  rest_init (mechanisms.Scram version plus) (Some first) (answer, begins, opens) (messages, one, scram) =
       rest_opens version plus first answer begins opens
       (subst (λ (l : List (List ℕ)). ScramMessages settings version plus nonce l login) one scram)
 
@@ -224,12 +224,12 @@ module _ (settings : ServerSettings) (next : ServerStage) (text : List ℕ) (rep
 
   pub response_rest : (stage : ServerStage) → ResponseAnswers settings stage text reply next
       → RestLogsIn settings next texts login → RestLogsIn settings stage (text ∷ texts) login
-  response_rest (ResponseAsked ways.Anonymous nonce) is rest = not_outcome reply _ _ challenged is.0
-  response_rest (ResponseAsked ways.External nonce) (inl is) rest = not_outcome reply _ _ challenged is.1.0
-  response_rest (ResponseAsked ways.External nonce) (inr is) rest = not_outcome reply _ _ challenged is.1.0
-  response_rest (ResponseAsked ways.Plain nonce) (inl is) rest = not_outcome reply _ _ challenged is.2.0
-  response_rest (ResponseAsked ways.Plain nonce) (inr is) rest = not_outcome reply _ _ challenged is.1.0
-  response_rest (ResponseAsked (ways.Scram version plus) nonce) (answer, begins, opens) rest =
+  response_rest (ResponseAsked mechanisms.Anonymous nonce) is rest = not_outcome reply _ _ challenged is.0
+  response_rest (ResponseAsked mechanisms.External nonce) (inl is) rest = not_outcome reply _ _ challenged is.1.0
+  response_rest (ResponseAsked mechanisms.External nonce) (inr is) rest = not_outcome reply _ _ challenged is.1.0
+  response_rest (ResponseAsked mechanisms.Plain nonce) (inl is) rest = not_outcome reply _ _ challenged is.2.0
+  response_rest (ResponseAsked mechanisms.Plain nonce) (inr is) rest = not_outcome reply _ _ challenged is.1.0
+  response_rest (ResponseAsked (mechanisms.Scram version plus) nonce) (answer, begins, opens) rest =
       opens_rest settings NotStarted next nonce reply challenged texts login version plus text answer begins opens rest
   response_rest (ExchangeOpen version plus exchange) (answer, answers, closes) rest =
       closes_rest settings.extra.signature version plus exchange answer refl answers closes rest
@@ -239,12 +239,12 @@ module _ (settings : ServerSettings) (next : ServerStage) (text : List ℕ) (rep
 
   pub rest_response : (stage : ServerStage) → ResponseAnswers settings stage text reply next
       → RestLogsIn settings stage (text ∷ texts) login → RestLogsIn settings next texts login
-  rest_response (ResponseAsked ways.Anonymous nonce) is rest = not_outcome reply _ _ challenged is.0
-  rest_response (ResponseAsked ways.External nonce) (inl is) rest = not_outcome reply _ _ challenged is.1.0
-  rest_response (ResponseAsked ways.External nonce) (inr is) rest = not_outcome reply _ _ challenged is.1.0
-  rest_response (ResponseAsked ways.Plain nonce) (inl is) rest = not_outcome reply _ _ challenged is.2.0
-  rest_response (ResponseAsked ways.Plain nonce) (inr is) rest = not_outcome reply _ _ challenged is.1.0
-  rest_response (ResponseAsked (ways.Scram version plus) nonce) (answer, begins, opens) rest =
+  rest_response (ResponseAsked mechanisms.Anonymous nonce) is rest = not_outcome reply _ _ challenged is.0
+  rest_response (ResponseAsked mechanisms.External nonce) (inl is) rest = not_outcome reply _ _ challenged is.1.0
+  rest_response (ResponseAsked mechanisms.External nonce) (inr is) rest = not_outcome reply _ _ challenged is.1.0
+  rest_response (ResponseAsked mechanisms.Plain nonce) (inl is) rest = not_outcome reply _ _ challenged is.2.0
+  rest_response (ResponseAsked mechanisms.Plain nonce) (inr is) rest = not_outcome reply _ _ challenged is.1.0
+  rest_response (ResponseAsked (mechanisms.Scram version plus) nonce) (answer, begins, opens) rest =
       rest_opens settings NotStarted next nonce reply challenged texts login version plus text answer begins opens rest
   rest_response (ExchangeOpen version plus exchange) (answer, answers, closes) rest =
       rest_closes settings.extra.signature version plus exchange answer refl closes rest

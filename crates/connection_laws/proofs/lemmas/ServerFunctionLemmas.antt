@@ -15,8 +15,8 @@ use Rattle.fe2o3_sasl_core.specs.LoginAttempts.{Attempt, ClaimIn, IsAttempt, Lat
 use Rattle.fe2o3_sasl_core.specs.PlainServer.{asked_identity}
 use Rattle.fe2o3_sasl_core.specs.SaslAcceptor.{Acceptor, ScramAcceptor, acceptor_machine, ends_with}
 use Rattle.fe2o3_sasl_core.specs.Servers.{AsksForResponse, ClosesExchange, ConfirmsSignature, ExchangeOpen, InitAnswers, InitWhere, NotStarted, OpensScram, ResponseAnswers, ResponseAsked, ServerLogin, ServerSettings, ServerStage, SignatureShown, StageRejects, UserAuthenticated, asked_way, exchange_server, is_response_asked, provider_by, sasl_machine}
-use Rattle.fe2o3_sasl_core.specs.declared.server.ways.Way.{Way}
-use Rattle.fe2o3_sasl_core.specs.declared.server.ways.Way.TheVariants as ways
+use Rattle.fe2o3_sasl_core.specs.declared.mechanism.Mechanism.{Mechanism}
+use Rattle.fe2o3_sasl_core.specs.declared.mechanism.Mechanism.TheVariants as mechanisms
 use Rattle.fe2o3_sasl_core.proofs.lemmas.machines.ClaimLemmas.{one_claim}
 use Rattle.fe2o3_sasl_core.proofs.lemmas.machines.OneReplyLemmas.{one_acceptor_reply}
 use Rattle.fe2o3_sasl_core.proofs.lemmas.machines.PlainMessageLemmas.{one_message}
@@ -148,48 +148,48 @@ one_answer settings version plus exchange text answer again is too =
 
 -- ---- inits
 
-one_asked : (asks : Bool) (way : Way) (kept next last : ServerStage) (nonce : List ℕ) (reply other : SaslFrame)
+one_asked : (asks : Bool) (way : Mechanism) (kept next last : ServerStage) (nonce : List ℕ) (reply other : SaslFrame)
     → AsksForResponse asks way kept nonce reply next → AsksForResponse asks way kept nonce other last
     → AreOne reply other next last
 one_asked true way kept next last nonce reply other is too = (is.0 ∙ sym too.0, is.1 ∙ sym too.1)
 one_asked false way kept next last nonce reply other is too = (is.0 ∙ sym too.0, is.1 ∙ sym too.1)
 
-one_init : (settings : ServerSettings) (way : Way) (kept next last : ServerStage) (nonce : List ℕ)
+one_init : (settings : ServerSettings) (way : Mechanism) (kept next last : ServerStage) (nonce : List ℕ)
     (response : Option (List ℕ)) (reply other : SaslFrame)
     → InitAnswers settings way kept nonce response reply next
     → InitAnswers settings way kept nonce response other last → AreOne reply other next last
-one_init settings ways.Anonymous kept next last nonce response reply other is too =
+one_init settings mechanisms.Anonymous kept next last nonce response reply other is too =
     (is.0 ∙ sym too.0, is.1 ∙ sym too.1)
-one_init settings ways.External kept next last nonce response reply other (inl is) (inl too) =
+one_init settings mechanisms.External kept next last nonce response reply other (inl is) (inl too) =
     (is.1.0 ∙ sym too.1.0, is.1.1 ∙ sym too.1.1)
-one_init settings ways.External kept next last nonce response reply other (inl is) (inr too) = absurd (too.0 is.0)
-one_init settings ways.External kept next last nonce response reply other (inr is) (inl too) = absurd (is.0 too.0)
-one_init settings ways.External kept next last nonce response reply other (inr is) (inr too) =
+one_init settings mechanisms.External kept next last nonce response reply other (inl is) (inr too) = absurd (too.0 is.0)
+one_init settings mechanisms.External kept next last nonce response reply other (inr is) (inl too) = absurd (is.0 too.0)
+one_init settings mechanisms.External kept next last nonce response reply other (inr is) (inr too) =
     (is.1.0 ∙ sym too.1.0, is.1.1 ∙ sym too.1.1)
-one_init settings ways.Plain kept next last nonce None reply other is too =
-    one_asked settings.extra.initial_response ways.Plain kept next last nonce reply other is too
-one_init settings ways.Plain kept next last nonce (Some text) reply other (inl is) (inl too) =
+one_init settings mechanisms.Plain kept next last nonce None reply other is too =
+    one_asked settings.extra.initial_response mechanisms.Plain kept next last nonce reply other is too
+one_init settings mechanisms.Plain kept next last nonce (Some text) reply other (inl is) (inl too) =
     let one = one_message text is.0 too.0 is.1.0 too.1.0 in (
       is.2.0 ∙ sym too.2.0,
       is.2.1 ∙ ((λ i. UserAuthenticated (record {
-        way = ways.Plain;
+        way = mechanisms.Plain;
         user = Some (one i).user;
         acts_for = asked_identity (one i);
       })) ∙ sym too.2.1),
     )
-one_init settings ways.Plain kept next last nonce (Some text) reply other (inl is) (inr too) =
+one_init settings mechanisms.Plain kept next last nonce (Some text) reply other (inl is) (inr too) =
     absurd (too.0 is.0 is.1)
-one_init settings ways.Plain kept next last nonce (Some text) reply other (inr is) (inl too) =
+one_init settings mechanisms.Plain kept next last nonce (Some text) reply other (inr is) (inl too) =
     absurd (is.0 too.0 too.1)
-one_init settings ways.Plain kept next last nonce (Some text) reply other (inr is) (inr too) =
+one_init settings mechanisms.Plain kept next last nonce (Some text) reply other (inr is) (inr too) =
     (is.1.0 ∙ sym too.1.0, is.1.1 ∙ sym too.1.1)
-one_init settings (ways.Scram version plus) kept next last nonce None reply other is too =
-    one_asked settings.extra.initial_response (ways.Scram version plus) kept next last nonce reply other is too
-one_init settings (ways.Scram version plus) kept next last nonce (Some text) reply other is too =
+one_init settings (mechanisms.Scram version plus) kept next last nonce None reply other is too =
+    one_asked settings.extra.initial_response (mechanisms.Scram version plus) kept next last nonce reply other is too
+one_init settings (mechanisms.Scram version plus) kept next last nonce (Some text) reply other is too =
     one_opened (provider_by settings version plus) version plus kept next last nonce text is.0 too.0 reply other is.1 is.2
     too.1 too.2
 
-one_found : (settings : ServerSettings) (found : Option Way) (stage next last : ServerStage) (nonce : List ℕ)
+one_found : (settings : ServerSettings) (found : Option Mechanism) (stage next last : ServerStage) (nonce : List ℕ)
     (response : Option (List ℕ)) (reply other : SaslFrame)
     → MatchOption found (StageRejects stage reply next)
     (λ way. InitAnswers settings way stage nonce response reply next)

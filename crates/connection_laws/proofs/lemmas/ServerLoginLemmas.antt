@@ -10,8 +10,8 @@ use Rattle.fe2o3_scram.specs.declared.scram_messages.error.ServerScramErrorKind.
 use Rattle.fe2o3_scram.proofs.lemmas.messages.ClientFinalLemmas.{one_client_final}
 use Rattle.fe2o3_sasl_core.specs.PlainServer.{asked_identity}
 use Rattle.fe2o3_sasl_core.specs.Servers.{AsksForResponse, ClosesExchange, ConfirmsSignature, ExchangeOpen, InitAnswers, InitWhere, NotStarted, OpensScram, ResponseAnswers, ResponseAsked, SendsSignature, ServerLogin, ServerSettings, ServerStage, SignatureShown, StageRejects, UserAuthenticated, asked_way, exchange_login, exchange_server, is_response_asked, logged_in_at}
-use Rattle.fe2o3_sasl_core.specs.declared.server.ways.Way.{Way}
-use Rattle.fe2o3_sasl_core.specs.declared.server.ways.Way.TheVariants as ways
+use Rattle.fe2o3_sasl_core.specs.declared.mechanism.Mechanism.{Mechanism}
+use Rattle.fe2o3_sasl_core.specs.declared.mechanism.Mechanism.TheVariants as mechanisms
 use Rattle.fe2o3_sasl_core.proofs.lemmas.machines.PlainMessageLemmas.{one_message}
 use Rattle.connection_laws.specs.ServerLogins.{CompletedLoginsAreLetIn, InitCompletes, MeetsExchange, OnlyCompletedLoginsAreLetIn, ResponseCompletes, SignaturesFollowProofs}
 
@@ -31,7 +31,7 @@ unnamed stage next login is none named =
 
 -- ---- only completed logins
 
-asked_lets_in : {A : Type 0} (asks : Bool) (way : Way) (kept next : ServerStage) (nonce : List ℕ) (reply : SaslFrame)
+asked_lets_in : {A : Type 0} (asks : Bool) (way : Mechanism) (kept next : ServerStage) (nonce : List ℕ) (reply : SaslFrame)
     (login : ServerLogin) → AsksForResponse asks way kept nonce reply next → logged_in_at next ≡ Some login
     → A ⊎ (next ≡ kept)
 asked_lets_in true way kept next nonce reply login is named =
@@ -46,23 +46,23 @@ opened_lets_in version plus kept next (Ok (Some opened)) reply login is named =
 opened_lets_in version plus kept next (Ok None) reply login is named = inr is.1
 opened_lets_in version plus kept next (Err fault) reply login is named = inr is.1
 
-init_lets_in : (settings : ServerSettings) (way : Way) (kept next : ServerStage) (nonce : List ℕ)
+init_lets_in : (settings : ServerSettings) (way : Mechanism) (kept next : ServerStage) (nonce : List ℕ)
     (response : Option (List ℕ)) (reply : SaslFrame) (login : ServerLogin)
     → InitAnswers settings way kept nonce response reply next → logged_in_at next ≡ Some login
     → InitCompletes settings way response login ⊎ (next ≡ kept)
-init_lets_in settings ways.Anonymous kept next nonce response reply login is named =
+init_lets_in settings mechanisms.Anonymous kept next nonce response reply login is named =
     inl (named_login _ login next is.1 named)
-init_lets_in settings ways.External kept next nonce response reply login (inl is) named =
+init_lets_in settings mechanisms.External kept next nonce response reply login (inl is) named =
     inl (is.0, named_login _ login next is.1.1 named)
-init_lets_in settings ways.External kept next nonce response reply login (inr is) named = inr is.1.1
-init_lets_in settings ways.Plain kept next nonce None reply login is named =
-    asked_lets_in settings.extra.initial_response ways.Plain kept next nonce reply login is named
-init_lets_in settings ways.Plain kept next nonce (Some text) reply login (inl is) named =
+init_lets_in settings mechanisms.External kept next nonce response reply login (inr is) named = inr is.1.1
+init_lets_in settings mechanisms.Plain kept next nonce None reply login is named =
+    asked_lets_in settings.extra.initial_response mechanisms.Plain kept next nonce reply login is named
+init_lets_in settings mechanisms.Plain kept next nonce (Some text) reply login (inl is) named =
     inl (is.0, is.1, named_login _ login next is.2.1 named)
-init_lets_in settings ways.Plain kept next nonce (Some text) reply login (inr is) named = inr is.1.1
-init_lets_in settings (ways.Scram version plus) kept next nonce None reply login is named =
-    asked_lets_in settings.extra.initial_response (ways.Scram version plus) kept next nonce reply login is named
-init_lets_in settings (ways.Scram version plus) kept next nonce (Some text) reply login (answer, begins, opens) named =
+init_lets_in settings mechanisms.Plain kept next nonce (Some text) reply login (inr is) named = inr is.1.1
+init_lets_in settings (mechanisms.Scram version plus) kept next nonce None reply login is named =
+    asked_lets_in settings.extra.initial_response (mechanisms.Scram version plus) kept next nonce reply login is named
+init_lets_in settings (mechanisms.Scram version plus) kept next nonce (Some text) reply login (answer, begins, opens) named =
     opened_lets_in version plus kept next answer reply login opens named
 
 -- the client-final message of an exchange
@@ -109,18 +109,18 @@ response_lets_in settings (UserAuthenticated before) next text reply login is na
 
 -- an init, where it asks for this mechanism or for none that is offered
 found_lets_in : (settings : ServerSettings) (stage next : ServerStage) (nonce name : List ℕ)
-    (response : Option (List ℕ)) (reply : SaslFrame) (login : ServerLogin) (found : Option Way)
+    (response : Option (List ℕ)) (reply : SaslFrame) (login : ServerLogin) (found : Option Mechanism)
     → is_response_asked stage ≡ false → asked_way settings name ≡ found
     → MatchOption found (StageRejects stage reply next)
     (λ way. InitAnswers settings way stage nonce response reply next) → logged_in_at next ≡ Some login
-    → ((is_response_asked stage ≡ false) × ((way : Way) × (asked_way settings name ≡ Some way)
+    → ((is_response_asked stage ≡ false) × ((way : Mechanism) × (asked_way settings name ≡ Some way)
     × InitCompletes settings way response login)) ⊎ (next ≡ stage)
 found_lets_in settings stage next nonce name response reply login None due found is named = inr is.1
 found_lets_in settings stage next nonce name response reply login (Some way) due found is named =
     go (init_lets_in settings way stage next nonce response reply login is named)
   where
     go : InitCompletes settings way response login ⊎ (next ≡ stage)
-        → ((is_response_asked stage ≡ false) × ((way : Way) × (asked_way settings name ≡ Some way)
+        → ((is_response_asked stage ≡ false) × ((way : Mechanism) × (asked_way settings name ≡ Some way)
         × InitCompletes settings way response login)) ⊎ (next ≡ stage)
     go (inl completes) = inl (due, (way, found, completes))
     go (inr same) = inr same
@@ -129,7 +129,7 @@ where_lets_in : (settings : ServerSettings) (stage next : ServerStage) (nonce na
     (response : Option (List ℕ)) (reply : SaslFrame) (login : ServerLogin) (asked : Bool)
     → is_response_asked stage ≡ asked → InitWhere asked settings stage nonce name response reply next
     → logged_in_at next ≡ Some login
-    → ((is_response_asked stage ≡ false) × ((way : Way) × (asked_way settings name ≡ Some way)
+    → ((is_response_asked stage ≡ false) × ((way : Mechanism) × (asked_way settings name ≡ Some way)
     × InitCompletes settings way response login)) ⊎ (next ≡ stage)
 where_lets_in settings stage next nonce name response reply login true due is named =
     unnamed NotStarted next login is.1 refl named
@@ -148,27 +148,27 @@ only_lets_in server next nonce (frames.Outcome code more) reply login (same, ans
 
 -- ---- completed logins
 
-init_completes : (settings : ServerSettings) (way : Way) (kept next : ServerStage) (nonce : List ℕ)
+init_completes : (settings : ServerSettings) (way : Mechanism) (kept next : ServerStage) (nonce : List ℕ)
     (response : Option (List ℕ)) (reply : SaslFrame) (login : ServerLogin)
     → InitAnswers settings way kept nonce response reply next → InitCompletes settings way response login
     → next ≡ UserAuthenticated login
-init_completes settings ways.Anonymous kept next nonce response reply login is completes =
+init_completes settings mechanisms.Anonymous kept next nonce response reply login is completes =
     is.1 ∙ ap UserAuthenticated (sym completes)
-init_completes settings ways.External kept next nonce response reply login (inl is) completes =
+init_completes settings mechanisms.External kept next nonce response reply login (inl is) completes =
     is.1.1 ∙ ap UserAuthenticated (sym completes.1)
-init_completes settings ways.External kept next nonce response reply login (inr is) completes =
+init_completes settings mechanisms.External kept next nonce response reply login (inr is) completes =
     absurd (is.0 completes.0)
-init_completes settings ways.Plain kept next nonce None reply login is completes = absurd completes
-init_completes settings ways.Plain kept next nonce (Some text) reply login (inl is) completes =
+init_completes settings mechanisms.Plain kept next nonce None reply login is completes = absurd completes
+init_completes settings mechanisms.Plain kept next nonce (Some text) reply login (inl is) completes =
     let one = one_message text is.0 completes.0 is.1.0 completes.1.0 in
     is.2.1 ∙ ((λ i. UserAuthenticated (record {
-      way = ways.Plain;
+      way = mechanisms.Plain;
       user = Some (one i).user;
       acts_for = asked_identity (one i);
     })) ∙ ap UserAuthenticated (sym completes.2))
-init_completes settings ways.Plain kept next nonce (Some text) reply login (inr is) completes =
+init_completes settings mechanisms.Plain kept next nonce (Some text) reply login (inr is) completes =
     absurd (is.0 completes.0 completes.1)
-init_completes settings (ways.Scram version plus) kept next nonce response reply login is completes = absurd completes
+init_completes settings (mechanisms.Scram version plus) kept next nonce response reply login is completes = absurd completes
 
 closed_completes : (settings : ServerSettings) (version : ScramVersion) (plus : Bool) (exchange : OpenExchange)
     (text : List ℕ) (answer : Result (List ℕ) ServerScramErrorKind) (reply : SaslFrame) (next : ServerStage)
@@ -209,7 +209,7 @@ lets_in server next nonce (frames.Init name response hostname) reply login (same
     (due, (way, found, completes)) =
     let own = subst (λ (asked : Bool). InitWhere asked server.settings server.stage nonce name response reply next.stage)
     due answers in
-    let of_way = subst (λ (it : Option Way). MatchOption it (StageRejects server.stage reply next.stage)
+    let of_way = subst (λ (it : Option Mechanism). MatchOption it (StageRejects server.stage reply next.stage)
     (λ way. InitAnswers server.settings way server.stage nonce response reply next.stage)) found own in
     init_completes server.settings way server.stage next.stage nonce response reply login of_way completes
 lets_in server next nonce (frames.Response text) reply login (same, answers, records) completes =
@@ -230,7 +230,7 @@ pub unshown : {A : Type 0} (stage next : ServerStage) (login : ServerLogin) → 
 unshown stage next login is none shows =
     let no : None ≡ Some login = sym none ∙ ap shown_at (sym is ∙ shows) in absurd (cc)
 
-asked_shows : {A : Type 0} (asks : Bool) (way : Way) (kept next : ServerStage) (nonce : List ℕ) (reply : SaslFrame)
+asked_shows : {A : Type 0} (asks : Bool) (way : Mechanism) (kept next : ServerStage) (nonce : List ℕ) (reply : SaslFrame)
     (login : ServerLogin) → AsksForResponse asks way kept nonce reply next → next ≡ SignatureShown login
     → A ⊎ (next ≡ kept)
 asked_shows true way kept next nonce reply login is shows =
@@ -245,22 +245,22 @@ opened_shows version plus kept next (Ok (Some opened)) reply login is shows =
 opened_shows version plus kept next (Ok None) reply login is shows = inr is.1
 opened_shows version plus kept next (Err fault) reply login is shows = inr is.1
 
-init_shows : {A : Type 0} (settings : ServerSettings) (way : Way) (kept next : ServerStage) (nonce : List ℕ)
+init_shows : {A : Type 0} (settings : ServerSettings) (way : Mechanism) (kept next : ServerStage) (nonce : List ℕ)
     (response : Option (List ℕ)) (reply : SaslFrame) (login : ServerLogin)
     → InitAnswers settings way kept nonce response reply next → next ≡ SignatureShown login → A ⊎ (next ≡ kept)
-init_shows settings ways.Anonymous kept next nonce response reply login is shows =
+init_shows settings mechanisms.Anonymous kept next nonce response reply login is shows =
     unshown (UserAuthenticated _) next login is.1 refl shows
-init_shows settings ways.External kept next nonce response reply login (inl is) shows =
+init_shows settings mechanisms.External kept next nonce response reply login (inl is) shows =
     unshown (UserAuthenticated _) next login is.1.1 refl shows
-init_shows settings ways.External kept next nonce response reply login (inr is) shows = inr is.1.1
-init_shows settings ways.Plain kept next nonce None reply login is shows =
-    asked_shows settings.extra.initial_response ways.Plain kept next nonce reply login is shows
-init_shows settings ways.Plain kept next nonce (Some text) reply login (inl is) shows =
+init_shows settings mechanisms.External kept next nonce response reply login (inr is) shows = inr is.1.1
+init_shows settings mechanisms.Plain kept next nonce None reply login is shows =
+    asked_shows settings.extra.initial_response mechanisms.Plain kept next nonce reply login is shows
+init_shows settings mechanisms.Plain kept next nonce (Some text) reply login (inl is) shows =
     unshown (UserAuthenticated _) next login is.2.1 refl shows
-init_shows settings ways.Plain kept next nonce (Some text) reply login (inr is) shows = inr is.1.1
-init_shows settings (ways.Scram version plus) kept next nonce None reply login is shows =
-    asked_shows settings.extra.initial_response (ways.Scram version plus) kept next nonce reply login is shows
-init_shows settings (ways.Scram version plus) kept next nonce (Some text) reply login (answer, begins, opens) shows =
+init_shows settings mechanisms.Plain kept next nonce (Some text) reply login (inr is) shows = inr is.1.1
+init_shows settings (mechanisms.Scram version plus) kept next nonce None reply login is shows =
+    asked_shows settings.extra.initial_response (mechanisms.Scram version plus) kept next nonce reply login is shows
+init_shows settings (mechanisms.Scram version plus) kept next nonce (Some text) reply login (answer, begins, opens) shows =
     opened_shows version plus kept next answer reply login opens shows
 
 -- the client-final message before a signature
@@ -309,7 +309,7 @@ response_shows settings NotStarted next text reply login is shows = inr is.1
 response_shows settings (UserAuthenticated before) next text reply login is shows = inr is.1
 
 found_shows : {A : Type 0} (settings : ServerSettings) (stage next : ServerStage) (nonce : List ℕ)
-    (response : Option (List ℕ)) (reply : SaslFrame) (login : ServerLogin) (found : Option Way)
+    (response : Option (List ℕ)) (reply : SaslFrame) (login : ServerLogin) (found : Option Mechanism)
     → MatchOption found (StageRejects stage reply next)
     (λ way. InitAnswers settings way stage nonce response reply next) → next ≡ SignatureShown login
     → A ⊎ (next ≡ stage)

@@ -11,8 +11,8 @@ use Rattle.fe2o3_scram.specs.declared.scram_messages.error.ServerScramErrorKind.
 use Rattle.fe2o3_sasl_core.specs.Events.{Challenged}
 use Rattle.fe2o3_sasl_core.specs.SaslAcceptor.{ends_with}
 use Rattle.fe2o3_sasl_core.specs.Servers.{AsksForResponse, ClosesExchange, ConfirmsSignature, ExchangeOpen, InitAnswers, InitWhere, NotStarted, OpensScram, ResponseAnswers, ResponseAsked, ServerAt, ServerLogin, ServerSettings, ServerStage, SignatureShown, StageRejects, UserAuthenticated, asked_way, exchange_server, is_response_asked, logged_in_at, sasl_machine}
-use Rattle.fe2o3_sasl_core.specs.declared.server.ways.Way.{Way}
-use Rattle.fe2o3_sasl_core.specs.declared.server.ways.Way.TheVariants as ways
+use Rattle.fe2o3_sasl_core.specs.declared.mechanism.Mechanism.{Mechanism}
+use Rattle.fe2o3_sasl_core.specs.declared.mechanism.Mechanism.TheVariants as mechanisms
 use Rattle.fe2o3_sasl_negotiation.specs.FrameSizes.{CanBeSent}
 use Rattle.fe2o3_sasl_negotiation.proofs.lemmas.FrameSizeLemmas.{outcomes_fit}
 use Rattle.connection_laws.proofs.lemmas.ServedLemmas.{HasMemory, Stepped, sent_challenge, sent_no_outcome}
@@ -55,7 +55,7 @@ accepts kept next reply login is at =
 
 -- ---- inits
 
-asked_kind : (asks : Bool) (way : Way) (kept next : ServerStage) (nonce : List ℕ) (reply : SaslFrame)
+asked_kind : (asks : Bool) (way : Mechanism) (kept next : ServerStage) (nonce : List ℕ) (reply : SaslFrame)
     → AsksForResponse asks way kept nonce reply next → Kind kept reply next
 asked_kind true way kept next nonce reply is = waits [] (ResponseAsked way nonce) kept next reply is.0 is.1 refl
 asked_kind false way kept next nonce reply is = rejects kept next reply is
@@ -68,22 +68,22 @@ opened_kind version plus kept next (Ok (Some opened)) reply is =
 opened_kind version plus kept next (Ok None) reply is = rejects kept next reply is
 opened_kind version plus kept next (Err fault) reply is = rejects kept next reply is
 
-init_kind : (settings : ServerSettings) (way : Way) (kept next : ServerStage) (nonce : List ℕ)
+init_kind : (settings : ServerSettings) (way : Mechanism) (kept next : ServerStage) (nonce : List ℕ)
     (response : Option (List ℕ)) (reply : SaslFrame) → InitAnswers settings way kept nonce response reply next
     → Kind kept reply next
-init_kind settings ways.Anonymous kept next nonce response reply is = accepts kept next reply _ is.0 is.1
-init_kind settings ways.External kept next nonce response reply (inl is) = accepts kept next reply _ is.1.0 is.1.1
-init_kind settings ways.External kept next nonce response reply (inr is) = rejects kept next reply is.1
-init_kind settings ways.Plain kept next nonce None reply is =
-    asked_kind settings.extra.initial_response ways.Plain kept next nonce reply is
-init_kind settings ways.Plain kept next nonce (Some text) reply (inl is) = accepts kept next reply _ is.2.0 is.2.1
-init_kind settings ways.Plain kept next nonce (Some text) reply (inr is) = rejects kept next reply is.1
-init_kind settings (ways.Scram version plus) kept next nonce None reply is =
-    asked_kind settings.extra.initial_response (ways.Scram version plus) kept next nonce reply is
-init_kind settings (ways.Scram version plus) kept next nonce (Some text) reply is =
+init_kind settings mechanisms.Anonymous kept next nonce response reply is = accepts kept next reply _ is.0 is.1
+init_kind settings mechanisms.External kept next nonce response reply (inl is) = accepts kept next reply _ is.1.0 is.1.1
+init_kind settings mechanisms.External kept next nonce response reply (inr is) = rejects kept next reply is.1
+init_kind settings mechanisms.Plain kept next nonce None reply is =
+    asked_kind settings.extra.initial_response mechanisms.Plain kept next nonce reply is
+init_kind settings mechanisms.Plain kept next nonce (Some text) reply (inl is) = accepts kept next reply _ is.2.0 is.2.1
+init_kind settings mechanisms.Plain kept next nonce (Some text) reply (inr is) = rejects kept next reply is.1
+init_kind settings (mechanisms.Scram version plus) kept next nonce None reply is =
+    asked_kind settings.extra.initial_response (mechanisms.Scram version plus) kept next nonce reply is
+init_kind settings (mechanisms.Scram version plus) kept next nonce (Some text) reply is =
     opened_kind version plus kept next is.0 reply is.2
 
-found_kind : (settings : ServerSettings) (found : Option Way) (stage next : ServerStage) (nonce : List ℕ)
+found_kind : (settings : ServerSettings) (found : Option Mechanism) (stage next : ServerStage) (nonce : List ℕ)
     (response : Option (List ℕ)) (reply : SaslFrame)
     → MatchOption found (StageRejects stage reply next)
     (λ way. InitAnswers settings way stage nonce response reply next) → Kind stage reply next
@@ -127,7 +127,7 @@ confirmed_kind shown [] next reply is = accepts (SignatureShown shown) next repl
 confirmed_kind shown (byte ∷ text) next reply is = restarts (SignatureShown shown) next reply is
 
 -- what is kept is not the stage before, where a response was asked for
-late_kind : (way : Way) (nonce : List ℕ) (next : ServerStage) (reply : SaslFrame) → Kind NotStarted reply next
+late_kind : (way : Mechanism) (nonce : List ℕ) (next : ServerStage) (reply : SaslFrame) → Kind NotStarted reply next
     → Kind (ResponseAsked way nonce) reply next
 late_kind way nonce next reply (inl is) = inl is
 late_kind way nonce next reply (inr (inl (is, inl at))) = inr (inl (is, inr at))

@@ -19,9 +19,10 @@ use Rattle.fe2o3_sasl_core.specs.Bodies.{SpellsBody, server_says}
 use Rattle.fe2o3_sasl_core.specs.Events.{Challenged, Failed, Given, ServerSays}
 use Rattle.fe2o3_sasl_core.specs.SaslAcceptor.{ends_with}
 use Rattle.fe2o3_sasl_core.specs.ServerHistory.{Accepted, server_at}
-use Rattle.fe2o3_sasl_core.specs.Servers.{ConfirmsSignature, ExchangeOpen, NotStarted, ResponseAnswers, ResponseAsked, ServerAt, ServerLogin, ServerSettings, ServerStage, SignatureShown, UserAuthenticated, asked_way, exchange_login, exchange_server, is_offered_by, logged_in_at, provider_by, rules_by, sasl_machine, way_name}
-use Rattle.fe2o3_sasl_core.specs.declared.server.ways.Way.{Way}
-use Rattle.fe2o3_sasl_core.specs.declared.server.ways.Way.TheVariants as ways
+use Rattle.fe2o3_sasl_core.specs.Mechanisms.{mechanism_symbol}
+use Rattle.fe2o3_sasl_core.specs.Servers.{ConfirmsSignature, ExchangeOpen, NotStarted, ResponseAnswers, ResponseAsked, ServerAt, ServerLogin, ServerSettings, ServerStage, SignatureShown, UserAuthenticated, asked_way, exchange_login, exchange_server, is_offered_by, logged_in_at, provider_by, rules_by, sasl_machine}
+use Rattle.fe2o3_sasl_core.specs.declared.mechanism.Mechanism.{Mechanism}
+use Rattle.fe2o3_sasl_core.specs.declared.mechanism.Mechanism.TheVariants as mechanisms
 use Rattle.fe2o3_sasl_core.proofs.lemmas.frames.SpellingLemmas.{sent}
 use Rattle.fe2o3_sasl_negotiation.specs.Connections.{AreFrames, Piece}
 use Rattle.fe2o3_sasl_negotiation.specs.ServerNegotiation.{server_follows}
@@ -35,7 +36,7 @@ use Rattle.connection_laws.proofs.lemmas.ServedLemmas.{Served, Stepped, init_of,
 use Rattle.connection_laws.proofs.lemmas.ServerLemmas.{response_of}
 use Rattle.connection_laws.proofs.lemmas.ServerLoginLemmas.{shown_at, unshown}
 use Rattle.connection_laws.proofs.lemmas.ServerStepLemmas.{Kind, challenge, challenge_has_memory, machine_kind}
-use Rattle.connection_laws.proofs.lemmas.WayLemmas.{asked_offers}
+use Rattle.fe2o3_sasl_core.proofs.lemmas.machines.MechanismLemmas.{asked_offers}
 
 -- ---- what the messages are of
 
@@ -81,25 +82,25 @@ module _ (settings : ServerSettings) (version : ScramVersion) (plus : Bool) (non
       )
 
 -- the messages of a login of SCRAM by this mechanism, and what they are of
-abbrev SaysAccepted : ServerSettings → ScramVersion → Bool → List ℕ → Way → Option (List ℕ) → List (List ℕ) → ServerLogin
+abbrev SaysAccepted : ServerSettings → ScramVersion → Bool → List ℕ → Mechanism → Option (List ℕ) → List (List ℕ) → ServerLogin
     → Type 0
-SaysAccepted settings version plus nonce way response texts login = (way ≡ ways.Scram version plus)
+SaysAccepted settings version plus nonce way response texts login = (way ≡ mechanisms.Scram version plus)
     × ((first : List ℕ) × (final : List ℕ) × AreMessages settings.extra.initial_response response texts
     (first ∷ final ∷ confirmation settings.extra.signature)
     × ((accepted : Accepted) × OfMessages settings version plus nonce first final login accepted))
 
-says_accepted : (settings : ServerSettings) (version : ScramVersion) (plus : Bool) (nonce : List ℕ) (way : Way)
+says_accepted : (settings : ServerSettings) (version : ScramVersion) (plus : Bool) (nonce : List ℕ) (way : Mechanism)
     (response : Option (List ℕ)) (texts : List (List ℕ)) (login : ServerLogin)
-    → MessagesLogIn settings way nonce response texts login → login.way ≡ ways.Scram version plus
+    → MessagesLogIn settings way nonce response texts login → login.way ≡ mechanisms.Scram version plus
     → SaysAccepted settings version plus nonce way response texts login
-says_accepted settings version plus nonce ways.Anonymous response texts login completes is =
+says_accepted settings version plus nonce mechanisms.Anonymous response texts login completes is =
     let no = sym (ap (λ (l : ServerLogin). l.way) completes.1) ∙ is in absurd (cc)
-says_accepted settings version plus nonce ways.External response texts login completes is =
+says_accepted settings version plus nonce mechanisms.External response texts login completes is =
     let no = sym (ap (λ (l : ServerLogin). l.way) completes.1.1) ∙ is in absurd (cc)
-says_accepted settings version plus nonce ways.Plain response texts login completes is =
+says_accepted settings version plus nonce mechanisms.Plain response texts login completes is =
     let no = sym (ap (λ (l : ServerLogin). l.way) completes.2.2) ∙ is in absurd (cc)
-says_accepted settings version plus nonce (ways.Scram own bound) response texts login (messages, are, scram) is =
-    let one : ways.Scram own bound ≡ ways.Scram version plus = sym (ap (λ (l : ServerLogin). l.way) scram.made) ∙ is in
+says_accepted settings version plus nonce (mechanisms.Scram own bound) response texts login (messages, are, scram) is =
+    let one : mechanisms.Scram own bound ≡ mechanisms.Scram version plus = sym (ap (λ (l : ServerLogin). l.way) scram.made) ∙ is in
     let hash : own ≡ version = cc in
     let kind : bound ≡ plus = cc in
     let (accepted, of) = of_messages settings own bound nonce messages login scram in (
@@ -123,7 +124,7 @@ AcceptedLogin settings version plus events login =
     × (login.user ≡ Some accepted.challenge.client.user) × (login.acts_for ≡ accepted.challenge.client.header.acts_for)
 
 logged_accepts : (settings : ServerSettings) (version : ScramVersion) (plus : Bool) (events : List Given)
-    (login : ServerLogin) → CompletesLogin settings events login → login.way ≡ ways.Scram version plus
+    (login : ServerLogin) → CompletesLogin settings events login → login.way ≡ mechanisms.Scram version plus
     → AcceptedLogin settings version plus events login
 logged_accepts settings version plus events login logs is =
     let (way, (first, final, are, (accepted, of))) = says_accepted settings version plus logs.init.nonce logs.way logs.response
@@ -139,9 +140,9 @@ logged_accepts settings version plus events login logs is =
         final = final;
         rest = confirmation settings.extra.signature;
         all = logs.all;
-        begins = subst (λ (w : Way). SpellsBody logs.init.body (Ok (frames.Init (way_name w) logs.response logs.hostname)))
+        begins = subst (λ (w : Mechanism). SpellsBody logs.init.body (Ok (frames.Init (mechanism_symbol w) logs.response logs.hostname)))
             way logs.begins;
-        offered = subst (λ (w : Way). is_offered_by settings w ≡ true) way logs.offered;
+        offered = subst (λ (w : Mechanism). is_offered_by settings w ≡ true) way logs.offered;
         goes_on = logs.goes_on;
         messages = are;
         reads = of.reads;
@@ -306,12 +307,12 @@ some_final server text final reads empty =
 record ShowsLogin (settings : ServerSettings) (events : List Given) (login : ServerLogin) : Type 0 where
   init : Given
   later : List Given
-  way : Way
+  way : Mechanism
   response : Option (List ℕ)
   hostname : Option (List ℕ)
   texts : List (List ℕ)
   all : events ≡ init ∷ later
-  begins : SpellsBody init.body (Ok (frames.Init (way_name way) response hostname))
+  begins : SpellsBody init.body (Ok (frames.Init (mechanism_symbol way) response hostname))
   offered : is_offered_by settings way ≡ true
   goes_on : AreResponses later texts
   completes : MessagesLogIn settings way init.nonce response (texts ++ [] ∷ []) login
@@ -370,7 +371,7 @@ shows_of pieces limit settings (event ∷ second ∷ events) replies last login 
     }
 
 shown_accepts : (settings : ServerSettings) (version : ScramVersion) (plus : Bool) (events : List Given)
-    (login : ServerLogin) → ShowsLogin settings events login → login.way ≡ ways.Scram version plus
+    (login : ServerLogin) → ShowsLogin settings events login → login.way ≡ mechanisms.Scram version plus
     → AcceptedLogin settings version plus events login
 shown_accepts settings version plus events login shows is =
     let (way, (first, final, are, (accepted, of))) = says_accepted settings version plus shows.init.nonce shows.way
@@ -386,9 +387,9 @@ shown_accepts settings version plus events login shows is =
         final = final;
         rest = [];
         all = shows.all;
-        begins = subst (λ (w : Way). SpellsBody shows.init.body
-            (Ok (frames.Init (way_name w) shows.response shows.hostname))) way shows.begins;
-        offered = subst (λ (w : Way). is_offered_by settings w ≡ true) way shows.offered;
+        begins = subst (λ (w : Mechanism). SpellsBody shows.init.body
+            (Ok (frames.Init (mechanism_symbol w) shows.response shows.hostname))) way shows.begins;
+        offered = subst (λ (w : Mechanism). is_offered_by settings w ≡ true) way shows.offered;
         goes_on = shows.goes_on;
         messages = cut_messages settings.extra.initial_response settings.extra.signature shows.response shows.texts first
             final (some_final (server_at (scram_of settings version plus) accepted.challenge) final accepted.final of.meets)

@@ -21,12 +21,12 @@ use Rattle.fe2o3_sasl_core.specs.MockChoices.{MockChoice, count_of_unknown, mock
 use Rattle.fe2o3_sasl_core.specs.PlainServer.{TestsPassword, count_or, plain_hmacs}
 use Rattle.fe2o3_sasl_core.specs.SaslAcceptor.{ScramAcceptor}
 use Rattle.fe2o3_sasl_core.specs.Servers.{AsksForResponse, ClosesExchange, ConfirmsSignature, ExchangeOpen, InitAnswers, InitWhere, NotStarted, OpensScram, ResponseAnswers, ResponseAsked, ServerLogin, ServerSettings, ServerStage, SignatureShown, StageRejects, UserAuthenticated, asked_way, init_hmacs, init_where_hmacs, is_offered_by, plain_by_settings, provider_by, response_hmacs}
-use Rattle.fe2o3_sasl_core.specs.declared.server.ways.Way.{Way}
-use Rattle.fe2o3_sasl_core.specs.declared.server.ways.Way.TheVariants as ways
+use Rattle.fe2o3_sasl_core.specs.declared.mechanism.Mechanism.{Mechanism}
+use Rattle.fe2o3_sasl_core.specs.declared.mechanism.Mechanism.TheVariants as mechanisms
 use Rattle.fe2o3_sasl_core.proofs.lemmas.machines.RunCostLemmas.{server_runs_cost}
 use Rattle.connection_laws.specs.ServerHmacs.{HasCountsUpTo, login_most, look_up_most, plain_most}
 use Rattle.connection_laws.proofs.lemmas.RestLoginLemmas.{IsChallenged, not_outcome}
-use Rattle.connection_laws.proofs.lemmas.WayLemmas.{asked_offers}
+use Rattle.fe2o3_sasl_core.proofs.lemmas.machines.MechanismLemmas.{asked_offers}
 
 -- no more values than an answer takes
 abbrev pub AtMost : (ℕ → Type 0) → ℕ → ℕ → Type 0
@@ -106,9 +106,9 @@ module _ (settings : ServerSettings) (most : ℕ) (counts : HasCountsUpTo settin
   -- ---- from a stage on
 
   -- the most that a login by a mechanism takes
-  abbrev pub way_most : Way → ℕ
-  way_most (ways.Scram version plus) = look_up_most settings.mock + 2
-  way_most ways.Plain = most + 2
+  abbrev pub way_most : Mechanism → ℕ
+  way_most (mechanisms.Scram version plus) = look_up_most settings.mock + 2
+  way_most mechanisms.Plain = most + 2
   way_most way = 0
 
   -- the most that the responses take from a stage on
@@ -121,17 +121,17 @@ module _ (settings : ServerSettings) (most : ℕ) (counts : HasCountsUpTo settin
   nothing before after costs = let bound = costs.1 0 refl in omega (arith, bound)
 
   -- an init that is answered
-  init_ends : (way : Way) (response : Option (List ℕ)) (before after : ℕ)
+  init_ends : (way : Mechanism) (response : Option (List ℕ)) (before after : ℕ)
       → AtMost (init_hmacs settings way response) before after → after ≤ before + way_most way
-  init_ends ways.Anonymous response before after costs =
+  init_ends mechanisms.Anonymous response before after costs =
       let bound = nothing before after costs in omega (arith, bound)
-  init_ends ways.External response before after costs =
+  init_ends mechanisms.External response before after costs =
       let bound = nothing before after costs in omega (arith, bound)
-  init_ends ways.Plain None before after costs = let bound = nothing before after costs in omega (arith, bound)
-  init_ends ways.Plain (Some text) before after costs = password text before after costs
-  init_ends (ways.Scram version plus) None before after costs =
+  init_ends mechanisms.Plain None before after costs = let bound = nothing before after costs in omega (arith, bound)
+  init_ends mechanisms.Plain (Some text) before after costs = password text before after costs
+  init_ends (mechanisms.Scram version plus) None before after costs =
       let bound = nothing before after costs in omega (arith, bound)
-  init_ends (ways.Scram version plus) (Some text) before after costs =
+  init_ends (mechanisms.Scram version plus) (Some text) before after costs =
       let bound = look_up (provider_by settings version plus) text before after costs in
       let one = look_up_cost version settings.mock in
       omega (arith, bound, one)
@@ -143,34 +143,34 @@ module _ (settings : ServerSettings) (most : ℕ) (counts : HasCountsUpTo settin
   opens_to version plus kept next (Ok None) reply challenged is = not_outcome reply _ _ challenged is.0
   opens_to version plus kept next (Err fault) reply challenged is = not_outcome reply _ _ challenged is.0
 
-  asks_for : (asks : Bool) (way : Way) (kept next : ServerStage) (nonce : List ℕ) (reply : SaslFrame)
+  asks_for : (asks : Bool) (way : Mechanism) (kept next : ServerStage) (nonce : List ℕ) (reply : SaslFrame)
       → IsChallenged reply → AsksForResponse asks way kept nonce reply next → left_at next ≡ way_most way
   asks_for true way kept next nonce reply challenged is = ap left_at is.1
   asks_for false way kept next nonce reply challenged is = not_outcome reply _ _ challenged is.0
 
   -- an init that is answered by a challenge
-  init_waits : (way : Way) (kept next : ServerStage) (nonce : List ℕ) (response : Option (List ℕ)) (reply : SaslFrame)
+  init_waits : (way : Mechanism) (kept next : ServerStage) (nonce : List ℕ) (response : Option (List ℕ)) (reply : SaslFrame)
       (before after : ℕ) → IsChallenged reply → InitAnswers settings way kept nonce response reply next
       → AtMost (init_hmacs settings way response) before after → after + left_at next ≤ before + way_most way
-  init_waits ways.Anonymous kept next nonce response reply before after challenged is costs =
+  init_waits mechanisms.Anonymous kept next nonce response reply before after challenged is costs =
       not_outcome reply _ _ challenged is.0
-  init_waits ways.External kept next nonce response reply before after challenged (inl is) costs =
+  init_waits mechanisms.External kept next nonce response reply before after challenged (inl is) costs =
       not_outcome reply _ _ challenged is.1.0
-  init_waits ways.External kept next nonce response reply before after challenged (inr is) costs =
+  init_waits mechanisms.External kept next nonce response reply before after challenged (inr is) costs =
       not_outcome reply _ _ challenged is.1.0
-  init_waits ways.Plain kept next nonce None reply before after challenged is costs =
+  init_waits mechanisms.Plain kept next nonce None reply before after challenged is costs =
       let bound = nothing before after costs in
-      let left = asks_for settings.extra.initial_response ways.Plain kept next nonce reply challenged is in
+      let left = asks_for settings.extra.initial_response mechanisms.Plain kept next nonce reply challenged is in
       omega (arith, bound, left)
-  init_waits ways.Plain kept next nonce (Some text) reply before after challenged (inl is) costs =
+  init_waits mechanisms.Plain kept next nonce (Some text) reply before after challenged (inl is) costs =
       not_outcome reply _ _ challenged is.2.0
-  init_waits ways.Plain kept next nonce (Some text) reply before after challenged (inr is) costs =
+  init_waits mechanisms.Plain kept next nonce (Some text) reply before after challenged (inr is) costs =
       not_outcome reply _ _ challenged is.1.0
-  init_waits (ways.Scram version plus) kept next nonce None reply before after challenged is costs =
+  init_waits (mechanisms.Scram version plus) kept next nonce None reply before after challenged is costs =
       let bound = nothing before after costs in
-      let left = asks_for settings.extra.initial_response (ways.Scram version plus) kept next nonce reply challenged is in
+      let left = asks_for settings.extra.initial_response (mechanisms.Scram version plus) kept next nonce reply challenged is in
       omega (arith, bound, left)
-  init_waits (ways.Scram version plus) kept next nonce (Some text) reply before after challenged (answer, begins, opens)
+  init_waits (mechanisms.Scram version plus) kept next nonce (Some text) reply before after challenged (answer, begins, opens)
       costs =
       let bound = look_up (provider_by settings version plus) text before after costs in
       let one = look_up_cost version settings.mock in
@@ -178,17 +178,17 @@ module _ (settings : ServerSettings) (most : ℕ) (counts : HasCountsUpTo settin
       omega (arith, bound, one, left)
 
   -- a mechanism that is offered takes no more than a login
-  offered_most : (way : Way) → is_offered_by settings way ≡ true → way_most way ≤ login_most settings most
-  offered_most (ways.Scram version plus) offered =
-      le-max_left (look_up_most settings.mock + 2) (plain_most (is_offered_by settings ways.Plain) most)
-  offered_most ways.Plain offered =
-      let least = le-max_right (look_up_most settings.mock + 2) (plain_most (is_offered_by settings ways.Plain) most) in
+  offered_most : (way : Mechanism) → is_offered_by settings way ≡ true → way_most way ≤ login_most settings most
+  offered_most (mechanisms.Scram version plus) offered =
+      le-max_left (look_up_most settings.mock + 2) (plain_most (is_offered_by settings mechanisms.Plain) most)
+  offered_most mechanisms.Plain offered =
+      let least = le-max_right (look_up_most settings.mock + 2) (plain_most (is_offered_by settings mechanisms.Plain) most) in
       let is = ap (λ (b : Bool). plain_most b most) offered in
       omega (arith, least, is)
-  offered_most ways.Anonymous offered = omega arith
-  offered_most ways.External offered = omega arith
+  offered_most mechanisms.Anonymous offered = omega arith
+  offered_most mechanisms.External offered = omega arith
 
-  found_ends : (name : List ℕ) (found : Option Way) (response : Option (List ℕ)) (before after : ℕ)
+  found_ends : (name : List ℕ) (found : Option Mechanism) (response : Option (List ℕ)) (before after : ℕ)
       → asked_way settings name ≡ found
       → AtMost (λ n. MatchOption found (n ≡ 0) (λ way. init_hmacs settings way response n)) before after
       → after ≤ before + login_most settings most
@@ -206,7 +206,7 @@ module _ (settings : ServerSettings) (most : ℕ) (counts : HasCountsUpTo settin
   where_ends false name response before after costs =
       found_ends name (asked_way settings name) response before after refl costs
 
-  found_waits : (name : List ℕ) (found : Option Way) (stage next : ServerStage) (nonce : List ℕ)
+  found_waits : (name : List ℕ) (found : Option Mechanism) (stage next : ServerStage) (nonce : List ℕ)
       (response : Option (List ℕ)) (reply : SaslFrame) (before after : ℕ) → IsChallenged reply
       → asked_way settings name ≡ found
       → MatchOption found (StageRejects stage reply next)

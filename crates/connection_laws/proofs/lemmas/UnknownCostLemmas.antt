@@ -15,8 +15,8 @@ use Rattle.fe2o3_sasl_core.specs.MockChoices.{MockChoice, count_of_unknown, mock
 use Rattle.fe2o3_sasl_core.specs.PlainServer.{TestsPassword, count_or, plain_hmacs}
 use Rattle.fe2o3_sasl_core.specs.SaslAcceptor.{ScramAcceptor}
 use Rattle.fe2o3_sasl_core.specs.Servers.{ExchangeOpen, NotStarted, ResponseAsked, ServerLogin, ServerSettings, ServerStage, SignatureShown, UserAuthenticated, asked_way, init_hmacs, init_where_hmacs, is_response_asked, plain_by_settings, response_hmacs, sasl_hmacs}
-use Rattle.fe2o3_sasl_core.specs.declared.server.ways.Way.{Way}
-use Rattle.fe2o3_sasl_core.specs.declared.server.ways.Way.TheVariants as ways
+use Rattle.fe2o3_sasl_core.specs.declared.mechanism.Mechanism.{Mechanism}
+use Rattle.fe2o3_sasl_core.specs.declared.mechanism.Mechanism.TheVariants as mechanisms
 use Rattle.connection_laws.specs.ConnectionLogins.{MessagesLogIn}
 use Rattle.connection_laws.specs.UnknownNames.{PlainUsersHaveRecords, UnknownNamesCostAlike, mock_known}
 use Rattle.connection_laws.proofs.lemmas.ConnectionLoginLemmas.{of_login}
@@ -32,17 +32,17 @@ OnePlainCost settings records n = (text : List ℕ) → plain_hmacs (plain_by_se
 
 module _ (settings : ServerSettings) (records : MultiRecords) (one : OneProvider settings records) (n : ℕ)
     (plain : OnePlainCost settings records n) where
-  init_cost : (way : Way) (response : Option (List ℕ)) → init_hmacs settings way response n
+  init_cost : (way : Mechanism) (response : Option (List ℕ)) → init_hmacs settings way response n
       → init_hmacs (over records settings) way response n
-  init_cost (ways.Scram version plus) (Some text) is = subst (λ (p : Provider). acceptor_hmacs (ScramAcceptor p Initial)
+  init_cost (mechanisms.Scram version plus) (Some text) is = subst (λ (p : Provider). acceptor_hmacs (ScramAcceptor p Initial)
       (frames.Init (server_mechanism p.version p.rules) (Some text) None) n) (one version plus) is
-  init_cost (ways.Scram version plus) None is = is
-  init_cost ways.Plain (Some text) is = plain text is
-  init_cost ways.Plain None is = is
-  init_cost ways.Anonymous response is = is
-  init_cost ways.External response is = is
+  init_cost (mechanisms.Scram version plus) None is = is
+  init_cost mechanisms.Plain (Some text) is = plain text is
+  init_cost mechanisms.Plain None is = is
+  init_cost mechanisms.Anonymous response is = is
+  init_cost mechanisms.External response is = is
 
-  found_cost : (found : Option Way) (response : Option (List ℕ))
+  found_cost : (found : Option Mechanism) (response : Option (List ℕ))
       → MatchOption found (n ≡ 0) (λ way. init_hmacs settings way response n)
       → MatchOption found (n ≡ 0) (λ way. init_hmacs (over records settings) way response n)
   found_cost None response is = is
@@ -141,16 +141,16 @@ abbrev HasRecord : ServerSettings → ServerLogin → Type 0
 HasRecord settings login = (user : List ℕ) × (stored : Record) × (login.user ≡ Some user)
     × (record_at (provider_for settings.plain_version settings.records).records user ≡ Some stored)
 
-plain_record : (settings : ServerSettings) (nonce : List ℕ) (way : Way) (response : Option (List ℕ))
+plain_record : (settings : ServerSettings) (nonce : List ℕ) (way : Mechanism) (response : Option (List ℕ))
     (texts : List (List ℕ)) (login : ServerLogin) → MessagesLogIn settings way nonce response texts login
-    → login.way ≡ ways.Plain → HasRecord settings login
-plain_record settings nonce ways.Anonymous response texts login completes is =
+    → login.way ≡ mechanisms.Plain → HasRecord settings login
+plain_record settings nonce mechanisms.Anonymous response texts login completes is =
     let no = sym (ap (λ (l : ServerLogin). l.way) completes.1) ∙ is in absurd (cc)
-plain_record settings nonce ways.External response texts login completes is =
+plain_record settings nonce mechanisms.External response texts login completes is =
     let no = sym (ap (λ (l : ServerLogin). l.way) completes.1.1) ∙ is in absurd (cc)
-plain_record settings nonce (ways.Scram version plus) response texts login (messages, are, scram) is =
+plain_record settings nonce (mechanisms.Scram version plus) response texts login (messages, are, scram) is =
     let no = sym (ap (λ (l : ServerLogin). l.way) scram.made) ∙ is in absurd (cc)
-plain_record settings nonce ways.Plain response texts login (text, are, (parts, lets_in, made)) is =
+plain_record settings nonce mechanisms.Plain response texts login (text, are, (parts, lets_in, made)) is =
     let (password, tested, (stored, found, meets)) = lets_in.2.0 in
     (parts.user, stored, ap (λ (l : ServerLogin). l.user) made, found)
 

@@ -15,13 +15,13 @@ use Rattle.fe2o3_sasl_core.specs.MockChoices.{MockChoice}
 use Rattle.fe2o3_sasl_core.specs.PlainServer.{PlainParts}
 use Rattle.fe2o3_sasl_core.specs.Runs.{AcceptorAnswers, AcceptorSteps, Runs, SendsCanonical}
 use Rattle.fe2o3_sasl_core.specs.Servers.{ExchangeOpen, InitAnswers, InitWhere, MessageLetsIn, NotStarted, ResponseAnswers, ResponseAsked, ServerAt, ServerSettings, ServerStage, SignatureShown, StageRejects, UserAuthenticated, asked_way, is_response_asked, provider_by, sasl_machine}
-use Rattle.fe2o3_sasl_core.specs.declared.server.ways.Way.{Way}
-use Rattle.fe2o3_sasl_core.specs.declared.server.ways.Way.TheVariants as ways
+use Rattle.fe2o3_sasl_core.specs.declared.mechanism.Mechanism.{Mechanism}
+use Rattle.fe2o3_sasl_core.specs.declared.mechanism.Mechanism.TheVariants as mechanisms
 use Rattle.fe2o3_sasl_negotiation.specs.Negotiations.{Side}
 use Rattle.connection_laws.specs.Servers.{NegotiatesAs, ServerBy, side_with}
 use Rattle.connection_laws.specs.UnknownNames.{CarriesMock, KnownNamesSeemUnknown, NoneCarriesMock, UnknownNamesSeemKnown, mock_known, server_over}
 use Rattle.connection_laws.proofs.lemmas.UnknownRecordLemmas.{one_message_lets_in, one_provider}
-use Rattle.connection_laws.proofs.lemmas.WayLemmas.{asked_offers}
+use Rattle.fe2o3_sasl_core.proofs.lemmas.machines.MechanismLemmas.{asked_offers}
 
 -- the settings with other records
 abbrev pub over : MultiRecords → ServerSettings → ServerSettings
@@ -47,25 +47,25 @@ AlikeBy settings records frame = Unit {0}
 -- ---- a step
 
 module _ (settings : ServerSettings) (records : MultiRecords) (one : OneProvider settings records) where
-  init_over : (way : Way) (kept next : ServerStage) (nonce : List ℕ) (response : Option (List ℕ)) (reply : SaslFrame)
-      → (way ≡ ways.Plain → (text : List ℕ) → response ≡ Some text → AlikeIn settings records text)
+  init_over : (way : Mechanism) (kept next : ServerStage) (nonce : List ℕ) (response : Option (List ℕ)) (reply : SaslFrame)
+      → (way ≡ mechanisms.Plain → (text : List ℕ) → response ≡ Some text → AlikeIn settings records text)
       → InitAnswers settings way kept nonce response reply next
       → InitAnswers (over records settings) way kept nonce response reply next
-  init_over ways.Anonymous kept next nonce response reply plain is = is
-  init_over ways.External kept next nonce response reply plain is = is
-  init_over ways.Plain kept next nonce None reply plain is = is
-  init_over ways.Plain kept next nonce (Some text) reply plain (inl (parts, lets_in, accepts)) =
+  init_over mechanisms.Anonymous kept next nonce response reply plain is = is
+  init_over mechanisms.External kept next nonce response reply plain is = is
+  init_over mechanisms.Plain kept next nonce None reply plain is = is
+  init_over mechanisms.Plain kept next nonce (Some text) reply plain (inl (parts, lets_in, accepts)) =
       inl (parts, (plain refl text refl parts).0 lets_in, accepts)
-  init_over ways.Plain kept next nonce (Some text) reply plain (inr (none, rejects)) =
+  init_over mechanisms.Plain kept next nonce (Some text) reply plain (inr (none, rejects)) =
       inr ((λ parts lets_in. none parts ((plain refl text refl parts).1 lets_in)), rejects)
-  init_over (ways.Scram version plus) kept next nonce None reply plain is = is
-  init_over (ways.Scram version plus) kept next nonce (Some text) reply plain (answer, begins, opens) = (
+  init_over (mechanisms.Scram version plus) kept next nonce None reply plain is = is
+  init_over (mechanisms.Scram version plus) kept next nonce (Some text) reply plain (answer, begins, opens) = (
     answer,
     subst (λ (p : Provider). BeginsExchange p nonce text answer) (one version plus) begins,
     opens,
   )
 
-  found_over : (name : List ℕ) (found : Option Way) (stage next : ServerStage) (nonce : List ℕ)
+  found_over : (name : List ℕ) (found : Option Mechanism) (stage next : ServerStage) (nonce : List ℕ)
       (response : Option (List ℕ)) (reply : SaslFrame) → asked_way settings name ≡ found
       → ((text : List ℕ) → name ≡ codes "PLAIN" → response ≡ Some text → AlikeIn settings records text)
       → MatchOption found (StageRejects stage reply next)
@@ -76,8 +76,8 @@ module _ (settings : ServerSettings) (records : MultiRecords) (one : OneProvider
   found_over name (Some way) stage next nonce response reply asked plain is =
       init_over way stage next nonce response reply (λ by text said. plain text (plain_name by) said) is
     where
-      plain_name : way ≡ ways.Plain → name ≡ codes "PLAIN"
-      plain_name by = (asked_offers settings name ways.Plain (asked ∙ ap Some by)).0
+      plain_name : way ≡ mechanisms.Plain → name ≡ codes "PLAIN"
+      plain_name by = (asked_offers settings name mechanisms.Plain (asked ∙ ap Some by)).0
 
   where_over : (asked : Bool) (name : List ℕ) (stage next : ServerStage) (nonce : List ℕ)
       (response : Option (List ℕ)) (reply : SaslFrame)

@@ -5,6 +5,7 @@ pub mod InitCostLemmas
 pub mod MemoryLemmas
 pub mod OneReplyLemmas
 pub mod ServerMachineLemmas
+pub mod MechanismLemmas
 pub mod PlainMessageLemmas
 pub mod PlainServerLemmas
 pub mod ZeroPartLemmas

@@ -9,15 +9,13 @@ ghost use Rattle.fe2o3_sasl_core.specs.declared.sasl_profile.selection.ChoiceErr
 
 use super::SaslProfile;
 use crate::OutOfMemory;
-use crate::client_policy::{
-    BY_STRENGTH, ClientPolicy, Mechanism, bound_channel, first_taken, secret_for, unbound_channel,
-};
+use crate::client_policy::{BY_STRENGTH, ClientPolicy, first_taken, scram_options, secret_for};
+use crate::mechanism::Mechanism;
 use crate::offer::Offer;
 use fe2o3_scram::ClientOptions;
 use fe2o3_scram::client_secret::{ClientSecret, ClientSecretError};
 use fe2o3_scram::hmac::ScramVersion;
 use fe2o3_scram::scram_client::ScramClient;
-use fe2o3_scram::scram_messages::ClientChannel;
 use std::alloc::{AllocError, AllocFailed, Global};
 use thiserror::Error;
 
@@ -49,31 +47,23 @@ impl<T: Drop> From<AllocFailed<T>> for ChoiceError {
     }
 }
 
-/// Returns the user's profile for SCRAM of this version, if the secret serves for it.
+/// Returns the user's profile for SCRAM of this version with these options, if the secret serves for it.
 fn scram_profile(
     alloc: Global,
     username: &str,
     secret: &ClientSecret<'_>,
     version: ScramVersion,
-    policy: ClientPolicy,
-    channel: ClientChannel,
+    options: ClientOptions,
 ) -> Result<Option<SaslProfile>, OutOfMemory>
     ensures { IfOk result (λ profile. option_map profile_of profile
-        ≡ scram_by policy channel username.now version (secret_for version (secret_of secret.now))) }
+        ≡ scram_by options username.now version (secret_for version (secret_of secret.now))) }
 {
     let Some(secret) = secret_for(secret, version) else {
         return Ok(None);
     };
     let username = String::from_str(alloc, username)?;
     match ScramClient::with_secret(alloc, username, secret, version) {
-        Ok(client) => {
-            let options = ClientOptions {
-                limits: policy.limits,
-                channel,
-                ..ClientOptions::new()
-            };
-            Ok(Some(SaslProfile::scram_of(client.with_options(options))))
-        }
+        Ok(client) => Ok(Some(SaslProfile::scram_of(client.with_options(options)))),
         Err(ClientSecretError::OutOfMemory) => Err(OutOfMemory),
         Err(ClientSecretError::VersionMismatch) => unreachable!(),
     }
@@ -110,42 +100,10 @@ fn profile_by_mechanism(
     ensures { IfOk result (λ profile. option_map profile_of profile
         ≡ profile_by policy username.now (secret_of secret.now) mechanism) }
 {
-    let (bound, unbound) = (
-        bound_channel(policy.channel),
-        unbound_channel(policy.channel),
-    );
     match mechanism {
-        Mechanism::ScramSha512Plus => {
-            scram_profile(alloc, username, secret, ScramVersion::Sha512, policy, bound)
-        }
-        Mechanism::ScramSha256Plus => {
-            scram_profile(alloc, username, secret, ScramVersion::Sha256, policy, bound)
-        }
-        Mechanism::ScramSha1Plus => {
-            scram_profile(alloc, username, secret, ScramVersion::Sha1, policy, bound)
-        }
-        Mechanism::ScramSha512 => {
-            scram_profile(
-                alloc,
-                username,
-                secret,
-                ScramVersion::Sha512,
-                policy,
-                unbound,
-            )
-        }
-        Mechanism::ScramSha256 => {
-            scram_profile(
-                alloc,
-                username,
-                secret,
-                ScramVersion::Sha256,
-                policy,
-                unbound,
-            )
-        }
-        Mechanism::ScramSha1 => {
-            scram_profile(alloc, username, secret, ScramVersion::Sha1, policy, unbound)
+        Mechanism::Scram(version, plus) => {
+            let options = scram_options(policy, plus);
+            scram_profile(alloc, username, secret, version, options)
         }
         Mechanism::External => Ok(Some(SaslProfile::External)),
         Mechanism::Plain => plain_profile(alloc, username, secret),

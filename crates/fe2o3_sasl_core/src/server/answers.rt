@@ -9,13 +9,14 @@ ghost use Rattle.fe2o3_scram.specs.ScramServer.{lent_mock};
 ghost use Rattle.fe2o3_sasl_core.specs.ExternalServer.{AsksFor};
 ghost use Rattle.fe2o3_sasl_core.specs.SaslAcceptor.{HasReason, ends_with, reason_in, sent_frame};
 ghost use Rattle.fe2o3_sasl_core.specs.MockChoices.{count_of_unknown, mock_for};
-ghost use Rattle.fe2o3_sasl_core.specs.Servers.{AsksForResponse, ExchangeOpen, FinalRejects, InitAllocates, InitAnswers, InitRejects, ServerLogin, ResponseAllocates, ResponseAnswers, ResponseRejects, InitWhere, InitWhereRejects, ServerStage, UserAuthenticated, ConfirmsSignature, asked_way, init_hmacs, init_where_hmacs, is_asked_by, is_named, is_response_asked, server_login, is_offered_by, plain_by_settings, response_hmacs, rules_by, settings_in, stage_of};
+ghost use Rattle.fe2o3_sasl_core.specs.Servers.{AsksForResponse, ExchangeOpen, FinalRejects, InitAllocates, InitAnswers, InitRejects, ServerLogin, ResponseAllocates, ResponseAnswers, ResponseRejects, InitWhere, InitWhereRejects, ServerStage, UserAuthenticated, ConfirmsSignature, asked_way, init_hmacs, init_where_hmacs, is_named, is_response_asked, server_login, is_offered_by, plain_by_settings, response_hmacs, rules_by, settings_in, stage_of};
 ghost use Rattle.fe2o3_sasl_core.specs.declared.rejection.Rejection.TheVariants.{NoInitialResponse};
-ghost use Rattle.fe2o3_sasl_core.specs.declared.server.ways.Way.TheVariants.{Scram as ScramWay, Plain as PlainWay, Anonymous as AnonymousWay, External as ExternalWay};
+ghost use Rattle.fe2o3_sasl_core.specs.declared.mechanism.Mechanism.TheVariants.{Scram as ScramWay, Plain as PlainWay, Anonymous as AnonymousWay, External as ExternalWay};
 ghost use Rattle.fe2o3_sasl_core.specs.private.ServerMoves.{TakesAtMost, TakesExactly, after};
 
 use crate::OutOfMemory;
 use crate::login_attempts::copied;
+use crate::mechanism::Mechanism;
 use crate::plain_server::{PlainMessage, PlainTest};
 use crate::rejection::Rejection;
 use crate::sasl_acceptor::{SaslServerFrame, outcome};
@@ -23,7 +24,6 @@ use crate::scram_acceptor::{reason_of_first, refusal};
 use crate::server::Server;
 use crate::server::reasons::{reason_of_final, reason_of_unread};
 use crate::server::stage::{LoginOf, Move, Stage};
-use crate::server::ways::Way;
 use fe2o3_sasl_wire::{Binary, SaslChallenge, SaslCode, SaslOutcome};
 use fe2o3_scram::credentials::RecordStore;
 use fe2o3_scram::hmac::{Meter, ScramVersion};
@@ -35,59 +35,31 @@ const DEFAULT_PLAIN_ITERATIONS: u32 = 4096;
 
 impl Server<'_> {
     /// Returns whether the server offers this mechanism.
-    pub(crate) fn offers(&self, way: Way) -> bool
+    pub(crate) fn offers(&self, way: Mechanism) -> bool
         ensures { result ≡ is_offered_by (settings_in self.now) way }
     {
         let mechanisms = self.options.mechanisms;
         match way {
-            Way::Scram(version, plus) => {
+            Mechanism::Scram(version, plus) => {
                 mechanisms.has_hash(version) && (!plus || self.transport.channels.is_some())
             }
-            Way::Plain => mechanisms.plain && self.transport.is_tls,
-            Way::Anonymous => mechanisms.anonymous,
-            Way::External => mechanisms.external && is_named(self.transport.external),
+            Mechanism::Plain => mechanisms.plain && self.transport.is_tls,
+            Mechanism::Anonymous => mechanisms.anonymous,
+            Mechanism::External => mechanisms.external && is_named(self.transport.external),
         }
-    }
-
-    /// Returns whether this name asks for a mechanism, which is offered.
-    fn is_asked_by(&self, name: &str, way: Way) -> bool
-        ensures { result ≡ is_asked_by (settings_in self.now) name.now way }
-    {
-        self.offers(way) && name == way.name()
     }
 
     /// Returns the mechanism that this name asks for, if it is offered.
-    pub(crate) fn asked(&self, name: &str) -> Option<Way>
+    #[tactic(auto, using(crate::proofs::lemmas::machines::MechanismLemmas::asked))]
+    pub(crate) fn asked(&self, name: &str) -> Option<Mechanism>
         ensures { result ≡ asked_way (settings_in self.now) name.now }
     {
-        if self.is_asked_by(name, Way::Scram(ScramVersion::Sha512, true)) {
-            return Some(Way::Scram(ScramVersion::Sha512, true));
+        let mechanism = Mechanism::of_name(name)?;
+        if self.offers(mechanism) {
+            Some(mechanism)
+        } else {
+            None
         }
-        if self.is_asked_by(name, Way::Scram(ScramVersion::Sha256, true)) {
-            return Some(Way::Scram(ScramVersion::Sha256, true));
-        }
-        if self.is_asked_by(name, Way::Scram(ScramVersion::Sha1, true)) {
-            return Some(Way::Scram(ScramVersion::Sha1, true));
-        }
-        if self.is_asked_by(name, Way::Scram(ScramVersion::Sha512, false)) {
-            return Some(Way::Scram(ScramVersion::Sha512, false));
-        }
-        if self.is_asked_by(name, Way::Scram(ScramVersion::Sha256, false)) {
-            return Some(Way::Scram(ScramVersion::Sha256, false));
-        }
-        if self.is_asked_by(name, Way::Scram(ScramVersion::Sha1, false)) {
-            return Some(Way::Scram(ScramVersion::Sha1, false));
-        }
-        if self.is_asked_by(name, Way::Plain) {
-            return Some(Way::Plain);
-        }
-        if self.is_asked_by(name, Way::Anonymous) {
-            return Some(Way::Anonymous);
-        }
-        if self.is_asked_by(name, Way::External) {
-            return Some(Way::External);
-        }
-        None
     }
 
     /// Returns what SCRAM accepts in a client's messages, with `-PLUS` or without it.
@@ -230,7 +202,7 @@ impl Server<'_> {
         };
         if test.lets_in(alloc, &message, meter)? {
             let login = LoginOf {
-                way: Way::Plain,
+                way: Mechanism::Plain,
                 user: Some(message.username.to_string(alloc)?),
                 acts_for: copied(alloc, message.asked_identity())?,
             };
@@ -262,7 +234,7 @@ impl Server<'_> {
             ));
         }
         let login = LoginOf {
-            way: Way::External,
+            way: Mechanism::External,
             user: Some(self.transport.external.to_string(alloc)?),
             acts_for: None,
         };
@@ -270,7 +242,12 @@ impl Server<'_> {
     }
 
     /// Asks an init of this mechanism for its initial response, or rejects it.
-    fn answer_none(&self, alloc: Global, way: Way, nonce: &[u8; 32]) -> (SaslServerFrame, Move)
+    fn answer_none(
+        &self,
+        alloc: Global,
+        way: Mechanism,
+        nonce: &[u8; 32],
+    ) -> (SaslServerFrame, Move)
         ensures ok { (kept : ServerStage) → AsksForResponse (settings_in self.now).extra.initial_response way kept
             nonce.now (sent_frame result.0) (after kept result.1) }
         ensures reason { HasReason (λ reason. reason ≡ NoInitialResponse) result.0 }
@@ -290,7 +267,7 @@ impl Server<'_> {
     fn answer_way(
         &self,
         alloc: Global,
-        way: Way,
+        way: Mechanism,
         response: Option<&[u8]>,
         nonce: &[u8; 32],
         meter: &mut Meter,
@@ -306,18 +283,18 @@ impl Server<'_> {
             meter.old meter.new) }
     {
         match (way, response) {
-            (Way::Anonymous, _) => {
+            (Mechanism::Anonymous, _) => {
                 let login = LoginOf {
-                    way: Way::Anonymous,
+                    way: Mechanism::Anonymous,
                     user: None,
                     acts_for: None,
                 };
                 Ok((accepted(), Move::To(Stage::Authenticated(login))))
             }
-            (Way::External, response) => self.answer_external(alloc, response),
+            (Mechanism::External, response) => self.answer_external(alloc, response),
             (way, None) => Ok(self.answer_none(alloc, way, nonce)),
-            (Way::Plain, Some(text)) => self.answer_plain(alloc, text, meter),
-            (Way::Scram(version, plus), Some(text)) => {
+            (Mechanism::Plain, Some(text)) => self.answer_plain(alloc, text, meter),
+            (Mechanism::Scram(version, plus), Some(text)) => {
                 self.answer_scram(alloc, version, plus, text, nonce, meter)
             }
         }

@@ -13,12 +13,11 @@ ghost use Rattle.fe2o3_sasl_core.specs.MockChoices.{mock_for};
 ghost use Rattle.fe2o3_sasl_core.specs.Servers.{rejection_of_server, sasl_server, server_login, settings_in, settings_with, stage_of};
 
 use crate::OutOfMemory;
-use crate::client_policy::Mechanism;
 use crate::login_attempts::{LoginAttempt, copied};
+use crate::mechanism::Mechanism;
 use crate::server::Server;
 use crate::server::options::{ServerOptions, Transport};
 use crate::server::stage::{LoginOf, Stage};
-use crate::server::ways::Way;
 use fe2o3_scram::credentials::RecordStore;
 use fe2o3_scram::hmac::{Meter, ScramVersion};
 use fe2o3_scram::provider::ScramCredentialProvider;
@@ -103,7 +102,7 @@ impl SavedLogin<'_> {
         ensures { IfOk result (λ login. server_login login ≡ saved_login self.now) }
     {
         Ok(LoginOf {
-            way: Way::of(self.mechanism),
+            way: self.mechanism,
             user: copied(alloc, self.user)?,
             acts_for: copied(alloc, self.acts_for)?,
         })
@@ -112,12 +111,11 @@ impl SavedLogin<'_> {
 
 impl LoginOf {
     /// Returns who has logged in, to save.
-    #[tactic(auto, using(crate::proofs::lemmas::machines::SavedServerLemmas::way_back))]
     fn saved(&self) -> SavedLogin<'_>
         ensures { saved_login result ≡ server_login self.now }
     {
         SavedLogin {
-            mechanism: self.way.mechanism(),
+            mechanism: self.way,
             user: self.user.as_deref(),
             acts_for: self.acts_for.as_deref(),
         }
@@ -126,14 +124,13 @@ impl LoginOf {
 
 impl<'a> Server<'a> {
     /// Returns how far the login has come, to save between two calls. Save what [`Server::last_attempt`] returns beside it.
-    #[tactic(auto, using(crate::proofs::lemmas::machines::SavedServerLemmas::way_back))]
     pub fn saved(&self) -> SavedStage<'_>
         ensures { saved_stage result ≡ kept_stage (sasl_server self.now).stage }
     {
         match &self.stage {
             Stage::Start => SavedStage::NotStarted,
             Stage::Asked { way, nonce } => SavedStage::ResponseAsked {
-                mechanism: way.mechanism(),
+                mechanism: *way,
                 nonce: *nonce,
             },
             Stage::Open {
@@ -208,7 +205,7 @@ impl<'a> Server<'a> {
         match saved {
             SavedStage::NotStarted => Ok(Stage::Start),
             SavedStage::ResponseAsked { mechanism, nonce } => {
-                Ok(self.restored_init(Way::of(*mechanism), *nonce))
+                Ok(self.restored_init(*mechanism, *nonce))
             }
             SavedStage::ChallengeOpen { version, challenge } => {
                 self.restored_exchange(alloc, *version, challenge, meter)
@@ -219,7 +216,7 @@ impl<'a> Server<'a> {
     }
 
     /// Returns the stage in which an init of this mechanism, with this nonce, was asked for its initial response.
-    fn restored_init(&self, way: Way, nonce: [u8; 32]) -> Stage
+    fn restored_init(&self, way: Mechanism, nonce: [u8; 32]) -> Stage
         ensures { stage_of result ≡ restored_stage (settings_in self.now) (KeptAsked way nonce) }
     {
         if self.offers(way) {
@@ -244,7 +241,7 @@ impl<'a> Server<'a> {
             + restored_hmacs (settings_in self.now) (KeptOpen version (challenge_kept challenge.now)) }
     {
         let plus = challenge.header.is_required();
-        if !self.offers(Way::Scram(version, plus)) {
+        if !self.offers(Mechanism::Scram(version, plus)) {
             return Ok(Stage::Start);
         }
         let mock = self.mock_record(alloc, version, challenge.username, meter)?;

@@ -4,7 +4,7 @@ ghost use Rattle.std.specs.Prelude.{◌≡◌, Some, IfOk, option_map, string_by
 ghost use Rattle.fe2o3_sasl_core.specs.Servers.{exchange_login, server_login, stage_of};
 ghost use Rattle.fe2o3_sasl_core.specs.private.ServerMoves.{after, authenticated, restarted, signed};
 
-use crate::server::ways::Way;
+use crate::mechanism::Mechanism;
 use fe2o3_scram::ServerExchange;
 use fe2o3_scram::hmac::ScramVersion;
 use std::alloc::AllocError;
@@ -12,7 +12,7 @@ use std::alloc::AllocError;
 /// Who has logged in: by this mechanism, as this user, or as nobody by ANONYMOUS, for this identity, or for itself.
 #[derive(Drop)]
 pub(crate) struct LoginOf {
-    pub(crate) way: Way,
+    pub(crate) way: Mechanism,
     pub(crate) user: Option<String>,
     pub(crate) acts_for: Option<String>,
 }
@@ -37,7 +37,7 @@ pub(crate) enum Stage {
 
     /// An init without an initial response was answered by an empty challenge.
     Asked {
-        way: Way,
+        way: Mechanism,
         nonce: [u8; 32],
     },
 
@@ -157,7 +157,7 @@ fn login_by(version: ScramVersion, plus: bool, exchange: ServerExchange) -> Logi
 {
     let (user, acts_for) = exchange.into_names();
     LoginOf {
-        way: Way::Scram(version, plus),
+        way: Mechanism::Scram(version, plus),
         user: Some(user),
         acts_for,
     }

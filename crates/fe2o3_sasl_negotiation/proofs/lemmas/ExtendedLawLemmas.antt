@@ -1,9 +1,8 @@
 -- A side that accepts extended headers does what another does over the stream without them.
-use Rattle.std.proofs.Common.{◌≡◌, ◌≢◌, ◌⊎◌, ℕ, zero, ◌+◌, ◌-◌, ◌<◌, ◌≤◌, Bool, true, List, [], ◌∷◌, ◌++◌, length, take, drop, min, refl, sym, ap, ◌∙◌, subst, inl, inr, append_assoc, arith, length-append}
-use Rattle.std.proofs.lemmas.List.{append-nil, length-take, length-take-le, take-take, take_all, take_at, take-append-drop, take-append-le, drop_at, drop_min}
+use Rattle.std.proofs.Common.{◌≡◌, ◌≢◌, ℕ, ◌-◌, ◌≤◌, true, List, [], ◌∷◌, ◌++◌, length, take, drop, refl, sym, ap, ◌∙◌, subst, inl, inr, append_assoc, arith}
+use Rattle.std.proofs.lemmas.List.{append-nil, length-take, length-take-le, take_all, take_at, take-append-drop, take-append-le, drop_at, drop_min}
 use Rattle.fe2o3_sasl_wire.specs.SaslFrames.{IsBytes}
 use Rattle.fe2o3_sasl_wire.proofs.lemmas.reading.StepLemmas.{IsBytes-take, IsBytes-drop}
-use Rattle.fe2o3_sasl_negotiation.specs.declared.progress.CloseReason.{CloseReason}
 use Rattle.fe2o3_sasl_negotiation.specs.declared.progress.CloseReason.TheVariants.{FrameSize}
 use Rattle.fe2o3_sasl_negotiation.specs.declared.progress.Expected.{Expected}
 use Rattle.fe2o3_sasl_negotiation.specs.declared.progress.Expected.TheVariants.{Header, Frame}
@@ -11,7 +10,7 @@ use Rattle.fe2o3_sasl_negotiation.specs.declared.progress.Progress.{Progress}
 use Rattle.fe2o3_sasl_negotiation.specs.declared.progress.Progress.TheVariants.{InProgress, Authenticated, Failed}
 use Rattle.fe2o3_sasl_negotiation.specs.Connections.{fresh}
 use Rattle.fe2o3_sasl_negotiation.specs.ExtendedHeaders.{IsReadAs, AreReadAs, stream_of, HaveNonces, AreUnanswered, ExtendedHeadersAreIgnored}
-use Rattle.fe2o3_sasl_negotiation.specs.Framing.{framed, size_of, unextended, unit_read, unit_size, IsPart, IsRefused, IsWhole}
+use Rattle.fe2o3_sasl_negotiation.specs.Framing.{size_of, unit_read, unit_size, IsPart, IsRefused, IsWhole}
 use Rattle.fe2o3_sasl_negotiation.specs.Laws.{Call, Calls}
 use Rattle.fe2o3_sasl_negotiation.specs.Negotiations.{Side, SideOutput, closes, Ends, Reading, Rests, Receives, ReceivesAt, Waits}
 use Rattle.fe2o3_sasl_negotiation.proofs.lemmas.CutLemmas.{nothing_is_part, refused_stays, refused_long, whole_long, whole_unit_size}

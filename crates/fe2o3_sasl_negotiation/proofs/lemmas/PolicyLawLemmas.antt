@@ -7,7 +7,7 @@ use Rattle.fe2o3_sasl_wire.specs.declared.sasl_frames.error.Error.TheVariants.{T
 use Rattle.fe2o3_sasl_core.specs.Bodies.{SpellsBody, carried}
 use Rattle.fe2o3_sasl_core.specs.Events.{ClientSays, Given, Refused, Started}
 use Rattle.fe2o3_sasl_core.specs.ProfileMachine.{IsSelected, NoneIsSelected}
-use Rattle.fe2o3_sasl_core.specs.Profiles.{PolicyProfile, Profile, Selection, accepts_signature_by_challenge, after_init}
+use Rattle.fe2o3_sasl_core.specs.Profiles.{PolicyProfile, Profile, Selection, after_init}
 use Rattle.fe2o3_sasl_core.specs.Runs.{ProfileGives, Replies}
 use Rattle.fe2o3_sasl_core.specs.declared.sasl_profile.error.ProfileError.{ProfileError}
 use Rattle.fe2o3_sasl_core.specs.declared.sasl_profile.error.ProfileError.TheVariants.{Frame as FrameFault, NotImplemented}

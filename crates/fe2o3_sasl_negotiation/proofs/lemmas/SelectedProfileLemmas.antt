@@ -4,19 +4,18 @@ use Rattle.std.proofs.lemmas.Option.{same_Some}
 use Rattle.std.specs.List.{Contains}
 use Rattle.std.specs.Prelude.{is_some}
 use Rattle.fe2o3_scram.specs.declared.channel_binding.ChannelBinding.{ChannelBinding}
-use Rattle.fe2o3_scram.specs.declared.scram_messages.client_channel.ClientChannel.{ClientChannel}
+use Rattle.fe2o3_scram.specs.declared.client_options.ClientOptions.{ClientOptions}
 use Rattle.fe2o3_scram.specs.declared.hmac.ScramVersion.{ScramVersion}
-use Rattle.fe2o3_scram.specs.declared.hmac.ScramVersion.TheVariants.{Sha1, Sha256, Sha512}
-use Rattle.fe2o3_scram.specs.ChannelBinding.{is_bound, mechanism_of, plus_name}
+use Rattle.fe2o3_scram.specs.ChannelBinding.{is_bound, mechanism_of}
 use Rattle.fe2o3_scram.specs.ClientSecret.{Secret, Password, Keys, Both}
-use Rattle.fe2o3_scram.specs.Hmac.{mechanism_name}
 use Rattle.fe2o3_sasl_core.specs.ActingProfiles.{acting_profile}
-use Rattle.fe2o3_sasl_core.specs.ClientPolicy.{bound_channel, is_allowed, is_from, policy_name, profile_by, scram_by, secret_for, unbound_channel}
+use Rattle.fe2o3_sasl_core.specs.Mechanisms.{mechanism_symbol}
+use Rattle.fe2o3_sasl_core.specs.ClientPolicy.{bound_channel, is_allowed, is_from, profile_by, scram_by, scram_options, secret_for, unbound_channel}
 use Rattle.fe2o3_sasl_core.specs.ProfileMachine.{IsActing, IsSelected}
 use Rattle.fe2o3_sasl_core.specs.Profiles.{AnonymousMessage, AnonymousProfile, ExternalMessage, ExternalProfile, MessageProfile, PlainProfile, PolicyProfile, Profile, ScramProfile, Selection, accepts_signature_by_challenge, profile_name}
 use Rattle.fe2o3_sasl_core.specs.declared.client_policy.ClientPolicy.{ClientPolicy}
-use Rattle.fe2o3_sasl_core.specs.declared.client_policy.Mechanism.{Mechanism}
-use Rattle.fe2o3_sasl_core.specs.declared.client_policy.Mechanism.TheVariants.{Anonymous, External, Plain, ScramSha1, ScramSha1Plus, ScramSha256, ScramSha256Plus, ScramSha512, ScramSha512Plus}
+use Rattle.fe2o3_sasl_core.specs.declared.mechanism.Mechanism.{Mechanism}
+use Rattle.fe2o3_sasl_core.specs.declared.mechanism.Mechanism.TheVariants as mechanisms
 use Rattle.fe2o3_sasl_core.specs.private.Writing.{IsFor, is_by_policy}
 
 -- ---- the name of a selected profile
@@ -36,41 +35,26 @@ binds_none : (channel : Option ChannelBinding) → is_bound (unbound_channel cha
 binds_none None = refl
 binds_none (Some binding) = refl
 
+scram_name : (options : ClientOptions) (user : List ℕ) (version : ScramVersion) (secret : Option Secret) (profile : Profile)
+    → scram_by options user version secret ≡ Some profile
+    → profile_name profile ≡ mechanism_of version (is_bound options.channel)
+scram_name options user version None profile is = absurd (cc)
+scram_name options user version (Some secret) profile is = sym (ap name_in is)
+
 module _ (policy : ClientPolicy) (user : List ℕ) where
-  scram_name : (channel : ClientChannel) (version : ScramVersion) (secret : Option Secret) (profile : Profile)
-      → scram_by policy channel user version secret ≡ Some profile
-      → profile_name profile ≡ mechanism_of version (is_bound channel)
-  scram_name channel version None profile is = absurd (cc)
-  scram_name channel version (Some secret) profile is = sym (ap name_in is)
-
-  bound_name : (version : ScramVersion) (secret : Secret) (profile : Profile)
-      → (is_some policy.channel && is_from policy.floor version) ≡ true
-      → scram_by policy (bound_channel policy.channel) user version (secret_for version secret) ≡ Some profile
-      → profile_name profile ≡ plus_name version
-  bound_name version secret profile allowed is =
-      scram_name (bound_channel policy.channel) version (secret_for version secret) profile is
-      ∙ ap (mechanism_of version) (binds policy.channel (is_from policy.floor version) allowed)
-
-  unbound_name : (version : ScramVersion) (secret : Secret) (profile : Profile)
-      → scram_by policy (unbound_channel policy.channel) user version (secret_for version secret) ≡ Some profile
-      → profile_name profile ≡ mechanism_name version
-  unbound_name version secret profile is =
-      scram_name (unbound_channel policy.channel) version (secret_for version secret) profile is
-      ∙ ap (mechanism_of version) (binds_none policy.channel)
-
   pub selected_name : (secret : Secret) (mechanism : Mechanism) (profile : Profile) → is_allowed policy mechanism ≡ true
-      → profile_by policy user secret mechanism ≡ Some profile → profile_name profile ≡ policy_name mechanism
-  selected_name secret ScramSha512Plus profile allowed is = bound_name Sha512 secret profile allowed is
-  selected_name secret ScramSha256Plus profile allowed is = bound_name Sha256 secret profile allowed is
-  selected_name secret ScramSha1Plus profile allowed is = bound_name Sha1 secret profile allowed is
-  selected_name secret ScramSha512 profile allowed is = unbound_name Sha512 secret profile is
-  selected_name secret ScramSha256 profile allowed is = unbound_name Sha256 secret profile is
-  selected_name secret ScramSha1 profile allowed is = unbound_name Sha1 secret profile is
-  selected_name secret External profile allowed is = sym (ap name_in is)
-  selected_name (Password password) Plain profile allowed is = sym (ap name_in is)
-  selected_name (Keys keys) Plain profile allowed is = absurd (cc)
-  selected_name (Both password keys) Plain profile allowed is = sym (ap name_in is)
-  selected_name secret Anonymous profile allowed is = sym (ap name_in is)
+      → profile_by policy user secret mechanism ≡ Some profile → profile_name profile ≡ mechanism_symbol mechanism
+  selected_name secret (mechanisms.Scram version true) profile allowed is =
+      scram_name (scram_options policy true) user version (secret_for version secret) profile is
+      ∙ ap (mechanism_of version) (binds policy.channel (is_from policy.floor version) allowed)
+  selected_name secret (mechanisms.Scram version false) profile allowed is =
+      scram_name (scram_options policy false) user version (secret_for version secret) profile is
+      ∙ ap (mechanism_of version) (binds_none policy.channel)
+  selected_name secret mechanisms.External profile allowed is = sym (ap name_in is)
+  selected_name (Password password) mechanisms.Plain profile allowed is = sym (ap name_in is)
+  selected_name (Keys keys) mechanisms.Plain profile allowed is = absurd (cc)
+  selected_name (Both password keys) mechanisms.Plain profile allowed is = sym (ap name_in is)
+  selected_name secret mechanisms.Anonymous profile allowed is = sym (ap name_in is)
 
 -- ---- the name of a profile that acts for an identity
 
@@ -95,24 +79,20 @@ abbrev IsOrdinary : Profile → Type 0
 IsOrdinary profile = (is_by_policy profile ≡ false) × (accepts_signature_by_challenge profile ≡ false)
 
 module _ (policy : ClientPolicy) (user : List ℕ) where
-  ordinary_scram : (channel : ClientChannel) (version : ScramVersion) (secret : Option Secret) (profile : Profile)
-      → scram_by policy channel user version secret ≡ Some profile → IsOrdinary profile
-  ordinary_scram channel version None profile is = absurd (cc)
-  ordinary_scram channel version (Some secret) profile is = subst IsOrdinary (same_Some _ profile is) (refl, refl)
+  ordinary_scram : (plus : Bool) (version : ScramVersion) (secret : Option Secret) (profile : Profile)
+      → scram_by (scram_options policy plus) user version secret ≡ Some profile → IsOrdinary profile
+  ordinary_scram plus version None profile is = absurd (cc)
+  ordinary_scram plus version (Some secret) profile is = subst IsOrdinary (same_Some _ profile is) (refl, refl)
 
   ordinary : (secret : Secret) (mechanism : Mechanism) (profile : Profile)
       → profile_by policy user secret mechanism ≡ Some profile → IsOrdinary profile
-  ordinary secret ScramSha512Plus profile is = ordinary_scram _ Sha512 (secret_for Sha512 secret) profile is
-  ordinary secret ScramSha256Plus profile is = ordinary_scram _ Sha256 (secret_for Sha256 secret) profile is
-  ordinary secret ScramSha1Plus profile is = ordinary_scram _ Sha1 (secret_for Sha1 secret) profile is
-  ordinary secret ScramSha512 profile is = ordinary_scram _ Sha512 (secret_for Sha512 secret) profile is
-  ordinary secret ScramSha256 profile is = ordinary_scram _ Sha256 (secret_for Sha256 secret) profile is
-  ordinary secret ScramSha1 profile is = ordinary_scram _ Sha1 (secret_for Sha1 secret) profile is
-  ordinary secret External profile is = subst IsOrdinary (same_Some _ profile is) (refl, refl)
-  ordinary (Password password) Plain profile is = subst IsOrdinary (same_Some _ profile is) (refl, refl)
-  ordinary (Keys keys) Plain profile is = absurd (cc)
-  ordinary (Both password keys) Plain profile is = subst IsOrdinary (same_Some _ profile is) (refl, refl)
-  ordinary secret Anonymous profile is = subst IsOrdinary (same_Some _ profile is) (refl, refl)
+  ordinary secret (mechanisms.Scram version plus) profile is =
+      ordinary_scram plus version (secret_for version secret) profile is
+  ordinary secret mechanisms.External profile is = subst IsOrdinary (same_Some _ profile is) (refl, refl)
+  ordinary (Password password) mechanisms.Plain profile is = subst IsOrdinary (same_Some _ profile is) (refl, refl)
+  ordinary (Keys keys) mechanisms.Plain profile is = absurd (cc)
+  ordinary (Both password keys) mechanisms.Plain profile is = subst IsOrdinary (same_Some _ profile is) (refl, refl)
+  ordinary secret mechanisms.Anonymous profile is = subst IsOrdinary (same_Some _ profile is) (refl, refl)
 
 acting_ordinary : (chosen : Profile) (identity : List ℕ) → IsOrdinary chosen → IsOrdinary (acting_profile chosen identity)
 acting_ordinary (ScramProfile client) identity is = is

@@ -5,12 +5,13 @@ use Rattle.fe2o3_scram.specs.ClientSecret.{Secret}
 use Rattle.fe2o3_scram.specs.Texts.{Without}
 use Rattle.fe2o3_scram.proofs.lemmas.texts.DecisionLemmas.{Decided, both_or, not_or, same_number_or, same_or}
 use Rattle.fe2o3_sasl_core.specs.ActingProfiles.{CanActFor, NamesIdentities, acting_profile}
-use Rattle.fe2o3_sasl_core.specs.ClientPolicy.{CanTake, IsFirstTaken, SelectsProfile, by_strength, is_allowed, policy_name, profile_by}
+use Rattle.fe2o3_sasl_core.specs.Mechanisms.{mechanism_symbol}
+use Rattle.fe2o3_sasl_core.specs.ClientPolicy.{CanTake, IsFirstTaken, SelectsProfile, by_strength, is_allowed, profile_by}
 use Rattle.fe2o3_sasl_core.specs.PlainWords.{IsPlainWord}
 use Rattle.fe2o3_sasl_core.specs.ProfileMachine.{IsSelected, NoneIsSelected}
 use Rattle.fe2o3_sasl_core.specs.Profiles.{AnonymousMessage, AnonymousProfile, MessageProfile, PlainProfile, Profile, Selection}
 use Rattle.fe2o3_sasl_core.specs.declared.client_policy.ClientPolicy.{ClientPolicy}
-use Rattle.fe2o3_sasl_core.specs.declared.client_policy.Mechanism.{Mechanism}
+use Rattle.fe2o3_sasl_core.specs.declared.mechanism.Mechanism.{Mechanism}
 use Rattle.fe2o3_sasl_core.proofs.lemmas.machines.SelectionLemmas.{selected_acting, selected_itself}
 use Rattle.fe2o3_sasl_core.proofs.lemmas.machines.SomeRunLemmas.{contains_or}
 
@@ -46,10 +47,10 @@ names_or profile = inl tt
 module _ (policy : ClientPolicy) (user : List ℕ) (secret : Secret) (names : List (List ℕ)) where
   taken_or : (mechanism : Mechanism) → Decided (CanTake policy user secret names mechanism)
   taken_or mechanism = go (true_or (is_allowed policy mechanism)) (found_or (profile_by policy user secret mechanism))
-      (contains_or names (policy_name mechanism))
+      (contains_or names (mechanism_symbol mechanism))
     where
       go : Decided (is_allowed policy mechanism ≡ true) → Decided (profile_by policy user secret mechanism ≢ None)
-          → Decided (Contains names (policy_name mechanism)) → Decided (CanTake policy user secret names mechanism)
+          → Decided (Contains names (mechanism_symbol mechanism)) → Decided (CanTake policy user secret names mechanism)
       go (inl allowed) (inl serves) (inl offered) = inl (allowed, serves, offered)
       go (inr forbidden) serves offered = inr (λ can. forbidden can.0)
       go (inl allowed) (inr fails) offered = inr (λ can. fails can.1)

@@ -16,8 +16,8 @@ use Rattle.fe2o3_sasl_core.specs.ChallengeCounts.{BoundsChallenges, BoundsHold, 
 use Rattle.fe2o3_sasl_core.specs.Events.{Given, ServerSays, Failed}
 use Rattle.fe2o3_sasl_core.specs.Runs.{Runs, AcceptorSteps, SendsCanonical}
 use Rattle.fe2o3_sasl_core.specs.Servers.{AsksForResponse, ClosesExchange, ConfirmsSignature, ExchangeOpen, InitAnswers, InitWhere, NotStarted, OpensScram, ResponseAnswers, ResponseAsked, SendsSignature, ServerLogin, ServerSettings, ServerStage, SignatureShown, StageRejects, UserAuthenticated, asked_way, exchange_login, is_response_asked, sasl_machine}
-use Rattle.fe2o3_sasl_core.specs.declared.server.ways.Way.{Way}
-use Rattle.fe2o3_sasl_core.specs.declared.server.ways.Way.TheVariants as ways
+use Rattle.fe2o3_sasl_core.specs.declared.mechanism.Mechanism.{Mechanism}
+use Rattle.fe2o3_sasl_core.specs.declared.mechanism.Mechanism.TheVariants as mechanisms
 use Rattle.fe2o3_sasl_core.proofs.lemmas.frames.SpellingLemmas.{one_spelled_frame}
 
 -- ---- a step of any acceptor
@@ -163,7 +163,7 @@ module _ (settings : ServerSettings) where
       → StageRejects kept reply next → A
   rejects kept reply next goes is = ends reply outcomes.Auth None is.0 goes
 
-  asks_within : (does : Bool) (way : Way) (kept : ServerStage) (nonce : List ℕ) (reply : SaslFrame)
+  asks_within : (does : Bool) (way : Mechanism) (kept : ServerStage) (nonce : List ℕ) (reply : SaslFrame)
       (next : ServerStage) → does ≡ settings.extra.initial_response → GoesOn reply
       → AsksForResponse does way kept nonce reply next → Within next
   asks_within true way kept nonce reply next same goes is = let one = ap one_if same in
@@ -178,29 +178,29 @@ module _ (settings : ServerSettings) where
   opens_to version plus kept (Ok None) reply next goes is = rejects kept reply next goes is
   opens_to version plus kept (Err fault) reply next goes is = rejects kept reply next goes is
 
-  text_to : (way : Way) (kept : ServerStage) (nonce text : List ℕ) (reply : SaslFrame) (next : ServerStage)
+  text_to : (way : Mechanism) (kept : ServerStage) (nonce text : List ℕ) (reply : SaslFrame) (next : ServerStage)
       → GoesOn reply → InitAnswers settings way kept nonce (Some text) reply next → left next ≡ one_if signs
-  text_to ways.Anonymous kept nonce text reply next goes is = ends reply outcomes.Ok None is.0 goes
-  text_to ways.External kept nonce text reply next goes (inl (asked, is)) = ends reply outcomes.Ok None is.0 goes
-  text_to ways.External kept nonce text reply next goes (inr (other, is)) = rejects kept reply next goes is
-  text_to ways.Plain kept nonce text reply next goes (inl (parts, lets, is)) = ends reply outcomes.Ok None is.0 goes
-  text_to ways.Plain kept nonce text reply next goes (inr (none, is)) = rejects kept reply next goes is
-  text_to (ways.Scram version plus) kept nonce text reply next goes (answer, begins, is) =
+  text_to mechanisms.Anonymous kept nonce text reply next goes is = ends reply outcomes.Ok None is.0 goes
+  text_to mechanisms.External kept nonce text reply next goes (inl (asked, is)) = ends reply outcomes.Ok None is.0 goes
+  text_to mechanisms.External kept nonce text reply next goes (inr (other, is)) = rejects kept reply next goes is
+  text_to mechanisms.Plain kept nonce text reply next goes (inl (parts, lets, is)) = ends reply outcomes.Ok None is.0 goes
+  text_to mechanisms.Plain kept nonce text reply next goes (inr (none, is)) = rejects kept reply next goes is
+  text_to (mechanisms.Scram version plus) kept nonce text reply next goes (answer, begins, is) =
       opens_to version plus kept answer reply next goes is
 
-  init_within : (way : Way) (kept : ServerStage) (nonce : List ℕ) (response : Option (List ℕ)) (reply : SaslFrame)
+  init_within : (way : Mechanism) (kept : ServerStage) (nonce : List ℕ) (response : Option (List ℕ)) (reply : SaslFrame)
       (next : ServerStage) → GoesOn reply → InitAnswers settings way kept nonce response reply next → Within next
   init_within way kept nonce (Some text) reply next goes is =
       let same = text_to way kept nonce text reply next goes is in omega (arith, same)
-  init_within ways.Anonymous kept nonce None reply next goes is = ends reply outcomes.Ok None is.0 goes
-  init_within ways.External kept nonce None reply next goes (inl (asked, is)) = ends reply outcomes.Ok None is.0 goes
-  init_within ways.External kept nonce None reply next goes (inr (other, is)) = rejects kept reply next goes is
-  init_within ways.Plain kept nonce None reply next goes is =
-      asks_within settings.extra.initial_response ways.Plain kept nonce reply next refl goes is
-  init_within (ways.Scram version plus) kept nonce None reply next goes is =
-      asks_within settings.extra.initial_response (ways.Scram version plus) kept nonce reply next refl goes is
+  init_within mechanisms.Anonymous kept nonce None reply next goes is = ends reply outcomes.Ok None is.0 goes
+  init_within mechanisms.External kept nonce None reply next goes (inl (asked, is)) = ends reply outcomes.Ok None is.0 goes
+  init_within mechanisms.External kept nonce None reply next goes (inr (other, is)) = rejects kept reply next goes is
+  init_within mechanisms.Plain kept nonce None reply next goes is =
+      asks_within settings.extra.initial_response mechanisms.Plain kept nonce reply next refl goes is
+  init_within (mechanisms.Scram version plus) kept nonce None reply next goes is =
+      asks_within settings.extra.initial_response (mechanisms.Scram version plus) kept nonce reply next refl goes is
 
-  asked_within : (asked : Option Way) (stage : ServerStage) (nonce : List ℕ) (response : Option (List ℕ))
+  asked_within : (asked : Option Mechanism) (stage : ServerStage) (nonce : List ℕ) (response : Option (List ℕ))
       (reply : SaslFrame) (next : ServerStage) → GoesOn reply
       → MatchOption asked (StageRejects stage reply next)
       (λ way. InitAnswers settings way stage nonce response reply next) → Within next

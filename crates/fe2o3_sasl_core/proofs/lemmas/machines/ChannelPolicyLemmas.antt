@@ -4,43 +4,40 @@ use Rattle.std.proofs.Common.{◌≡◌, ◌≢◌, ◌⊎◌, ◌&&◌, not, �
 use Rattle.std.specs.List.{AllByRecursion, Contains}
 use Rattle.std.specs.Prelude.{is_some, slice_get}
 use Rattle.fe2o3_scram.specs.declared.channel_binding.ChannelBinding.{ChannelBinding}
+use Rattle.fe2o3_scram.specs.declared.client_options.ClientOptions.{ClientOptions}
 use Rattle.fe2o3_scram.specs.declared.hmac.ScramVersion.{ScramVersion}
 use Rattle.fe2o3_scram.specs.declared.hmac.ScramVersion.TheVariants.{Sha1, Sha256, Sha512}
 use Rattle.fe2o3_scram.specs.declared.scram_messages.client_channel.ClientChannel.{ClientChannel}
 use Rattle.fe2o3_scram.specs.declared.scram_messages.client_channel.ClientChannel.TheVariants.{Absent, Bound, NotOffered}
-use Rattle.fe2o3_scram.specs.ChannelBinding.{flag_of, is_bound, mechanism_of, plus_name, ClientHeader, header_of}
+use Rattle.fe2o3_scram.specs.ChannelBinding.{flag_of, is_bound, mechanism_of, ClientHeader, header_of}
 use Rattle.fe2o3_scram.specs.ClientFirst.{client_first_bare, client_first_with}
 use Rattle.fe2o3_scram.specs.ClientSecret.{Secret, Password, Keys, Both}
-use Rattle.fe2o3_scram.specs.Hmac.{mechanism_name}
 use Rattle.fe2o3_scram.specs.ScramClient.{ClientSide, fresh_client, with_options}
 use Rattle.fe2o3_scram.specs.Texts.{base64_text}
 use Rattle.fe2o3_scram.proofs.lemmas.texts.DecisionLemmas.{Decided, same_or}
-use Rattle.fe2o3_sasl_core.specs.ClientPolicy.{CanTake, IsFirstTaken, SelectsProfile, bound_channel, by_strength, is_allowed, is_from, policy_name, profile_by, scram_by, scram_options, secret_for, unbound_channel}
+use Rattle.fe2o3_sasl_core.specs.Mechanisms.{mechanism_symbol}
+use Rattle.fe2o3_sasl_core.specs.ClientPolicy.{CanTake, IsFirstTaken, SelectsProfile, bound_channel, by_strength, is_allowed, is_from, profile_by, scram_by, scram_options, secret_for, unbound_channel}
 use Rattle.fe2o3_sasl_core.specs.ClientPolicyLaws.{BeginsWithHeader, BindsExactly, IsAllowedByName, OfferedChannelIsBound, OffersBinding, OffersUnbound, RequiredChannelIsBound, SaysNotOffered, SelectedScramHasChannel, SelectionKeepsChannel, UnofferedChannelIsSaid}
 use Rattle.fe2o3_sasl_core.specs.Profiles.{Profile, ScramProfile, initial_response, profile_name}
 use Rattle.fe2o3_sasl_core.specs.declared.client_policy.ClientPolicy.{ClientPolicy}
-use Rattle.fe2o3_sasl_core.specs.declared.client_policy.Mechanism.{Mechanism}
-use Rattle.fe2o3_sasl_core.specs.declared.client_policy.Mechanism.TheVariants.{ScramSha512Plus, ScramSha256Plus, ScramSha1Plus, ScramSha512, ScramSha256, ScramSha1, External, Plain, Anonymous}
+use Rattle.fe2o3_sasl_core.specs.declared.mechanism.Mechanism.{Mechanism}
+use Rattle.fe2o3_sasl_core.specs.declared.mechanism.Mechanism.TheVariants as mechanisms
 
 -- ---- mechanisms
 
 -- SCRAM of a version, with -PLUS and without it
 abbrev plus_of : ScramVersion → Mechanism
-plus_of Sha512 = ScramSha512Plus
-plus_of Sha256 = ScramSha256Plus
-plus_of Sha1 = ScramSha1Plus
+plus_of version = mechanisms.Scram version true
 
 abbrev unbound_of : ScramVersion → Mechanism
-unbound_of Sha512 = ScramSha512
-unbound_of Sha256 = ScramSha256
-unbound_of Sha1 = ScramSha1
+unbound_of version = mechanisms.Scram version false
 
 -- a mechanism that is not SCRAM
 abbrev IsOther : Mechanism → Type 0
-IsOther External = Unit {0}
-IsOther Plain = Unit {0}
-IsOther Anonymous = Unit {0}
-IsOther mechanism = ⊥
+IsOther mechanisms.External = Unit {0}
+IsOther mechanisms.Plain = Unit {0}
+IsOther mechanisms.Anonymous = Unit {0}
+IsOther (mechanisms.Scram version plus) = ⊥
 
 the_some : {A : Type 0} (a b : A) → Some a ≡ Some b → a ≡ b
 the_some a b is = grind (arith, is)
@@ -68,26 +65,26 @@ Placed P mechanism = ((version : ScramVersion) × (mechanism ≡ plus_of version
 
 placed : (P : Mechanism → Type 0) (k : ℕ) (mechanism : Mechanism) → slice_get by_strength k ≡ Some mechanism → Above P k
     → Placed P mechanism
-placed P zero mechanism at all = inl (Sha512, sym (the_some ScramSha512Plus mechanism at))
-placed P (suc zero) mechanism at all = inl (Sha256, sym (the_some ScramSha256Plus mechanism at))
-placed P (suc (suc zero)) mechanism at all = inl (Sha1, sym (the_some ScramSha1Plus mechanism at))
+placed P zero mechanism at all = inl (Sha512, sym (the_some (plus_of Sha512) mechanism at))
+placed P (suc zero) mechanism at all = inl (Sha256, sym (the_some (plus_of Sha256) mechanism at))
+placed P (suc (suc zero)) mechanism at all = inl (Sha1, sym (the_some (plus_of Sha1) mechanism at))
 placed P (suc (suc (suc zero))) mechanism at all =
-    inr (plus_above P 0 all, inl (Sha512, sym (the_some ScramSha512 mechanism at)))
+    inr (plus_above P 0 all, inl (Sha512, sym (the_some (unbound_of Sha512) mechanism at)))
 placed P (suc (suc (suc (suc zero)))) mechanism at all =
-    inr (plus_above P 1 all, inl (Sha256, sym (the_some ScramSha256 mechanism at)))
+    inr (plus_above P 1 all, inl (Sha256, sym (the_some (unbound_of Sha256) mechanism at)))
 placed P (suc (suc (suc (suc (suc zero))))) mechanism at all =
-    inr (plus_above P 2 all, inl (Sha1, sym (the_some ScramSha1 mechanism at)))
+    inr (plus_above P 2 all, inl (Sha1, sym (the_some (unbound_of Sha1) mechanism at)))
 placed P (suc (suc (suc (suc (suc (suc zero)))))) mechanism at all = inr (
   plus_above P 3 all,
-  inr (unbound_above P 0 all, subst IsOther (the_some External mechanism at) tt),
+  inr (unbound_above P 0 all, subst IsOther (the_some mechanisms.External mechanism at) tt),
 )
 placed P (suc (suc (suc (suc (suc (suc (suc zero))))))) mechanism at all = inr (
   plus_above P 4 all,
-  inr (unbound_above P 1 all, subst IsOther (the_some Plain mechanism at) tt),
+  inr (unbound_above P 1 all, subst IsOther (the_some mechanisms.Plain mechanism at) tt),
 )
 placed P (suc (suc (suc (suc (suc (suc (suc (suc zero)))))))) mechanism at all = inr (
   plus_above P 5 all,
-  inr (unbound_above P 2 all, subst IsOther (the_some Anonymous mechanism at) tt),
+  inr (unbound_above P 2 all, subst IsOther (the_some mechanisms.Anonymous mechanism at) tt),
 )
 placed P (suc (suc (suc (suc (suc (suc (suc (suc (suc k))))))))) mechanism at all = absurd (cc)
 
@@ -101,12 +98,11 @@ record IsScramWith (channel : ClientChannel) (version : ScramVersion) (profile :
   pub own : client.acts_for ≡ None
   pub version_is : client.version ≡ version
 
-scram_with : (policy : ClientPolicy) (channel : ClientChannel) (user : List ℕ) (version : ScramVersion)
-    (secret : Option Secret) (profile : Profile) → scram_by policy channel user version secret ≡ Some profile
-    → IsScramWith channel version profile
-scram_with policy channel user version None profile is = absurd (cc)
-scram_with policy channel user version (Some secret) profile is = record {
-  client = with_options (fresh_client user version secret) (scram_options policy channel);
+scram_with : (options : ClientOptions) (user : List ℕ) (version : ScramVersion) (secret : Option Secret)
+    (profile : Profile) → scram_by options user version secret ≡ Some profile → IsScramWith options.channel version profile
+scram_with options user version None profile is = absurd (cc)
+scram_with options user version (Some secret) profile is = record {
+  client = with_options (fresh_client user version secret) options;
   scram = sym (the_some _ profile is);
   channel_is = refl;
   own = refl;
@@ -151,40 +147,27 @@ module _ (policy : ClientPolicy) (user : List ℕ) (secret : Secret) where
   plus_profile : (version : ScramVersion) (profile : Profile)
       → profile_by policy user secret (plus_of version) ≡ Some profile
       → IsScramWith (bound_channel policy.channel) version profile
-  plus_profile Sha512 profile is =
-      scram_with policy (bound_channel policy.channel) user Sha512 (secret_for Sha512 secret) profile is
-  plus_profile Sha256 profile is =
-      scram_with policy (bound_channel policy.channel) user Sha256 (secret_for Sha256 secret) profile is
-  plus_profile Sha1 profile is =
-      scram_with policy (bound_channel policy.channel) user Sha1 (secret_for Sha1 secret) profile is
+  plus_profile version profile is =
+      scram_with (scram_options policy true) user version (secret_for version secret) profile is
 
   unbound_profile : (version : ScramVersion) (profile : Profile)
       → profile_by policy user secret (unbound_of version) ≡ Some profile
       → IsScramWith (unbound_channel policy.channel) version profile
-  unbound_profile Sha512 profile is =
-      scram_with policy (unbound_channel policy.channel) user Sha512 (secret_for Sha512 secret) profile is
-  unbound_profile Sha256 profile is =
-      scram_with policy (unbound_channel policy.channel) user Sha256 (secret_for Sha256 secret) profile is
-  unbound_profile Sha1 profile is =
-      scram_with policy (unbound_channel policy.channel) user Sha1 (secret_for Sha1 secret) profile is
+  unbound_profile version profile is =
+      scram_with (scram_options policy false) user version (secret_for version secret) profile is
 
   plain_by_name : (other : Secret) (profile : Profile) → policy.plain ≡ true
-      → profile_by policy user other Plain ≡ Some profile → IsAllowedByName policy profile
+      → profile_by policy user other mechanisms.Plain ≡ Some profile → IsAllowedByName policy profile
   plain_by_name (Password password) profile allowed is = subst (IsAllowedByName policy) (the_some _ profile is) allowed
   plain_by_name (Keys keys) profile allowed is = absurd (cc)
   plain_by_name (Both password keys) profile allowed is = subst (IsAllowedByName policy) (the_some _ profile is) allowed
 
   by_name : (mechanism : Mechanism) (profile : Profile) → IsOther mechanism → is_allowed policy mechanism ≡ true
       → profile_by policy user secret mechanism ≡ Some profile → IsAllowedByName policy profile
-  by_name External profile other allowed is = subst (IsAllowedByName policy) (the_some _ profile is) allowed
-  by_name Plain profile other allowed is = plain_by_name secret profile allowed is
-  by_name Anonymous profile other allowed is = subst (IsAllowedByName policy) (the_some _ profile is) allowed
-  by_name ScramSha512Plus profile other allowed is = absurd other
-  by_name ScramSha256Plus profile other allowed is = absurd other
-  by_name ScramSha1Plus profile other allowed is = absurd other
-  by_name ScramSha512 profile other allowed is = absurd other
-  by_name ScramSha256 profile other allowed is = absurd other
-  by_name ScramSha1 profile other allowed is = absurd other
+  by_name mechanisms.External profile other allowed is = subst (IsAllowedByName policy) (the_some _ profile is) allowed
+  by_name mechanisms.Plain profile other allowed is = plain_by_name secret profile allowed is
+  by_name mechanisms.Anonymous profile other allowed is = subst (IsAllowedByName policy) (the_some _ profile is) allowed
+  by_name (mechanisms.Scram version plus) profile other allowed is = absurd other
 
   -- ---- which mechanisms can be selected
 
@@ -192,10 +175,10 @@ module _ (policy : ClientPolicy) (user : List ℕ) (secret : Secret) where
     abbrev Can : Mechanism → Type 0
     Can mechanism = CanTake policy user secret names mechanism
 
-    serves_scram : (channel : ClientChannel) (version : ScramVersion) (own : Option Secret) → own ≢ None
-        → scram_by policy channel user version own ≢ None
-    serves_scram channel version None some is = some refl
-    serves_scram channel version (Some own) some is = absurd (cc)
+    serves_scram : (options : ClientOptions) (version : ScramVersion) (own : Option Secret) → own ≢ None
+        → scram_by options user version own ≢ None
+    serves_scram options version None some is = some refl
+    serves_scram options version (Some own) some is = absurd (cc)
 
     both_true : (a b : Bool) → a ≡ true → b ≡ true → (a && b) ≡ true
     both_true a b is too = ap (λ (x : Bool). x && b) is ∙ too
@@ -203,82 +186,37 @@ module _ (policy : ClientPolicy) (user : List ℕ) (secret : Secret) where
     -- an offer from which a client can bind its channel has a mechanism with -PLUS that it can select
     can_bind : (binding : ChannelBinding) → policy.channel ≡ Some binding → (offer : OffersBinding policy secret names)
         → Can (plus_of offer.version)
-    can_bind binding channel offer = go offer.version offer.offered offer.allowed offer.serves
-      where
-        some : is_some policy.channel ≡ true
-        some = ap (λ (c : Option ChannelBinding). is_some c) channel
-
-        go : (version : ScramVersion) → Contains names (plus_name version) → is_from policy.floor version ≡ true
-            → secret_for version secret ≢ None → Can (plus_of version)
-        go Sha512 has from serves = (
-          both_true (is_some policy.channel) (is_from policy.floor Sha512) some from,
-          serves_scram (bound_channel policy.channel) Sha512 (secret_for Sha512 secret) serves,
-          has,
-        )
-        go Sha256 has from serves = (
-          both_true (is_some policy.channel) (is_from policy.floor Sha256) some from,
-          serves_scram (bound_channel policy.channel) Sha256 (secret_for Sha256 secret) serves,
-          has,
-        )
-        go Sha1 has from serves = (
-          both_true (is_some policy.channel) (is_from policy.floor Sha1) some from,
-          serves_scram (bound_channel policy.channel) Sha1 (secret_for Sha1 secret) serves,
-          has,
-        )
+    can_bind binding channel offer = (
+      both_true (is_some policy.channel) (is_from policy.floor offer.version)
+          (ap (λ (c : Option ChannelBinding). is_some c) channel) offer.allowed,
+      serves_scram (scram_options policy true) offer.version (secret_for offer.version secret) offer.serves,
+      offer.offered,
+    )
 
     can_unbound : policy.must_bind ≡ false → (offer : OffersUnbound policy secret names)
         → Can (unbound_of offer.version)
-    can_unbound free offer = go offer.version offer.offered offer.allowed offer.serves
-      where
-        some : not policy.must_bind ≡ true
-        some = ap not free
-
-        go : (version : ScramVersion) → Contains names (mechanism_name version) → is_from policy.floor version ≡ true
-            → secret_for version secret ≢ None → Can (unbound_of version)
-        go Sha512 has from serves = (
-          both_true (not policy.must_bind) (is_from policy.floor Sha512) some from,
-          serves_scram (unbound_channel policy.channel) Sha512 (secret_for Sha512 secret) serves,
-          has,
-        )
-        go Sha256 has from serves = (
-          both_true (not policy.must_bind) (is_from policy.floor Sha256) some from,
-          serves_scram (unbound_channel policy.channel) Sha256 (secret_for Sha256 secret) serves,
-          has,
-        )
-        go Sha1 has from serves = (
-          both_true (not policy.must_bind) (is_from policy.floor Sha1) some from,
-          serves_scram (unbound_channel policy.channel) Sha1 (secret_for Sha1 secret) serves,
-          has,
-        )
+    can_unbound free offer = (
+      both_true (not policy.must_bind) (is_from policy.floor offer.version) (ap not free) offer.allowed,
+      serves_scram (scram_options policy false) offer.version (secret_for offer.version secret) offer.serves,
+      offer.offered,
+    )
 
     -- a mechanism with -PLUS that a client can select is such an offer
     both_of : (a b : Bool) → (a && b) ≡ true → (a ≡ true) × (b ≡ true)
     both_of true b is = (refl, is)
     both_of false b is = absurd (cc)
 
-    scram_serves : (channel : ClientChannel) (version : ScramVersion) (own : Option Secret)
-        → scram_by policy channel user version own ≢ None → own ≢ None
-    scram_serves channel version None some is = some refl
-    scram_serves channel version (Some own) some is = absurd (cc)
+    scram_serves : (options : ClientOptions) (version : ScramVersion) (own : Option Secret)
+        → scram_by options user version own ≢ None → own ≢ None
+    scram_serves options version None some is = some refl
+    scram_serves options version (Some own) some is = absurd (cc)
 
     offers_binding : (version : ScramVersion) → Can (plus_of version) → OffersBinding policy secret names
-    offers_binding Sha512 can = record {
-      version = Sha512;
+    offers_binding version can = record {
+      version = version;
       offered = can.2;
-      allowed = (both_of (is_some policy.channel) (is_from policy.floor Sha512) can.0).1;
-      serves = scram_serves (bound_channel policy.channel) Sha512 (secret_for Sha512 secret) can.1;
-    }
-    offers_binding Sha256 can = record {
-      version = Sha256;
-      offered = can.2;
-      allowed = (both_of (is_some policy.channel) (is_from policy.floor Sha256) can.0).1;
-      serves = scram_serves (bound_channel policy.channel) Sha256 (secret_for Sha256 secret) can.1;
-    }
-    offers_binding Sha1 can = record {
-      version = Sha1;
-      offered = can.2;
-      allowed = (both_of (is_some policy.channel) (is_from policy.floor Sha1) can.0).1;
-      serves = scram_serves (bound_channel policy.channel) Sha1 (secret_for Sha1 secret) can.1;
+      allowed = (both_of (is_some policy.channel) (is_from policy.floor version) can.0).1;
+      serves = scram_serves (scram_options policy true) version (secret_for version secret) can.1;
     }
 
     -- a policy that must bind allows no SCRAM without -PLUS
@@ -288,9 +226,7 @@ module _ (policy : ClientPolicy) (user : List ℕ) (secret : Secret) where
 
     never_unbound : (version : ScramVersion) → policy.must_bind ≡ true
         → is_allowed policy (unbound_of version) ≡ true → ⊥
-    never_unbound Sha512 must allowed = must_not policy.must_bind (is_from policy.floor Sha512) must allowed
-    never_unbound Sha256 must allowed = must_not policy.must_bind (is_from policy.floor Sha256) must allowed
-    never_unbound Sha1 must allowed = must_not policy.must_bind (is_from policy.floor Sha1) must allowed
+    never_unbound version must allowed = must_not policy.must_bind (is_from policy.floor version) must allowed
 
     -- and one that allows a mechanism with -PLUS has a channel
     some_channel : (channel : Option ChannelBinding) (strong : Bool) → (is_some channel && strong) ≡ true
@@ -300,9 +236,7 @@ module _ (policy : ClientPolicy) (user : List ℕ) (secret : Secret) where
 
     channel_of : (version : ScramVersion) → is_allowed policy (plus_of version) ≡ true
         → (binding : ChannelBinding) × (policy.channel ≡ Some binding)
-    channel_of Sha512 allowed = some_channel policy.channel (is_from policy.floor Sha512) allowed
-    channel_of Sha256 allowed = some_channel policy.channel (is_from policy.floor Sha256) allowed
-    channel_of Sha1 allowed = some_channel policy.channel (is_from policy.floor Sha1) allowed
+    channel_of version allowed = some_channel policy.channel (is_from policy.floor version) allowed
 
     -- ---- whether something is selected
 
@@ -334,7 +268,7 @@ module _ (policy : ClientPolicy) (user : List ℕ) (secret : Secret) where
       | inr not ↦ inr (λ can. not can.0)
       | inl allowed ↦ elim (some_or_none (profile_by policy user secret mechanism)) [
         | inr none ↦ inr (λ can. none can.1)
-        | inl serves ↦ elim (contains_or names (policy_name mechanism)) [
+        | inl serves ↦ elim (contains_or names (mechanism_symbol mechanism)) [
           | inr absent ↦ inr (λ can. absent can.2)
           | inl has ↦ inl (allowed, serves, has)
         ]

@@ -9,8 +9,9 @@ use Rattle.fe2o3_scram.specs.declared.hmac.ScramVersion.{ScramVersion}
 use Rattle.fe2o3_scram.specs.declared.hmac.ScramVersion.TheVariants.{Sha1, Sha256, Sha512}
 use Rattle.fe2o3_scram.specs.declared.scram_messages.server_rules.ServerRules.{ServerRules}
 use Rattle.fe2o3_sasl_core.specs.AnyMechanism.{has_name, both_names}
-use Rattle.fe2o3_sasl_core.specs.Servers.{ServerSettings, asked_among, asked_way, is_asked_by, is_offered_by, name_where_offered, offer_order, sasl_names, way_name, with_offered}
-use Rattle.fe2o3_sasl_core.specs.declared.server.ways.Way.{Way}
+use Rattle.fe2o3_sasl_core.specs.Mechanisms.{mechanism_symbol}
+use Rattle.fe2o3_sasl_core.specs.Servers.{ServerSettings, asked_among, asked_way, is_asked_by, is_offered_by, name_where_offered, offer_order, sasl_names, with_offered}
+use Rattle.fe2o3_sasl_core.specs.declared.mechanism.Mechanism.{Mechanism}
 
 -- a name is in one of two lists
 pub has_name-append : (names others : List (List ℕ)) (name : List ℕ)
@@ -145,23 +146,23 @@ is_either : (a : Bool) → a ≡ (if a then true else false)
 is_either true = refl
 is_either false = refl
 
-one_more_asked : (a b asked : Bool) (way : Way) (rest : Option Way) (both : Bool) → both ≡ (if a then true else b)
+one_more_asked : (a b asked : Bool) (way : Mechanism) (rest : Option Mechanism) (both : Bool) → both ≡ (if a then true else b)
     → b ≡ asked
     → (if both then true else is_some rest) ≡ (if a then true else is_some (if asked then Some way else rest))
 one_more_asked true b asked way rest both is same = ap (λ (x : Bool). if x then true else is_some rest) is
 one_more_asked false b true way rest both is same = ap (λ (x : Bool). if x then true else is_some rest) (is ∙ same)
 one_more_asked false b false way rest both is same = ap (λ (x : Bool). if x then true else is_some rest) (is ∙ same)
 
-has_offered : (settings : ServerSettings) (names : List (List ℕ)) (ways : List Way) (name : List ℕ)
+has_offered : (settings : ServerSettings) (names : List (List ℕ)) (ways : List Mechanism) (name : List ℕ)
     → has_name (with_offered settings names ways) name
     ≡ (if has_name names name then true else is_some (asked_among settings name ways))
 has_offered settings names [] name = is_either (has_name names name)
 has_offered settings names (way ∷ others) name =
-    let here = name_where_offered (is_offered_by settings way) (way_name way) in
+    let here = name_where_offered (is_offered_by settings way) (mechanism_symbol way) in
     has_offered settings (names ++ here) others name
     ∙ one_more_asked (has_name names name) (has_name here name) (is_asked_by settings name way) way
     (asked_among settings name others) (has_name (names ++ here) name) (has_name-append names here name)
-    (has_asked (is_offered_by settings way) (way_name way) name)
+    (has_asked (is_offered_by settings way) (mechanism_symbol way) name)
 
 -- a name is offered exactly if it asks for a mechanism
 pub has_sasl_name : (settings : ServerSettings) (name : List ℕ)

@@ -8,7 +8,7 @@ use Rattle.fe2o3_scram.specs.declared.hmac.ScramVersion.TheVariants.{Sha1, Sha25
 use Rattle.fe2o3_scram.specs.ClientSecret.{Secret}
 use Rattle.fe2o3_sasl_core.specs.ClientPolicy.{CanTake, IsFirstTaken, keys_for_version}
 use Rattle.fe2o3_sasl_core.specs.declared.client_policy.ClientPolicy.{ClientPolicy}
-use Rattle.fe2o3_sasl_core.specs.declared.client_policy.Mechanism.{Mechanism}
+use Rattle.fe2o3_sasl_core.specs.declared.mechanism.Mechanism.{Mechanism}
 use Rattle.fe2o3_sasl_core.proofs.lemmas.lists.EachLemmas.{each_append}
 
 -- there is something exactly where it is not nothing

@@ -19,22 +19,11 @@ use Rattle.fe2o3_scram.specs.declared.scram_messages.channel_binding_flag.Channe
 use Rattle.fe2o3_scram.specs.declared.scram_messages.channel_binding_flag.ChannelBindingFlag.TheVariants.{NotSupported, ClientSupports, Required}
 use Rattle.fe2o3_scram.specs.declared.scram_messages.error.ServerScramErrorKind.{ServerScramErrorKind}
 use Rattle.fe2o3_scram.specs.declared.scram_messages.server_rules.ServerRules.{ServerRules}
-use Rattle.fe2o3_sasl_core.specs.SavedServers.{IsRestored, NoRecordIsUnmet, RestoredStagesAreEqual, no_record, or_no_record, record_now, way_for}
-use Rattle.fe2o3_sasl_core.specs.Servers.{AsksForResponse, ClosesExchange, ConfirmsSignature, ExchangeOpen, InitAnswers, InitWhere, NotStarted, OpensScram, ResponseAnswers, ResponseAsked, SendsSignature, ServerLogin, ServerSettings, ServerStage, SignatureShown, StageAnswers, StageRejects, UserAuthenticated, asked_among, asked_way, exchange_login, has_hash, is_asked_by, is_offered_by, is_response_asked, mechanism_by, offer_order, provider_by, rules_by, way_name}
-use Rattle.fe2o3_sasl_core.specs.declared.server.ways.Way.{Way}
-use Rattle.fe2o3_sasl_core.specs.declared.server.ways.Way.TheVariants as ways
-
--- the mechanism of a way is that way's
-pub way_back : (way : Way) → way_for (mechanism_by way) ≡ way
-way_back (ways.Scram versions.Sha512 true) = refl
-way_back (ways.Scram versions.Sha256 true) = refl
-way_back (ways.Scram versions.Sha1 true) = refl
-way_back (ways.Scram versions.Sha512 false) = refl
-way_back (ways.Scram versions.Sha256 false) = refl
-way_back (ways.Scram versions.Sha1 false) = refl
-way_back ways.Plain = refl
-way_back ways.Anonymous = refl
-way_back ways.External = refl
+use Rattle.fe2o3_sasl_core.specs.SavedServers.{IsRestored, NoRecordIsUnmet, RestoredStagesAreEqual, no_record, or_no_record, record_now}
+use Rattle.fe2o3_sasl_core.specs.Mechanisms.{mechanism_symbol}
+use Rattle.fe2o3_sasl_core.specs.Servers.{AsksForResponse, ClosesExchange, ConfirmsSignature, ExchangeOpen, InitAnswers, InitWhere, NotStarted, OpensScram, ResponseAnswers, ResponseAsked, SendsSignature, ServerLogin, ServerSettings, ServerStage, SignatureShown, StageAnswers, StageRejects, UserAuthenticated, asked_among, asked_way, exchange_login, has_hash, is_asked_by, is_offered_by, is_response_asked, offer_order, provider_by, rules_by}
+use Rattle.fe2o3_sasl_core.specs.declared.mechanism.Mechanism.{Mechanism}
+use Rattle.fe2o3_sasl_core.specs.declared.mechanism.Mechanism.TheVariants as mechanisms
 
 -- ---- a record without keys
 
@@ -67,17 +56,17 @@ and_right true other is = is
 and_right false other is = absurd (cc)
 
 -- a mechanism that a name asks for is offered
-module _ (settings : ServerSettings) (name : List ℕ) (way : Way) where
-  asked_of : (first : Way) (rest : Option Way) (is : Bool) → is_asked_by settings name first ≡ is
+module _ (settings : ServerSettings) (name : List ℕ) (way : Mechanism) where
+  asked_of : (first : Mechanism) (rest : Option Mechanism) (is : Bool) → is_asked_by settings name first ≡ is
       → (if is then Some first else rest) ≡ Some way → (rest ≡ Some way → is_offered_by settings way ≡ true)
       → is_offered_by settings way ≡ true
   asked_of first rest true asks same later =
       let one : first ≡ way = cc in
-      subst (λ (w : Way). is_offered_by settings w ≡ true) one
-      (and_left (is_offered_by settings first) (pointwise nat_eq name (way_name first)) asks)
+      subst (λ (w : Mechanism). is_offered_by settings w ≡ true) one
+      (and_left (is_offered_by settings first) (pointwise nat_eq name (mechanism_symbol first)) asks)
   asked_of first rest false asks same later = later same
 
-  asked_offered : (order : List Way) → asked_among settings name order ≡ Some way → is_offered_by settings way ≡ true
+  asked_offered : (order : List Mechanism) → asked_among settings name order ≡ Some way → is_offered_by settings way ≡ true
   asked_offered [] same = absurd (cc)
   asked_offered (first ∷ others) same =
       asked_of first (asked_among settings name others) _ refl same (asked_offered others)
@@ -121,28 +110,28 @@ module _ (settings : ServerSettings) where
   unfolding IsRestored
   logged_in login = refl
 
-  asks : (way : Way) (nonce : List ℕ) → is_offered_by settings way ≡ true → Is (ResponseAsked way nonce)
+  asks : (way : Mechanism) (nonce : List ℕ) → is_offered_by settings way ≡ true → Is (ResponseAsked way nonce)
   unfolding IsRestored
   asks way nonce offers = ap (λ (is : Bool). if is then ResponseAsked way nonce else NotStarted) offers
 
-  offers_so : (way : Way) (nonce : List ℕ) (is : Bool)
+  offers_so : (way : Mechanism) (nonce : List ℕ) (is : Bool)
       → (if is then ResponseAsked way nonce else NotStarted) ≡ ResponseAsked way nonce → is ≡ true
   offers_so way nonce true same = refl
   offers_so way nonce false same = absurd (cc)
 
-  offered : (way : Way) (nonce : List ℕ) → Is (ResponseAsked way nonce) → is_offered_by settings way ≡ true
+  offered : (way : Mechanism) (nonce : List ℕ) → Is (ResponseAsked way nonce) → is_offered_by settings way ≡ true
   unfolding IsRestored
   offered way nonce was = offers_so way nonce (is_offered_by settings way) was
 
   abbrev exchange_with : ScramVersion → ServerChallenge → Bool → ServerStage
-  exchange_with version challenge plus = if is_offered_by settings (ways.Scram version plus)
+  exchange_with version challenge plus = if is_offered_by settings (mechanisms.Scram version plus)
       then ExchangeOpen version plus (record {
         challenge = challenge;
         stored = record_now settings version plus challenge.user;
       }) else NotStarted
 
   opens : (version : ScramVersion) (plus : Bool) (exchange : OpenExchange)
-      → is_offered_by settings (ways.Scram version plus) ≡ true
+      → is_offered_by settings (mechanisms.Scram version plus) ≡ true
       → is_required exchange.challenge.header.flag ≡ plus
       → record_now settings version plus exchange.challenge.user ≡ exchange.stored → Is (ExchangeOpen version plus exchange)
   unfolding IsRestored
@@ -156,14 +145,14 @@ module _ (settings : ServerSettings) where
   then_is : (stage next : ServerStage) → next ≡ stage → Is stage → Is next
   then_is stage next same is = subst Is (sym same) is
 
-  asks_for : (does : Bool) (way : Way) (kept : ServerStage) (nonce : List ℕ) (reply : SaslFrame) (next : ServerStage)
+  asks_for : (does : Bool) (way : Mechanism) (kept : ServerStage) (nonce : List ℕ) (reply : SaslFrame) (next : ServerStage)
       → is_offered_by settings way ≡ true → Is kept → AsksForResponse does way kept nonce reply next → Is next
   asks_for true way kept nonce reply next offers was is = then_is _ next is.1 (asks way nonce offers)
   asks_for false way kept nonce reply next offers was is = then_is kept next is.1 was
 
   begins : (version : ScramVersion) (plus : Bool) (kept : ServerStage) (nonce text : List ℕ)
       (answer : Result (Option (List ℕ × OpenExchange)) ServerScramErrorKind) (reply : SaslFrame) (next : ServerStage)
-      → is_offered_by settings (ways.Scram version plus) ≡ true → Is kept
+      → is_offered_by settings (mechanisms.Scram version plus) ≡ true → Is kept
       → BeginsExchange (provider_by settings version plus) nonce text answer
       → OpensScram version plus kept answer reply next → Is next
   begins version plus kept nonce text (Ok (Some made)) reply next offers was
@@ -175,26 +164,26 @@ module _ (settings : ServerSettings) where
   begins version plus kept nonce text (Ok None) reply next offers was held is = then_is kept next is.1 was
   begins version plus kept nonce text (Err fault) reply next offers was held is = then_is kept next is.1 was
 
-  init_goes : (way : Way) (kept : ServerStage) (nonce : List ℕ) (response : Option (List ℕ)) (reply : SaslFrame)
+  init_goes : (way : Mechanism) (kept : ServerStage) (nonce : List ℕ) (response : Option (List ℕ)) (reply : SaslFrame)
       (next : ServerStage) → is_offered_by settings way ≡ true → Is kept
       → InitAnswers settings way kept nonce response reply next → Is next
-  init_goes ways.Anonymous kept nonce response reply next offers was is = then_is _ next is.1 (logged_in _)
-  init_goes ways.External kept nonce response reply next offers was (inl (asked, is)) =
+  init_goes mechanisms.Anonymous kept nonce response reply next offers was is = then_is _ next is.1 (logged_in _)
+  init_goes mechanisms.External kept nonce response reply next offers was (inl (asked, is)) =
       then_is _ next is.1 (logged_in _)
-  init_goes ways.External kept nonce response reply next offers was (inr (other, is)) = then_is kept next is.1 was
-  init_goes ways.Plain kept nonce None reply next offers was is =
-      asks_for settings.extra.initial_response ways.Plain kept nonce reply next offers was is
-  init_goes ways.Plain kept nonce (Some text) reply next offers was (inl (parts, lets, is)) =
+  init_goes mechanisms.External kept nonce response reply next offers was (inr (other, is)) = then_is kept next is.1 was
+  init_goes mechanisms.Plain kept nonce None reply next offers was is =
+      asks_for settings.extra.initial_response mechanisms.Plain kept nonce reply next offers was is
+  init_goes mechanisms.Plain kept nonce (Some text) reply next offers was (inl (parts, lets, is)) =
       then_is _ next is.1 (logged_in _)
-  init_goes ways.Plain kept nonce (Some text) reply next offers was (inr (none, is)) = then_is kept next is.1 was
-  init_goes (ways.Scram version plus) kept nonce None reply next offers was is =
-      asks_for settings.extra.initial_response (ways.Scram version plus) kept nonce reply next offers was is
-  init_goes (ways.Scram version plus) kept nonce (Some text) reply next offers was (answer, held, is) =
+  init_goes mechanisms.Plain kept nonce (Some text) reply next offers was (inr (none, is)) = then_is kept next is.1 was
+  init_goes (mechanisms.Scram version plus) kept nonce None reply next offers was is =
+      asks_for settings.extra.initial_response (mechanisms.Scram version plus) kept nonce reply next offers was is
+  init_goes (mechanisms.Scram version plus) kept nonce (Some text) reply next offers was (answer, held, is) =
       begins version plus kept nonce text answer reply next offers was held is
 
-  asked_goes : (asked : Option Way) (stage : ServerStage) (nonce : List ℕ) (response : Option (List ℕ))
+  asked_goes : (asked : Option Mechanism) (stage : ServerStage) (nonce : List ℕ) (response : Option (List ℕ))
       (reply : SaslFrame) (next : ServerStage)
-      → ((way : Way) → asked ≡ Some way → is_offered_by settings way ≡ true) → Is stage
+      → ((way : Mechanism) → asked ≡ Some way → is_offered_by settings way ≡ true) → Is stage
       → MatchOption asked (StageRejects stage reply next)
       (λ way. InitAnswers settings way stage nonce response reply next) → Is next
   asked_goes None stage nonce response reply next offers was is = then_is stage next is.1 was

@@ -10,7 +10,7 @@ use Rattle.fe2o3_sasl_core.specs.ClientPolicy.{CanTake, IsFirstTaken, SelectsPro
 use Rattle.fe2o3_sasl_core.specs.ProfileMachine.{CannotAct, IsActing, IsSelected, NoneCanBeTaken, NoneIsSelected}
 use Rattle.fe2o3_sasl_core.specs.Profiles.{Profile, Selection}
 use Rattle.fe2o3_sasl_core.specs.declared.client_policy.ClientPolicy.{ClientPolicy}
-use Rattle.fe2o3_sasl_core.specs.declared.client_policy.Mechanism.{Mechanism}
+use Rattle.fe2o3_sasl_core.specs.declared.mechanism.Mechanism.{Mechanism}
 use Rattle.fe2o3_sasl_core.proofs.lemmas.machines.PolicyLemmas.{some_taken}
 
 -- what each before a place has

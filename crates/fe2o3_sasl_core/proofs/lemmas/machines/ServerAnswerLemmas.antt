@@ -20,22 +20,23 @@ use Rattle.fe2o3_scram.specs.ServerFirst.{OpenExchange}
 use Rattle.fe2o3_scram.specs.declared.hmac.ScramVersion.{ScramVersion}
 use Rattle.fe2o3_scram.specs.declared.scram_messages.error.ServerScramErrorKind.{ServerScramErrorKind}
 use Rattle.fe2o3_scram.specs.declared.scram_messages.error.ServerScramErrorKind.TheVariants.{AuthenticationFailed, OutOfMemory}
-use Rattle.fe2o3_sasl_core.specs.Servers.{ExchangeOpen, NotStarted, ServerSettings, ServerStage, provider_by, response_hmacs, exchange_server, way_name}
+use Rattle.fe2o3_sasl_core.specs.Mechanisms.{mechanism_symbol}
+use Rattle.fe2o3_sasl_core.specs.Servers.{ExchangeOpen, NotStarted, ServerSettings, ServerStage, provider_by, response_hmacs, exchange_server}
 use Rattle.fe2o3_sasl_core.specs.declared.server.stage.Move.{Move}
 use Rattle.fe2o3_sasl_core.specs.declared.server.stage.Move.TheVariants as moves
 use Rattle.fe2o3_sasl_core.specs.private.ServerMoves.{TakesAtMost, TakesExactly, after, restarted}
 use Rattle.fe2o3_sasl_core.proofs.lemmas.machines.ResponseCostLemmas.{exactly_from, response_costs}
 use Rattle.fe2o3_sasl_core.specs.declared.events.ServerReply.{ServerReply}
 use Rattle.fe2o3_sasl_core.specs.private.Writing.{Writes}
-use Rattle.fe2o3_sasl_core.specs.declared.server.ways.Way.{Way}
-use Rattle.fe2o3_sasl_core.specs.declared.server.ways.Way.TheVariants as ways
+use Rattle.fe2o3_sasl_core.specs.declared.mechanism.Mechanism.{Mechanism}
+use Rattle.fe2o3_sasl_core.specs.declared.mechanism.Mechanism.TheVariants as mechanisms
 
 -- the name of a mechanism is ASCII
-pub IsAscii-way_name : (way : Way) → IsAscii (way_name way)
-IsAscii-way_name (ways.Scram version plus) = IsAscii-mechanism_of version plus
-IsAscii-way_name ways.Plain = IsAscii-from_is_ascii (codes "PLAIN") refl
-IsAscii-way_name ways.Anonymous = IsAscii-from_is_ascii (codes "ANONYMOUS") refl
-IsAscii-way_name ways.External = IsAscii-from_is_ascii (codes "EXTERNAL") refl
+pub IsAscii-mechanism_symbol : (way : Mechanism) → IsAscii (mechanism_symbol way)
+IsAscii-mechanism_symbol (mechanisms.Scram version plus) = IsAscii-mechanism_of version plus
+IsAscii-mechanism_symbol mechanisms.Plain = IsAscii-from_is_ascii (codes "PLAIN") refl
+IsAscii-mechanism_symbol mechanisms.Anonymous = IsAscii-from_is_ascii (codes "ANONYMOUS") refl
+IsAscii-mechanism_symbol mechanisms.External = IsAscii-from_is_ascii (codes "EXTERNAL") refl
 
 -- a reply that is written is that of the machine
 pub written_answer : {S : Type 0} (machine : S → List ℕ → SaslFrame → SaslFrame → S → Type 0) (state moved next : S)

@@ -1,4 +1,4 @@
-use Rattle.std.proofs.Common.{ap, ◌∙◌, map, subst, false}
+use Rattle.std.proofs.Common.{ap, ◌∙◌, map, subst}
 use Rattle.fe2o3_scram.specs.ClientFirst.{default_rules}
 use Rattle.fe2o3_scram.specs.Credentials.{serving, with_rights}
 use Rattle.fe2o3_scram.specs.MockSettings.{mocking}

@@ -1,5 +1,4 @@
 -- The additional data by which a body rejects a login.
-use Rattle.std.proofs.Common.{rules}
 use Rattle.fe2o3_sasl_negotiation.proofs.lemmas.RefusedBodyLemmas.{copied_refusal, unread_rejects_none}
 use Rattle.fe2o3_sasl_negotiation.proofs.refusals.refusal_of.Goals as goal
 

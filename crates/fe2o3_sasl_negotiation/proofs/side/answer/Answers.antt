@@ -1,5 +1,4 @@
 -- The answer to a frame that is read without its extended header.
-use Rattle.std.proofs.Common.{OnErr, Ok, Err}
 use Rattle.fe2o3_sasl_negotiation.proofs.lemmas.ExtendedLemmas.{asks_in_place, costs_in_place}
 use Rattle.fe2o3_sasl_negotiation.proofs.side.answer.Goals as goal
 

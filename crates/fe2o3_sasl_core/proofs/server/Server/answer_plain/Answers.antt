@@ -1,7 +1,7 @@
 use Rattle.std.proofs.Common.{◌∙◌, Some, inl, inr, refl}
 use Rattle.fe2o3_sasl_core.specs.PlainServer.{parts_of}
 use Rattle.fe2o3_sasl_core.specs.Servers.{UserAuthenticated, plain_by_settings, settings_in}
-use Rattle.fe2o3_sasl_core.specs.declared.server.ways.Way.TheVariants as ways
+use Rattle.fe2o3_sasl_core.specs.declared.mechanism.Mechanism.TheVariants as mechanisms
 use Rattle.fe2o3_sasl_core.proofs.lemmas.machines.PlainServerLemmas.{cost_of_test, err_where, most_of_test, not_logged_in}
 use Rattle.fe2o3_sasl_core.proofs.server.Server.answer_plain.Goals as goal
 
@@ -26,7 +26,7 @@ returns-in_ok-copied-clause-ok c = λ kept nonce.
       (
         c.accepted.ensures.frame,
         λ i. UserAuthenticated (record {
-          way = ways.Plain;
+          way = mechanisms.Plain;
           user = Some (c.in_ok-to_string.ensures.ok i);
           acts_for = (c.in_ok-copied.ensures ∙ c.asked_identity.ensures) i;
         }),

@@ -1,5 +1,5 @@
 -- The additional data of the outcome that bytes complete.
-use Rattle.std.proofs.Common.{rules, refl, inr}
+use Rattle.std.proofs.Common.{refl, inr}
 use Rattle.fe2o3_sasl_negotiation.proofs.side.ConnectionSide.peek_refusal.Goals as goal
 
 pub returns-in-Ok-None-clause-refusal : goal.returns-in-Ok-None-clause-refusal
