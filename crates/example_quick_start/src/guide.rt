@@ -51,8 +51,12 @@ pub fn bound_client(
         min_iterations: 4096,
         max_iterations: 100_000,
     };
-    let policy = ClientPolicy::scram_from(ScramVersion::Sha256).with_iteration_limits(limits);
-    let policy = policy.bind_channel(channel).must_bind();
+    let policy = ClientPolicy {
+        limits,
+        channel: Some(channel),
+        must_bind: true,
+        ..ClientPolicy::scram_from(ScramVersion::Sha256)
+    };
     let (user, secret) = (
         user.to_string(alloc)?,
         ClientSecret::Password(Password::Typed(password)),

@@ -95,15 +95,15 @@ pub fn answer_paragraph<'a>(row: &mut Row<'a>, lines: &'a str) {
 fn policy_of(row: &mut Row<'_>, mechanism: &str) -> Option<ClientPolicy> {
     let mut policy = ClientPolicy::scram_from(ScramVersion::from_mechanism(mechanism)?);
     if row.takes("plain") {
-        policy = policy.allow_plain();
+        policy.plain = true;
     }
     if row.takes("channel") {
         let (kind, data) = (ChannelKind::from_name(row.word())?, row.digits());
         let cbind_data = ChannelData::new(&data).ok()?;
-        policy = policy.bind_channel(ChannelBinding { kind, cbind_data });
+        policy.channel = Some(ChannelBinding { kind, cbind_data });
     }
     if row.takes("must-bind") {
-        policy = policy.must_bind();
+        policy.must_bind = true;
     }
     Some(policy)
 }

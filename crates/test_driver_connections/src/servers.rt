@@ -116,7 +116,7 @@ impl Served {
         let acts_for = text_after(row, "for");
         let saved = match &named {
             Some(_) => SavedStage::Authenticated(SavedLogin {
-                mechanism: Mechanism::ScramSha256,
+                mechanism: Mechanism::Scram(ScramVersion::Sha256, false),
                 user: named.as_deref(),
                 acts_for: acts_for.as_deref(),
             }),

@@ -145,13 +145,13 @@ fn policy(row: &mut Row<'_>) -> ClientPolicy {
     let mut policy = ClientPolicy::scram_from(version(row));
     for _ in 0..6 {
         if !row.is_over() {
-            policy = match row.word() {
-                "or_external" => policy.or_external(),
-                "allow_plain" => policy.allow_plain(),
-                "or_anonymous" => policy.or_anonymous(),
-                "must_bind" => policy.must_bind(),
-                _ => channel(row).map_or(policy, |channel| policy.bind_channel(channel)),
-            };
+            match row.word() {
+                "or_external" => policy.external = true,
+                "allow_plain" => policy.plain = true,
+                "or_anonymous" => policy.anonymous = true,
+                "must_bind" => policy.must_bind = true,
+                _ => policy.channel = channel(row),
+            }
         }
     }
     policy
