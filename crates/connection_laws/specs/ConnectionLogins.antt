@@ -78,15 +78,15 @@ MessagesLogIn settings (mechanisms.Scram version plus) nonce response texts logi
 pub record CompletesLogin (settings : ServerSettings) (events : List Given) (login : ServerLogin) : Type 0 where
   pub init : Given
   pub later : List Given
-  pub way : Mechanism
+  pub mechanism : Mechanism
   pub response : Option (List ℕ)
   pub hostname : Option (List ℕ)
   pub texts : List (List ℕ)
   pub all : events ≡ init ∷ later
-  pub begins : SpellsBody init.body (Ok (frames.Init (mechanism_symbol way) response hostname))
-  pub offered : is_offered_by settings way ≡ true
+  pub begins : SpellsBody init.body (Ok (frames.Init (mechanism_symbol mechanism) response hostname))
+  pub offered : is_offered_by settings mechanism ≡ true
   pub goes_on : AreResponses later texts
-  pub completes : MessagesLogIn settings way init.nonce response texts login
+  pub completes : MessagesLogIn settings mechanism init.nonce response texts login
 
 -- ---- who has logged in
 
@@ -155,4 +155,4 @@ pub record HasScramUser (settings : ServerSettings) (version : ScramVersion) (pl
 abbrev pub ScramUsersMeetRecords : Type 0
 ScramUsersMeetRecords = (settings : ServerSettings) (server : ServerBy sasl_machine (new_server settings))
     (login : ServerLogin) (version : ScramVersion) (plus : Bool) → logged_in_at server.last.state.stage ≡ Some login
-    → login.way ≡ mechanisms.Scram version plus → HasScramUser settings version plus server.connection.events login
+    → login.mechanism ≡ mechanisms.Scram version plus → HasScramUser settings version plus server.connection.events login

@@ -8,7 +8,7 @@ use Rattle.fe2o3_scram.specs.ServerFirst.{OpenExchange}
 use Rattle.fe2o3_scram.specs.declared.hmac.ScramVersion.{ScramVersion}
 use Rattle.fe2o3_sasl_core.specs.ExternalServer.{AsksFor}
 use Rattle.fe2o3_sasl_core.specs.PlainServer.{PlainParts, asked_identity}
-use Rattle.fe2o3_sasl_core.specs.Servers.{ExchangeOpen, MessageLetsIn, ResponseAsked, ServerAt, ServerLogin, ServerSettings, ServerStage, SignatureShown, UserAuthenticated, asked_way, exchange_login, exchange_server, is_response_asked, logged_in_at, sasl_machine}
+use Rattle.fe2o3_sasl_core.specs.Servers.{ExchangeOpen, MessageLetsIn, ResponseAsked, ServerAt, ServerLogin, ServerSettings, ServerStage, SignatureShown, UserAuthenticated, asked_mechanism, exchange_login, exchange_server, is_response_asked, logged_in_at, sasl_machine}
 use Rattle.fe2o3_sasl_core.specs.declared.mechanism.Mechanism.{Mechanism}
 use Rattle.fe2o3_sasl_core.specs.declared.mechanism.Mechanism.TheVariants as mechanisms
 
@@ -17,12 +17,12 @@ use Rattle.fe2o3_sasl_core.specs.declared.mechanism.Mechanism.TheVariants as mec
 -- that of the user of a message whose password and right are tested (RFC 4616, section 2). By SCRAM none.
 abbrev pub InitCompletes : ServerSettings → Mechanism → Option (List ℕ) → ServerLogin → Type 0
 InitCompletes settings mechanisms.Anonymous response login =
-    login ≡ record { way = mechanisms.Anonymous; user = None; acts_for = None }
+    login ≡ record { mechanism = mechanisms.Anonymous; user = None; acts_for = None }
 InitCompletes settings mechanisms.External response login = AsksFor settings.external response
-    × (login ≡ record { way = mechanisms.External; user = Some settings.external; acts_for = None })
+    × (login ≡ record { mechanism = mechanisms.External; user = Some settings.external; acts_for = None })
 InitCompletes settings mechanisms.Plain (Some text) login = (parts : PlainParts) × MessageLetsIn settings text parts
-    × (login ≡ record { way = mechanisms.Plain; user = Some parts.user; acts_for = asked_identity parts })
-InitCompletes settings way response login = ⊥
+    × (login ≡ record { mechanism = mechanisms.Plain; user = Some parts.user; acts_for = asked_identity parts })
+InitCompletes settings mechanism response login = ⊥
 
 -- the client-final message meets the open exchange (RFC 5802, section 5): its proof meets the stored key, and its user has
 -- the right to the identity
@@ -33,7 +33,7 @@ MeetsExchange settings version plus exchange text = (message : List ℕ)
 -- a response completes a login: as the initial response of an init that was asked for it; as the client-final message of the
 -- open exchange, if the signature goes with the outcome; or as the empty response to a signature in a challenge
 abbrev pub ResponseCompletes : ServerSettings → ServerStage → List ℕ → ServerLogin → Type 0
-ResponseCompletes settings (ResponseAsked way nonce) text login = InitCompletes settings way (Some text) login
+ResponseCompletes settings (ResponseAsked mechanism nonce) text login = InitCompletes settings mechanism (Some text) login
 ResponseCompletes settings (ExchangeOpen version plus exchange) text login = (settings.extra.signature ≡ false)
     × MeetsExchange settings version plus exchange text × (login ≡ exchange_login version plus exchange)
 ResponseCompletes settings (SignatureShown shown) text login = (text ≡ []) × (login ≡ shown)
@@ -43,7 +43,7 @@ ResponseCompletes settings stage text login = ⊥
 -- response
 abbrev pub FrameCompletes : ServerSettings → ServerStage → SaslFrame → ServerLogin → Type 0
 FrameCompletes settings stage (frames.Init name response hostname) login = (is_response_asked stage ≡ false)
-    × ((way : Mechanism) × (asked_way settings name ≡ Some way) × InitCompletes settings way response login)
+    × ((mechanism : Mechanism) × (asked_mechanism settings name ≡ Some mechanism) × InitCompletes settings mechanism response login)
 FrameCompletes settings stage (frames.Response text) login = ResponseCompletes settings stage text login
 FrameCompletes settings stage frame login = ⊥
 

@@ -71,7 +71,7 @@ signed_login stage = logged_in_at stage
 abbrev pub SignedLoginsAreAccepted : Type 0
 SignedLoginsAreAccepted = (settings : ServerSettings) (server : ServerBy sasl_machine (new_server settings))
     (login : ServerLogin) (version : ScramVersion) (plus : Bool)
-    → signed_login server.last.state.stage ≡ Some login → login.way ≡ mechanisms.Scram version plus
+    → signed_login server.last.state.stage ≡ Some login → login.mechanism ≡ mechanisms.Scram version plus
     → (accepted : Accepted) × AcceptsScram settings version plus server.connection.events accepted
     × (login.user ≡ Some accepted.challenge.client.user) × (login.acts_for ≡ accepted.challenge.client.header.acts_for)
 

@@ -88,6 +88,6 @@ UnknownNamesCostAlike = (server : ServerAt) (mock : MockChoice) (name : List ℕ
 -- a user who has logged in by PLAIN has a record: mock records log nobody in by PLAIN
 abbrev pub PlainUsersHaveRecords : Type 0
 PlainUsersHaveRecords = (settings : ServerSettings) (server : ServerBy sasl_machine (new_server settings))
-    (login : ServerLogin) → logged_in_at server.last.state.stage ≡ Some login → login.way ≡ mechanisms.Plain
+    (login : ServerLogin) → logged_in_at server.last.state.stage ≡ Some login → login.mechanism ≡ mechanisms.Plain
     → (user : List ℕ) × (stored : Record) × (login.user ≡ Some user)
     × (record_at (provider_for settings.plain_version settings.records).records user ≡ Some stored)

@@ -62,7 +62,7 @@ one_if flag = cond flag 1 0
 
 -- how many challenges are left at a stage: that to an initial response that is due, and one for a signature
 abbrev pub stage_left : Bool → ServerStage → ℕ
-stage_left signs (ResponseAsked way nonce) = one_if signs + 1
+stage_left signs (ResponseAsked mechanism nonce) = one_if signs + 1
 stage_left signs (ExchangeOpen version plus exchange) = one_if signs
 stage_left signs stage = 0
 

@@ -20,7 +20,7 @@ use Rattle.fe2o3_sasl_core.specs.declared.server.saved.SavedStage.TheVariants as
 -- its initial response; a challenge of SCRAM is open; a signature was sent in a challenge; or a user has logged in
 pub data KeptStage : Type 0 where
   KeptNothing : KeptStage
-  KeptAsked : (way : Mechanism) → (nonce : List ℕ) → KeptStage
+  KeptAsked : (mechanism : Mechanism) → (nonce : List ℕ) → KeptStage
   KeptOpen : (version : ScramVersion) → (challenge : ServerChallenge) → KeptStage
   KeptSignature : (login : ServerLogin) → KeptStage
   KeptLogin : (login : ServerLogin) → KeptStage
@@ -28,7 +28,7 @@ pub data KeptStage : Type 0 where
 -- what is saved of a stage: all but the record of an open exchange. Whether its mechanism has -PLUS its challenge says
 abbrev pub kept_stage : ServerStage → KeptStage
 kept_stage NotStarted = KeptNothing
-kept_stage (ResponseAsked way nonce) = KeptAsked way nonce
+kept_stage (ResponseAsked mechanism nonce) = KeptAsked mechanism nonce
 kept_stage (ExchangeOpen version plus exchange) = KeptOpen version exchange.challenge
 kept_stage (SignatureShown login) = KeptSignature login
 kept_stage (UserAuthenticated login) = KeptLogin login
@@ -60,15 +60,15 @@ exchange_now settings version challenge = record {
 }
 
 -- SCRAM by which a challenge was sent: with -PLUS if the client binds a channel (RFC 5802, section 6)
-abbrev pub challenge_way : ScramVersion → ServerChallenge → Mechanism
-challenge_way version challenge = mechanisms.Scram version (is_required challenge.header.flag)
+abbrev pub challenge_mechanism : ScramVersion → ServerChallenge → Mechanism
+challenge_mechanism version challenge = mechanisms.Scram version (is_required challenge.header.flag)
 
 -- the stage that is restored: an init or a challenge of a mechanism that the server does not offer is dropped
 abbrev pub restored_stage : ServerSettings → KeptStage → ServerStage
 restored_stage settings KeptNothing = NotStarted
-restored_stage settings (KeptAsked way nonce) =
-    if is_offered_by settings way then ResponseAsked way nonce else NotStarted
-restored_stage settings (KeptOpen version challenge) = if is_offered_by settings (challenge_way version challenge)
+restored_stage settings (KeptAsked mechanism nonce) =
+    if is_offered_by settings mechanism then ResponseAsked mechanism nonce else NotStarted
+restored_stage settings (KeptOpen version challenge) = if is_offered_by settings (challenge_mechanism version challenge)
     then ExchangeOpen version (is_required challenge.header.flag) (exchange_now settings version challenge)
     else NotStarted
 restored_stage settings (KeptSignature login) = SignatureShown login
@@ -76,14 +76,14 @@ restored_stage settings (KeptLogin login) = UserAuthenticated login
 
 -- how many HMAC values this takes: those of a look-up for an open challenge
 abbrev pub restored_hmacs : ServerSettings → KeptStage → ℕ
-restored_hmacs settings (KeptOpen version challenge) = if is_offered_by settings (challenge_way version challenge)
+restored_hmacs settings (KeptOpen version challenge) = if is_offered_by settings (challenge_mechanism version challenge)
     then (provider_by settings version (is_required challenge.header.flag)).look_up_cost else 0
 restored_hmacs settings stage = 0
 
 -- a stage is saved with texts, which are copied when it is restored
 abbrev pub SavesTexts : KeptStage → Type 0
 SavesTexts KeptNothing = ⊥
-SavesTexts (KeptAsked way nonce) = ⊥
+SavesTexts (KeptAsked mechanism nonce) = ⊥
 SavesTexts stage = Unit {0}
 
 -- a stage that is saved and restored at a server with these settings is as before
@@ -102,7 +102,7 @@ RestoredStagesAreEqual = (settings : ServerSettings) → IsRestored settings Not
 -- who has logged in
 abbrev pub saved_login : SavedLogin → ServerLogin
 saved_login login = record {
-  way = login.mechanism;
+  mechanism = login.mechanism;
   user = shown login.user;
   acts_for = shown login.acts_for;
 }

@@ -102,7 +102,7 @@ offer_order = mechanisms.Scram Sha512 true ∷ mechanisms.Scram Sha256 true ∷ 
 -- whether a server offers one of these mechanisms, and one of all
 abbrev pub offers_among : ServerSettings → List Mechanism → Bool
 offers_among settings [] = false
-offers_among settings (way ∷ others) = is_offered_by settings way || offers_among settings others
+offers_among settings (mechanism ∷ others) = is_offered_by settings mechanism || offers_among settings others
 
 abbrev pub offers_any : ServerSettings → Bool
 offers_any settings = offers_among settings offer_order
@@ -114,8 +114,8 @@ name_where_offered false name = []
 
 abbrev pub with_offered : ServerSettings → List (List ℕ) → List Mechanism → List (List ℕ)
 with_offered settings names [] = names
-with_offered settings names (way ∷ others) =
-    with_offered settings (names ++ name_where_offered (is_offered_by settings way) (mechanism_symbol way)) others
+with_offered settings names (mechanism ∷ others) =
+    with_offered settings (names ++ name_where_offered (is_offered_by settings mechanism) (mechanism_symbol mechanism)) others
 
 -- the names that a server offers (AMQP 1.0, part 5, section 5.3.3.1)
 abbrev pub sasl_names : ServerSettings → List (List ℕ)
@@ -123,16 +123,16 @@ sasl_names settings = with_offered settings [] offer_order
 
 -- whether this name asks for a mechanism, which is offered
 abbrev pub is_asked_by : ServerSettings → List ℕ → Mechanism → Bool
-is_asked_by settings name way = is_offered_by settings way && pointwise nat_eq name (mechanism_symbol way)
+is_asked_by settings name mechanism = is_offered_by settings mechanism && pointwise nat_eq name (mechanism_symbol mechanism)
 
 -- the mechanism that a name asks for, of these and of all, if it is offered
 abbrev pub asked_among : ServerSettings → List ℕ → List Mechanism → Option Mechanism
 asked_among settings name [] = None
-asked_among settings name (way ∷ others) =
-    if is_asked_by settings name way then Some way else asked_among settings name others
+asked_among settings name (mechanism ∷ others) =
+    if is_asked_by settings name mechanism then Some mechanism else asked_among settings name others
 
-abbrev pub asked_way : ServerSettings → List ℕ → Option Mechanism
-asked_way settings name = asked_among settings name offer_order
+abbrev pub asked_mechanism : ServerSettings → List ℕ → Option Mechanism
+asked_mechanism settings name = asked_among settings name offer_order
 
 -- what SCRAM accepts in a client's messages: with -PLUS the channel of the connection, and otherwise none; and `y,,` only
 -- where no mechanism with -PLUS is offered (RFC 5802, section 6). Beside one with -PLUS it rejects what is no extension, so
@@ -164,7 +164,7 @@ plain_by_settings settings = record {
 
 -- who has logged in: by this mechanism, as this user (nobody by ANONYMOUS), for this identity, or for itself
 pub record ServerLogin : Type 0 where
-  pub way : Mechanism
+  pub mechanism : Mechanism
   pub user : Option (List ℕ)
   pub acts_for : Option (List ℕ)
 
@@ -172,7 +172,7 @@ pub record ServerLogin : Type 0 where
 -- is open; the signature of an accepted exchange was sent in a challenge; or a user has logged in
 pub data ServerStage : Type 0 where
   NotStarted : ServerStage
-  ResponseAsked : (way : Mechanism) → (nonce : List ℕ) → ServerStage
+  ResponseAsked : (mechanism : Mechanism) → (nonce : List ℕ) → ServerStage
   ExchangeOpen : (version : ScramVersion) → (plus : Bool) → (exchange : OpenExchange) → ServerStage
   SignatureShown : (login : ServerLogin) → ServerStage
   UserAuthenticated : (login : ServerLogin) → ServerStage
@@ -238,26 +238,26 @@ MessageLetsIn settings text parts = PlainLogsIn (plain_by_settings settings) tex
 abbrev pub PlainInitAnswers : ServerSettings → ServerStage → List ℕ → SaslFrame → ServerStage → Type 0
 PlainInitAnswers settings kept text reply next =
     ((parts : PlainParts) × MessageLetsIn settings text parts × StageAccepts
-    (record { way = mechanisms.Plain; user = Some parts.user; acts_for = asked_identity parts }) reply next)
+    (record { mechanism = mechanisms.Plain; user = Some parts.user; acts_for = asked_identity parts }) reply next)
     ⊎ (((parts : PlainParts) → ¬ MessageLetsIn settings text parts) × StageRejects kept reply next)
 
 -- an init of EXTERNAL (RFC 4422, appendix A)
 abbrev pub ExternalInitAnswers : ServerSettings → ServerStage → Option (List ℕ) → SaslFrame → ServerStage → Type 0
 ExternalInitAnswers settings kept response reply next =
     (AsksFor settings.external response × StageAccepts
-    (record { way = mechanisms.External; user = Some settings.external; acts_for = None }) reply next)
+    (record { mechanism = mechanisms.External; user = Some settings.external; acts_for = None }) reply next)
     ⊎ (¬ AsksFor settings.external response × StageRejects kept reply next)
 
 -- an init without an initial response, of a mechanism that needs one: it is asked for it by an empty challenge (RFC 4422,
 -- section 5), if the server does so, and otherwise rejected
 abbrev pub AsksForResponse : Bool → Mechanism → ServerStage → List ℕ → SaslFrame → ServerStage → Type 0
-AsksForResponse true way kept nonce reply next = (reply ≡ frames.Challenge []) × (next ≡ ResponseAsked way nonce)
-AsksForResponse false way kept nonce reply next = StageRejects kept reply next
+AsksForResponse true mechanism kept nonce reply next = (reply ≡ frames.Challenge []) × (next ≡ ResponseAsked mechanism nonce)
+AsksForResponse false mechanism kept nonce reply next = StageRejects kept reply next
 
 -- an init of this mechanism, which is offered, with this initial response
 abbrev pub InitAnswers : ServerSettings → Mechanism → ServerStage → List ℕ → Option (List ℕ) → SaslFrame → ServerStage → Type 0
 InitAnswers settings mechanisms.Anonymous kept nonce response reply next =
-    StageAccepts (record { way = mechanisms.Anonymous; user = None; acts_for = None }) reply next
+    StageAccepts (record { mechanism = mechanisms.Anonymous; user = None; acts_for = None }) reply next
 InitAnswers settings mechanisms.External kept nonce response reply next =
     ExternalInitAnswers settings kept response reply next
 InitAnswers settings mechanisms.Plain kept nonce None reply next =
@@ -270,20 +270,20 @@ InitAnswers settings (mechanisms.Scram version plus) kept nonce (Some text) repl
 
 -- whether a server waits for the response that completes an init
 abbrev pub is_response_asked : ServerStage → Bool
-is_response_asked (ResponseAsked way nonce) = true
+is_response_asked (ResponseAsked mechanism nonce) = true
 is_response_asked stage = false
 
 -- an init: it is rejected where the server waits for a response, and otherwise answered by the mechanism that it asks for
 abbrev pub InitWhere : Bool → ServerSettings → ServerStage → List ℕ → List ℕ → Option (List ℕ) → SaslFrame → ServerStage
     → Type 0
 InitWhere true settings stage nonce name response reply next = StageRejects NotStarted reply next
-InitWhere false settings stage nonce name response reply next = MatchOption (asked_way settings name)
-    (StageRejects stage reply next) (λ way. InitAnswers settings way stage nonce response reply next)
+InitWhere false settings stage nonce name response reply next = MatchOption (asked_mechanism settings name)
+    (StageRejects stage reply next) (λ mechanism. InitAnswers settings mechanism stage nonce response reply next)
 
 -- who an accepted exchange logs in
 abbrev pub exchange_login : ScramVersion → Bool → OpenExchange → ServerLogin
 exchange_login version plus exchange = record {
-  way = mechanisms.Scram version plus;
+  mechanism = mechanisms.Scram version plus;
   user = Some exchange.challenge.user;
   acts_for = exchange.challenge.header.acts_for;
 }
@@ -316,8 +316,8 @@ ConfirmsSignature login (byte ∷ text) reply next = StageRejects NotStarted rep
 -- a response: it completes the init that was asked for it, with the nonce of that init; is the client-final message of the
 -- open exchange (RFC 5802, section 5); or confirms a signature
 abbrev pub ResponseAnswers : ServerSettings → ServerStage → List ℕ → SaslFrame → ServerStage → Type 0
-ResponseAnswers settings (ResponseAsked way nonce) text reply next =
-    InitAnswers settings way NotStarted nonce (Some text) reply next
+ResponseAnswers settings (ResponseAsked mechanism nonce) text reply next =
+    InitAnswers settings mechanism NotStarted nonce (Some text) reply next
 ResponseAnswers settings (ExchangeOpen version plus exchange) text reply next =
     (answer : Result (List ℕ) ServerScramErrorKind)
     × AnswersClientFinal (exchange_server settings version plus exchange) text answer
@@ -353,8 +353,8 @@ InitRejects settings (mechanisms.Scram version plus) (Some text) reason =
 -- an init
 abbrev pub InitWhereRejects : Bool → ServerSettings → List ℕ → Option (List ℕ) → Rejection → Type 0
 InitWhereRejects true settings name response reason = reason ≡ reasons.UnexpectedInit
-InitWhereRejects false settings name response reason = MatchOption (asked_way settings name)
-    (reason ≡ reasons.MechanismNotOffered) (λ way. InitRejects settings way response reason)
+InitWhereRejects false settings name response reason = MatchOption (asked_mechanism settings name)
+    (reason ≡ reasons.MechanismNotOffered) (λ mechanism. InitRejects settings mechanism response reason)
 
 -- the client-final message of an exchange
 abbrev pub FinalRejects : ServerSettings → ScramVersion → Bool → OpenExchange → List ℕ → Rejection → Type 0
@@ -364,7 +364,7 @@ FinalRejects settings version plus exchange = FinalRejected (known_for settings.
 
 -- a response
 abbrev pub ResponseRejects : ServerSettings → ServerStage → List ℕ → Rejection → Type 0
-ResponseRejects settings (ResponseAsked way nonce) text reason = InitRejects settings way (Some text) reason
+ResponseRejects settings (ResponseAsked mechanism nonce) text reason = InitRejects settings mechanism (Some text) reason
 ResponseRejects settings (ExchangeOpen version plus exchange) text reason =
     FinalRejects settings version plus exchange text reason
 ResponseRejects settings stage text reason = reason ≡ reasons.UnexpectedResponse
@@ -385,11 +385,11 @@ InitAllocates settings mechanisms.External response = AsksFor settings.external 
 InitAllocates settings mechanisms.Plain (Some text) =
     PreparesPassword (plain_by_settings settings) text ⊎ ((parts : PlainParts) × MessageLetsIn settings text parts)
 InitAllocates settings (mechanisms.Scram version plus) (Some text) = ReachesChallenge (provider_by settings version plus) text
-InitAllocates settings way response = ⊥
+InitAllocates settings mechanism response = ⊥
 
 -- a response
 abbrev pub ResponseAllocates : ServerSettings → ServerStage → List ℕ → Type 0
-ResponseAllocates settings (ResponseAsked way nonce) text = InitAllocates settings way (Some text)
+ResponseAllocates settings (ResponseAsked mechanism nonce) text = InitAllocates settings mechanism (Some text)
 ResponseAllocates settings (ExchangeOpen version plus exchange) text = ReachesBase64
     (expected_header (rules_by plus settings.rules).channels exchange.challenge.header) exchange.challenge.nonce text
 ResponseAllocates settings stage text = ⊥
@@ -408,16 +408,16 @@ init_hmacs settings (mechanisms.Scram version plus) (Some text) n = let provider
     acceptor_hmacs (ScramAcceptor provider Initial)
     (frames.Init (server_mechanism provider.version provider.rules) (Some text) None) n
 init_hmacs settings mechanisms.Plain (Some text) n = plain_hmacs (plain_by_settings settings) text n
-init_hmacs settings way response n = n ≡ 0
+init_hmacs settings mechanism response n = n ≡ 0
 
 abbrev pub init_where_hmacs : Bool → ServerSettings → List ℕ → Option (List ℕ) → ℕ → Type 0
 init_where_hmacs true settings name response n = n ≡ 0
 init_where_hmacs false settings name response n =
-    MatchOption (asked_way settings name) (n ≡ 0) (λ way. init_hmacs settings way response n)
+    MatchOption (asked_mechanism settings name) (n ≡ 0) (λ mechanism. init_hmacs settings mechanism response n)
 
 -- a response
 abbrev pub response_hmacs : ServerSettings → ServerStage → List ℕ → ℕ → Type 0
-response_hmacs settings (ResponseAsked way nonce) text n = init_hmacs settings way (Some text) n
+response_hmacs settings (ResponseAsked mechanism nonce) text n = init_hmacs settings mechanism (Some text) n
 response_hmacs settings (ExchangeOpen version plus exchange) text n = acceptor_hmacs
     (ScramAcceptor (with_rights settings.rights (provider_by settings version plus))
     (ServerFirstSent exchange.challenge exchange.stored)) (frames.Response text) n
@@ -435,7 +435,7 @@ sasl_hmacs server frame n = n ≡ 0
 -- who has logged in
 abbrev pub server_login : LoginOf → ServerLogin
 server_login login = record {
-  way = login.way;
+  mechanism = login.mechanism;
   user = option_map string_bytes login.user;
   acts_for = option_map string_bytes login.acts_for;
 }
@@ -443,7 +443,7 @@ server_login login = record {
 -- how far the login of a value has come
 abbrev pub stage_of : Stage → ServerStage
 stage_of stages.Start = NotStarted
-stage_of (stages.Asked way nonce) = ResponseAsked way nonce
+stage_of (stages.Asked mechanism nonce) = ResponseAsked mechanism nonce
 stage_of (stages.Open version plus exchange) = ExchangeOpen version plus exchange
 stage_of (stages.Signed login) = SignatureShown (server_login login)
 stage_of (stages.Authenticated login) = UserAuthenticated (server_login login)

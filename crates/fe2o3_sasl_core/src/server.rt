@@ -113,10 +113,10 @@ impl<'a> Server<'a> {
 
     /// Returns the mechanism by which somebody has logged in, from the outcome Ok on. By ANONYMOUS it is nobody.
     pub fn mechanism(&self) -> Option<Mechanism>
-        ensures { result ≡ option_map (λ login. login.way) (logged_in_at (sasl_server self.now).stage) }
+        ensures { result ≡ option_map (λ login. login.mechanism) (logged_in_at (sasl_server self.now).stage) }
     {
         match &self.stage {
-            Stage::Authenticated(login) => Some(login.way),
+            Stage::Authenticated(login) => Some(login.mechanism),
             _ => None,
         }
     }
@@ -362,13 +362,13 @@ impl<'a> Server<'a> {
         &self,
         alloc: Global,
         names: &mut Vec<Symbol>,
-        way: Mechanism,
+        mechanism: Mechanism,
     ) -> Result<(), OutOfMemory>
         ensures { OnOk result (names.new.items
-            ≡ names.old.items ++ name_where_offered (is_offered_by (settings_in self.now) way) (mechanism_symbol way)) }
+            ≡ names.old.items ++ name_where_offered (is_offered_by (settings_in self.now) mechanism) (mechanism_symbol mechanism)) }
     {
-        if self.offers(way) {
-            names.push(symbol_of(alloc, way.name())?)?;
+        if self.offers(mechanism) {
+            names.push(symbol_of(alloc, mechanism.name())?)?;
         }
         Ok(())
     }

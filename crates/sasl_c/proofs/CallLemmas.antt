@@ -9,7 +9,7 @@ use Rattle.fe2o3_sasl_wire.specs.SaslFrames as frames
 use Rattle.fe2o3_sasl_wire.specs.SaslFrames.{SaslFrame}
 use Rattle.fe2o3_scram.specs.declared.hmac.ScramVersion.{ScramVersion}
 use Rattle.fe2o3_sasl_core.specs.MockChoices.{MockChoice}
-use Rattle.fe2o3_sasl_core.specs.SavedServers.{IsRestored, KeptStage, KeptNothing, challenge_way, exchange_now, kept_stage, record_now, restored_stage}
+use Rattle.fe2o3_sasl_core.specs.SavedServers.{IsRestored, KeptStage, KeptNothing, challenge_mechanism, exchange_now, kept_stage, record_now, restored_stage}
 use Rattle.fe2o3_sasl_core.specs.Servers.{ExchangeOpen, NotStarted, ResponseAsked, is_offered_by, ServerAt, ServerSettings, ServerStage, sasl_machine}
 use Rattle.fe2o3_sasl_core.specs.declared.mechanism.Mechanism.{Mechanism}
 use Rattle.fe2o3_sasl_core.specs.declared.mechanism.Mechanism.TheVariants as mechanisms
@@ -334,11 +334,11 @@ pub stored_now : (settings : ServerSettings) (version : ScramVersion) (plus : Bo
 unfolding IsRestored
 stored_now settings version plus exchange is = stored_where version plus (is_required exchange.challenge.header.flag) exchange
     (exchange_now settings version exchange.challenge)
-    (is_offered_by settings (challenge_way version exchange.challenge)) is
+    (is_offered_by settings (challenge_mechanism version exchange.challenge)) is
 
 module _ (settings : ServerSettings) where
-  one_init : (way : Mechanism) (response : Option (List ℕ))
-      → InitAlike settings settings.records settings.rights settings.mock settings.plain_version way response
+  one_init : (mechanism : Mechanism) (response : Option (List ℕ))
+      → InitAlike settings settings.records settings.rights settings.mock settings.plain_version mechanism response
   one_init (mechanisms.Scram version plus) (Some text) = λ client reads. refl
   one_init (mechanisms.Scram version plus) None = tt
   one_init mechanisms.Plain (Some text) = λ parts. ((λ lets. lets), λ lets. lets)
@@ -349,7 +349,7 @@ module _ (settings : ServerSettings) where
   one_response : (stage other : ServerStage) (text : List ℕ) → Looks stage other → IsRestored settings stage
       → IsRestored settings other
       → ResponseAlike settings settings.records settings.rights settings.mock settings.plain_version stage other text
-  one_response (ResponseAsked way nonce) other text looks was is = one_init way (Some text)
+  one_response (ResponseAsked mechanism nonce) other text looks was is = one_init mechanism (Some text)
   one_response (ExchangeOpen version plus exchange) (ExchangeOpen other_version other_plus other) text looks was is = (
     stored_now settings other_version other_plus other is
         ∙ (ap (λ (v : ScramVersion). record_now settings v (is_required other.challenge.header.flag) other.challenge.user) looks.0
@@ -362,7 +362,7 @@ module _ (settings : ServerSettings) where
   one_frame : (stage other : ServerStage) (frame : SaslFrame) → Looks stage other → IsRestored settings stage
       → IsRestored settings other
       → FrameAlike settings settings.records settings.rights settings.mock settings.plain_version stage other frame
-  one_frame stage other (frames.Init name response hostname) looks was is = λ way asked. one_init way response
+  one_frame stage other (frames.Init name response hostname) looks was is = λ mechanism asked. one_init mechanism response
   one_frame stage other (frames.Response text) looks was is = one_response stage other text looks was is
   one_frame stage other (frames.Mechanisms names) looks was is = tt
   one_frame stage other (frames.Challenge text) looks was is = tt

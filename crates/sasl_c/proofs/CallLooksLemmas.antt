@@ -40,7 +40,7 @@ some_record (frames.Outcome code more) before = (before, refl)
 abbrev pub Looks : ServerStage → ServerStage → Type 0
 Looks NotStarted NotStarted = Unit {0}
 Looks NotStarted (UserAuthenticated other) = other.user ≡ None
-Looks (ResponseAsked way nonce) (ResponseAsked other_way other_nonce) = (other_way ≡ way) × (other_nonce ≡ nonce)
+Looks (ResponseAsked mechanism nonce) (ResponseAsked other_mechanism other_nonce) = (other_mechanism ≡ mechanism) × (other_nonce ≡ nonce)
 Looks (ExchangeOpen version plus exchange) (ExchangeOpen other_version other_plus other) =
     (other_version ≡ version) × (other_plus ≡ plus) × (other.challenge ≡ exchange.challenge)
 Looks (SignatureShown login) (SignatureShown other) = (other.user ≡ login.user) × (other.acts_for ≡ login.acts_for)
@@ -49,7 +49,7 @@ Looks stage other = ⊥
 
 pub looks_same : (stage : ServerStage) → Looks stage stage
 looks_same NotStarted = tt
-looks_same (ResponseAsked way nonce) = (refl, refl)
+looks_same (ResponseAsked mechanism nonce) = (refl, refl)
 looks_same (ExchangeOpen version plus exchange) = (refl, refl, refl)
 looks_same (SignatureShown login) = (refl, refl)
 looks_same (UserAuthenticated login) = (refl, refl)
@@ -57,26 +57,26 @@ looks_same (UserAuthenticated login) = (refl, refl)
 pub one_asked : (stage other : ServerStage) → Looks stage other → is_response_asked other ≡ is_response_asked stage
 one_asked NotStarted NotStarted looks = refl
 one_asked NotStarted (UserAuthenticated other) looks = refl
-one_asked (ResponseAsked way nonce) (ResponseAsked other_way other_nonce) looks = refl
+one_asked (ResponseAsked mechanism nonce) (ResponseAsked other_mechanism other_nonce) looks = refl
 one_asked (ExchangeOpen version plus exchange) (ExchangeOpen other_version other_plus other) looks = refl
 one_asked (SignatureShown login) (SignatureShown other) looks = refl
 one_asked (UserAuthenticated login) (UserAuthenticated other) looks = refl
-one_asked NotStarted (ResponseAsked way nonce) looks = absurd looks
+one_asked NotStarted (ResponseAsked mechanism nonce) looks = absurd looks
 one_asked NotStarted (ExchangeOpen version plus exchange) looks = absurd looks
 one_asked NotStarted (SignatureShown login) looks = absurd looks
-one_asked (ResponseAsked way nonce) NotStarted looks = absurd looks
-one_asked (ResponseAsked way nonce) (ExchangeOpen version plus exchange) looks = absurd looks
-one_asked (ResponseAsked way nonce) (SignatureShown login) looks = absurd looks
-one_asked (ResponseAsked way nonce) (UserAuthenticated login) looks = absurd looks
+one_asked (ResponseAsked mechanism nonce) NotStarted looks = absurd looks
+one_asked (ResponseAsked mechanism nonce) (ExchangeOpen version plus exchange) looks = absurd looks
+one_asked (ResponseAsked mechanism nonce) (SignatureShown login) looks = absurd looks
+one_asked (ResponseAsked mechanism nonce) (UserAuthenticated login) looks = absurd looks
 one_asked (ExchangeOpen version plus exchange) NotStarted looks = absurd looks
-one_asked (ExchangeOpen version plus exchange) (ResponseAsked way nonce) looks = absurd looks
+one_asked (ExchangeOpen version plus exchange) (ResponseAsked mechanism nonce) looks = absurd looks
 one_asked (ExchangeOpen version plus exchange) (SignatureShown login) looks = absurd looks
 one_asked (ExchangeOpen version plus exchange) (UserAuthenticated login) looks = absurd looks
 one_asked (SignatureShown login) NotStarted looks = absurd looks
-one_asked (SignatureShown login) (ResponseAsked way nonce) looks = absurd looks
+one_asked (SignatureShown login) (ResponseAsked mechanism nonce) looks = absurd looks
 one_asked (SignatureShown login) (ExchangeOpen version plus exchange) looks = absurd looks
 one_asked (SignatureShown login) (UserAuthenticated other) looks = absurd looks
 one_asked (UserAuthenticated login) NotStarted looks = absurd looks
-one_asked (UserAuthenticated login) (ResponseAsked way nonce) looks = absurd looks
+one_asked (UserAuthenticated login) (ResponseAsked mechanism nonce) looks = absurd looks
 one_asked (UserAuthenticated login) (ExchangeOpen version plus exchange) looks = absurd looks
 one_asked (UserAuthenticated login) (SignatureShown other) looks = absurd looks

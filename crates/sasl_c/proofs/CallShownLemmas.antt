@@ -12,7 +12,7 @@ use Rattle.fe2o3_scram.specs.declared.hmac.ScramVersion.TheVariants.{Sha1, Sha25
 use Rattle.fe2o3_scram.specs.declared.scram_messages.channel_binding_flag.ChannelBindingFlag.{ChannelBindingFlag}
 use Rattle.fe2o3_scram.specs.declared.scram_messages.channel_binding_flag.ChannelBindingFlag.TheVariants.{NotSupported, ClientSupports, Required}
 use Rattle.fe2o3_sasl_core.specs.MockChoices.{MockChoice}
-use Rattle.fe2o3_sasl_core.specs.SavedServers.{IsRestored, KeptStage, KeptNothing, KeptAsked, KeptOpen, KeptSignature, KeptLogin, challenge_way, exchange_now, kept_stage, restored_stage}
+use Rattle.fe2o3_sasl_core.specs.SavedServers.{IsRestored, KeptStage, KeptNothing, KeptAsked, KeptOpen, KeptSignature, KeptLogin, challenge_mechanism, exchange_now, kept_stage, restored_stage}
 use Rattle.fe2o3_sasl_core.specs.Mechanisms.{mechanism_symbol}
 use Rattle.fe2o3_sasl_core.specs.Servers.{ExchangeOpen, NotStarted, ResponseAsked, ServerSettings, ServerStage, SignatureShown, UserAuthenticated, is_offered_by, logged_in_at}
 use Rattle.fe2o3_sasl_core.specs.declared.mechanism.Mechanism.{Mechanism}
@@ -93,12 +93,12 @@ module _ (settings : ServerSettings) (records : MultiRecords) (rights : Rights) 
   abbrev passed : ServerSettings
   passed = over records rights mock plain settings
 
-  asked_looks : (way : Mechanism) (nonce : List ℕ) (stage : ServerStage) (is : Bool)
-      → (if is then ResponseAsked way nonce else NotStarted) ≡ ResponseAsked way nonce
-      → stage ≡ (if is then ResponseAsked way nonce else NotStarted) → Looks (ResponseAsked way nonce) stage
-  asked_looks way nonce stage true was same =
-      subst (λ (s : ServerStage). Looks (ResponseAsked way nonce) s) (sym same) (refl, refl)
-  asked_looks way nonce stage false was same = absurd (cc)
+  asked_looks : (mechanism : Mechanism) (nonce : List ℕ) (stage : ServerStage) (is : Bool)
+      → (if is then ResponseAsked mechanism nonce else NotStarted) ≡ ResponseAsked mechanism nonce
+      → stage ≡ (if is then ResponseAsked mechanism nonce else NotStarted) → Looks (ResponseAsked mechanism nonce) stage
+  asked_looks mechanism nonce stage true was same =
+      subst (λ (s : ServerStage). Looks (ResponseAsked mechanism nonce) s) (sym same) (refl, refl)
+  asked_looks mechanism nonce stage false was same = absurd (cc)
 
   open_looks : (version : ScramVersion) (plus : Bool) (exchange mine other : OpenExchange) (binds : Bool)
       (stage : ServerStage) (is : Bool) → other.challenge ≡ exchange.challenge
@@ -110,13 +110,13 @@ module _ (settings : ServerSettings) (records : MultiRecords) (rights : Rights) 
       subst (λ (s : ServerStage). Looks (ExchangeOpen version plus exchange) s) (sym same) (refl, one, challenge)
   open_looks version plus exchange mine other binds stage false challenge was same = absurd (cc)
 
-  restored_asked : (way other_way : Mechanism) (nonce other_nonce : List ℕ) (stage : ServerStage) → other_way ≡ way
-      → other_nonce ≡ nonce → IsRestored settings (ResponseAsked way nonce)
-      → stage ≡ restored_stage passed (KeptAsked other_way other_nonce) → Looks (ResponseAsked way nonce) stage
+  restored_asked : (mechanism other_mechanism : Mechanism) (nonce other_nonce : List ℕ) (stage : ServerStage) → other_mechanism ≡ mechanism
+      → other_nonce ≡ nonce → IsRestored settings (ResponseAsked mechanism nonce)
+      → stage ≡ restored_stage passed (KeptAsked other_mechanism other_nonce) → Looks (ResponseAsked mechanism nonce) stage
   unfolding IsRestored
-  restored_asked way other_way nonce other_nonce stage one_of one was same =
-      let kept : KeptAsked other_way other_nonce ≡ KeptAsked way nonce = cc in
-      asked_looks way nonce stage (is_offered_by settings way) was (same ∙ ap (restored_stage passed) kept)
+  restored_asked mechanism other_mechanism nonce other_nonce stage one_of one was same =
+      let kept : KeptAsked other_mechanism other_nonce ≡ KeptAsked mechanism nonce = cc in
+      asked_looks mechanism nonce stage (is_offered_by settings mechanism) was (same ∙ ap (restored_stage passed) kept)
 
   -- the exchange that is restored for a challenge
   exchange_looks : (version other_version : ScramVersion) (plus : Bool) (exchange : OpenExchange)
@@ -130,7 +130,7 @@ module _ (settings : ServerSettings) (records : MultiRecords) (rights : Rights) 
       let now : stage ≡ restored_stage passed (KeptOpen version exchange.challenge) = same ∙ ap (restored_stage passed) kept in
       open_looks version plus exchange (exchange_now settings version exchange.challenge)
       (exchange_now passed version exchange.challenge) (is_required exchange.challenge.header.flag) stage
-      (is_offered_by settings (challenge_way version exchange.challenge)) refl was now
+      (is_offered_by settings (challenge_mechanism version exchange.challenge)) refl was now
 
   -- the stage that a struct restores looks like the one that it was written for
   pub restored_looks : (scram : ScramStruct) (stage other : ServerStage) (kept : KeptStage)
@@ -139,7 +139,7 @@ module _ (settings : ServerSettings) (records : MultiRecords) (rights : Rights) 
       → Looks stage other
   restored_looks scram NotStarted other KeptNothing out was written shows too same =
       subst (λ (s : ServerStage). Looks NotStarted s) (sym same) tt
-  restored_looks scram NotStarted other (KeptAsked way nonce) out was written shows too same =
+  restored_looks scram NotStarted other (KeptAsked mechanism nonce) out was written shows too same =
       let zero : scram.state ≡ 0 = ap (λ (s : ScramStruct). s.state) written in
       let five : scram.state ≡ 5 = too.0 in absurd (omega (arith, zero, five))
   restored_looks scram NotStarted other (KeptOpen version challenge) out was written shows too same =
@@ -151,23 +151,23 @@ module _ (settings : ServerSettings) (records : MultiRecords) (rights : Rights) 
   restored_looks scram NotStarted other (KeptLogin login) out was written shows too same =
       let zero : scram.state ≡ 0 = ap (λ (s : ScramStruct). s.state) written in
       subst (λ (s : ServerStage). Looks NotStarted s) (sym same) (no_user scram login.user login.acts_for zero too)
-  restored_looks scram (ResponseAsked way nonce) other KeptNothing out was written shows too same =
-      absurd (too.2 way nonce shows)
-  restored_looks scram (ResponseAsked way nonce) other (KeptAsked other_way other_nonce) out was written shows too same =
-      restored_asked way other_way nonce other_nonce other (one_mechanism other_way way (too.4 ∙ sym shows.4))
+  restored_looks scram (ResponseAsked mechanism nonce) other KeptNothing out was written shows too same =
+      absurd (too.2 mechanism nonce shows)
+  restored_looks scram (ResponseAsked mechanism nonce) other (KeptAsked other_mechanism other_nonce) out was written shows too same =
+      restored_asked mechanism other_mechanism nonce other_nonce other (one_mechanism other_mechanism mechanism (too.4 ∙ sym shows.4))
       (too.2 ∙ sym shows.2) was same
-  restored_looks scram (ResponseAsked way nonce) other (KeptOpen version challenge) out was written shows too same =
+  restored_looks scram (ResponseAsked mechanism nonce) other (KeptOpen version challenge) out was written shows too same =
       absurd (not_five challenge.header.flag (sym too.1.0 ∙ shows.0))
-  restored_looks scram (ResponseAsked way nonce) other (KeptSignature login) out was written shows too same =
+  restored_looks scram (ResponseAsked mechanism nonce) other (KeptSignature login) out was written shows too same =
       let five : scram.state ≡ 5 = shows.0 in
       let four : scram.state ≡ 4 = signed_state scram login.user login.acts_for too in absurd (omega (arith, five, four))
-  restored_looks scram (ResponseAsked way nonce) other (KeptLogin login) out was written shows too same =
+  restored_looks scram (ResponseAsked mechanism nonce) other (KeptLogin login) out was written shows too same =
       let five : scram.state ≡ 5 = shows.0 in
       absurd (not_user scram login.user login.acts_for (λ zero. absurd (omega (arith, five, zero)))
       (λ two. absurd (omega (arith, five, two))) too)
   restored_looks scram (ExchangeOpen version plus exchange) other KeptNothing out was written shows too same =
       absurd (too.0 version exchange.challenge shows)
-  restored_looks scram (ExchangeOpen version plus exchange) other (KeptAsked way nonce) out was written shows too same =
+  restored_looks scram (ExchangeOpen version plus exchange) other (KeptAsked mechanism nonce) out was written shows too same =
       absurd (not_five exchange.challenge.header.flag (sym shows.1.0 ∙ too.0))
   restored_looks scram (ExchangeOpen version plus exchange) other (KeptOpen other_version challenge) out was written shows too
       same =
@@ -186,7 +186,7 @@ module _ (settings : ServerSettings) (records : MultiRecords) (rights : Rights) 
       (λ two. not_two exchange.challenge.header.flag (sym shows.1.0 ∙ two)) too)
   restored_looks scram (SignatureShown login) other KeptNothing out was written shows too same =
       absurd (some_signed scram login.user login.acts_for shows too.1)
-  restored_looks scram (SignatureShown login) other (KeptAsked way nonce) out was written shows too same =
+  restored_looks scram (SignatureShown login) other (KeptAsked mechanism nonce) out was written shows too same =
       let four : scram.state ≡ 4 = signed_state scram login.user login.acts_for shows in
       let five : scram.state ≡ 5 = too.0 in absurd (omega (arith, four, five))
   restored_looks scram (SignatureShown login) other (KeptOpen version challenge) out was written shows too same =
@@ -228,9 +228,9 @@ pub shown_alike : (scram : ScramStruct) (stage other : ServerStage) → Looks st
 shown_alike scram NotStarted NotStarted looks shows = shows
 shown_alike scram NotStarted (UserAuthenticated other) looks shows =
     keeps_nothing scram KeptNothing refl (zero_state scram other.user other.acts_for looks shows)
-shown_alike scram (ResponseAsked way nonce) (ResponseAsked other_way other_nonce) looks shows =
-    let one : KeptAsked other_way other_nonce ≡ KeptAsked way nonce =
-    ap (λ (w : Mechanism). KeptAsked w other_nonce) looks.0 ∙ ap (KeptAsked way) looks.1 in
+shown_alike scram (ResponseAsked mechanism nonce) (ResponseAsked other_mechanism other_nonce) looks shows =
+    let one : KeptAsked other_mechanism other_nonce ≡ KeptAsked mechanism nonce =
+    ap (λ (w : Mechanism). KeptAsked w other_nonce) looks.0 ∙ ap (KeptAsked mechanism) looks.1 in
     subst (ShowsStage scram) one shows
 shown_alike scram (ExchangeOpen version plus exchange) (ExchangeOpen other_version other_plus other) looks shows =
     let one : KeptOpen other_version other.challenge ≡ KeptOpen version exchange.challenge =
@@ -240,23 +240,23 @@ shown_alike scram (SignatureShown login) (SignatureShown other) looks shows =
     signed_where scram login.user other.user login.acts_for other.acts_for looks.0 looks.1 shows
 shown_alike scram (UserAuthenticated login) (UserAuthenticated other) looks shows =
     shown_where scram login.user other.user login.acts_for other.acts_for looks.0 looks.1 shows
-shown_alike scram NotStarted (ResponseAsked way nonce) looks shows = absurd looks
+shown_alike scram NotStarted (ResponseAsked mechanism nonce) looks shows = absurd looks
 shown_alike scram NotStarted (ExchangeOpen version plus exchange) looks shows = absurd looks
 shown_alike scram NotStarted (SignatureShown other) looks shows = absurd looks
-shown_alike scram (ResponseAsked way nonce) NotStarted looks shows = absurd looks
-shown_alike scram (ResponseAsked way nonce) (ExchangeOpen version plus exchange) looks shows = absurd looks
-shown_alike scram (ResponseAsked way nonce) (SignatureShown other) looks shows = absurd looks
-shown_alike scram (ResponseAsked way nonce) (UserAuthenticated other) looks shows = absurd looks
+shown_alike scram (ResponseAsked mechanism nonce) NotStarted looks shows = absurd looks
+shown_alike scram (ResponseAsked mechanism nonce) (ExchangeOpen version plus exchange) looks shows = absurd looks
+shown_alike scram (ResponseAsked mechanism nonce) (SignatureShown other) looks shows = absurd looks
+shown_alike scram (ResponseAsked mechanism nonce) (UserAuthenticated other) looks shows = absurd looks
 shown_alike scram (ExchangeOpen version plus exchange) NotStarted looks shows = absurd looks
-shown_alike scram (ExchangeOpen version plus exchange) (ResponseAsked way nonce) looks shows = absurd looks
+shown_alike scram (ExchangeOpen version plus exchange) (ResponseAsked mechanism nonce) looks shows = absurd looks
 shown_alike scram (ExchangeOpen version plus exchange) (SignatureShown other) looks shows = absurd looks
 shown_alike scram (ExchangeOpen version plus exchange) (UserAuthenticated other) looks shows = absurd looks
 shown_alike scram (SignatureShown login) NotStarted looks shows = absurd looks
-shown_alike scram (SignatureShown login) (ResponseAsked way nonce) looks shows = absurd looks
+shown_alike scram (SignatureShown login) (ResponseAsked mechanism nonce) looks shows = absurd looks
 shown_alike scram (SignatureShown login) (ExchangeOpen version plus exchange) looks shows = absurd looks
 shown_alike scram (SignatureShown login) (UserAuthenticated other) looks shows = absurd looks
 shown_alike scram (UserAuthenticated login) NotStarted looks shows = absurd looks
-shown_alike scram (UserAuthenticated login) (ResponseAsked way nonce) looks shows = absurd looks
+shown_alike scram (UserAuthenticated login) (ResponseAsked mechanism nonce) looks shows = absurd looks
 shown_alike scram (UserAuthenticated login) (ExchangeOpen version plus exchange) looks shows = absurd looks
 shown_alike scram (UserAuthenticated login) (SignatureShown other) looks shows = absurd looks
 
@@ -264,9 +264,9 @@ pub written_alike : (stage other : ServerStage) → Looks stage other
     → stage_struct (kept_stage other) ≡ stage_struct (kept_stage stage)
 written_alike NotStarted NotStarted looks = refl
 written_alike NotStarted (UserAuthenticated other) looks = fresh_where 2 other.user other.acts_for looks
-written_alike (ResponseAsked way nonce) (ResponseAsked other_way other_nonce) looks =
-    let one : KeptAsked other_way other_nonce ≡ KeptAsked way nonce =
-    ap (λ (w : Mechanism). KeptAsked w other_nonce) looks.0 ∙ ap (KeptAsked way) looks.1 in
+written_alike (ResponseAsked mechanism nonce) (ResponseAsked other_mechanism other_nonce) looks =
+    let one : KeptAsked other_mechanism other_nonce ≡ KeptAsked mechanism nonce =
+    ap (λ (w : Mechanism). KeptAsked w other_nonce) looks.0 ∙ ap (KeptAsked mechanism) looks.1 in
     ap stage_struct one
 written_alike (ExchangeOpen version plus exchange) (ExchangeOpen other_version other_plus other) looks =
     let one : KeptOpen other_version other.challenge ≡ KeptOpen version exchange.challenge =
@@ -276,22 +276,22 @@ written_alike (SignatureShown login) (SignatureShown other) looks =
     ap (λ (u : Option (List ℕ)). struct_where 4 u other.acts_for) looks.0 ∙ ap (struct_where 4 login.user) looks.1
 written_alike (UserAuthenticated login) (UserAuthenticated other) looks =
     ap (λ (u : Option (List ℕ)). struct_where 2 u other.acts_for) looks.0 ∙ ap (struct_where 2 login.user) looks.1
-written_alike NotStarted (ResponseAsked way nonce) looks = absurd looks
+written_alike NotStarted (ResponseAsked mechanism nonce) looks = absurd looks
 written_alike NotStarted (ExchangeOpen version plus exchange) looks = absurd looks
 written_alike NotStarted (SignatureShown other) looks = absurd looks
-written_alike (ResponseAsked way nonce) NotStarted looks = absurd looks
-written_alike (ResponseAsked way nonce) (ExchangeOpen version plus exchange) looks = absurd looks
-written_alike (ResponseAsked way nonce) (SignatureShown other) looks = absurd looks
-written_alike (ResponseAsked way nonce) (UserAuthenticated other) looks = absurd looks
+written_alike (ResponseAsked mechanism nonce) NotStarted looks = absurd looks
+written_alike (ResponseAsked mechanism nonce) (ExchangeOpen version plus exchange) looks = absurd looks
+written_alike (ResponseAsked mechanism nonce) (SignatureShown other) looks = absurd looks
+written_alike (ResponseAsked mechanism nonce) (UserAuthenticated other) looks = absurd looks
 written_alike (ExchangeOpen version plus exchange) NotStarted looks = absurd looks
-written_alike (ExchangeOpen version plus exchange) (ResponseAsked way nonce) looks = absurd looks
+written_alike (ExchangeOpen version plus exchange) (ResponseAsked mechanism nonce) looks = absurd looks
 written_alike (ExchangeOpen version plus exchange) (SignatureShown other) looks = absurd looks
 written_alike (ExchangeOpen version plus exchange) (UserAuthenticated other) looks = absurd looks
 written_alike (SignatureShown login) NotStarted looks = absurd looks
-written_alike (SignatureShown login) (ResponseAsked way nonce) looks = absurd looks
+written_alike (SignatureShown login) (ResponseAsked mechanism nonce) looks = absurd looks
 written_alike (SignatureShown login) (ExchangeOpen version plus exchange) looks = absurd looks
 written_alike (SignatureShown login) (UserAuthenticated other) looks = absurd looks
 written_alike (UserAuthenticated login) NotStarted looks = absurd looks
-written_alike (UserAuthenticated login) (ResponseAsked way nonce) looks = absurd looks
+written_alike (UserAuthenticated login) (ResponseAsked mechanism nonce) looks = absurd looks
 written_alike (UserAuthenticated login) (ExchangeOpen version plus exchange) looks = absurd looks
 written_alike (UserAuthenticated login) (SignatureShown other) looks = absurd looks

@@ -18,7 +18,7 @@ use Rattle.fe2o3_scram.specs.declared.scram_messages.error.ServerScramErrorKind.
 use Rattle.fe2o3_sasl_core.specs.MockChoices.{MockChoice}
 use Rattle.fe2o3_sasl_core.specs.PlainServer.{PlainParts}
 use Rattle.fe2o3_sasl_core.specs.SavedServers.{IsRestored}
-use Rattle.fe2o3_sasl_core.specs.Servers.{AsksForResponse, ClosesExchange, ConfirmsSignature, ExchangeOpen, InitAnswers, InitWhere, MessageLetsIn, NotStarted, OpensScram, ResponseAnswers, ResponseAsked, SendsSignature, ServerAt, ServerLogin, ServerSettings, ServerStage, SignatureShown, StageAnswers, StageRejects, UserAuthenticated, asked_way, is_response_asked, logged_in_at, provider_by, rules_by, sasl_machine}
+use Rattle.fe2o3_sasl_core.specs.Servers.{AsksForResponse, ClosesExchange, ConfirmsSignature, ExchangeOpen, InitAnswers, InitWhere, MessageLetsIn, NotStarted, OpensScram, ResponseAnswers, ResponseAsked, SendsSignature, ServerAt, ServerLogin, ServerSettings, ServerStage, SignatureShown, StageAnswers, StageRejects, UserAuthenticated, asked_mechanism, is_response_asked, logged_in_at, provider_by, rules_by, sasl_machine}
 use Rattle.fe2o3_sasl_core.specs.declared.mechanism.Mechanism.{Mechanism}
 use Rattle.fe2o3_sasl_core.specs.declared.mechanism.Mechanism.TheVariants as mechanisms
 use Rattle.fe2o3_sasl_core.proofs.lemmas.machines.SavedServerLemmas.{stage_goes}
@@ -49,11 +49,11 @@ module _ (settings : ServerSettings) (records : MultiRecords) (rights : Rights) 
   abbrev pub InitAlike : Mechanism → Option (List ℕ) → Type 0
   InitAlike (mechanisms.Scram version plus) (Some text) = ScramAlike version plus text
   InitAlike mechanisms.Plain (Some text) = PlainAlike text
-  InitAlike way response = Unit {0}
+  InitAlike mechanism response = Unit {0}
 
   -- a response: that of an init, or one to an exchange of one record, whose user has one right
   abbrev pub ResponseAlike : ServerStage → ServerStage → List ℕ → Type 0
-  ResponseAlike (ResponseAsked way nonce) other text = InitAlike way (Some text)
+  ResponseAlike (ResponseAsked mechanism nonce) other text = InitAlike mechanism (Some text)
   ResponseAlike (ExchangeOpen version plus exchange) (ExchangeOpen other_version other_plus other) text =
       (other.stored ≡ exchange.stored)
       × (may_act rights exchange.challenge.user exchange.challenge.header.acts_for
@@ -62,7 +62,7 @@ module _ (settings : ServerSettings) (records : MultiRecords) (rights : Rights) 
 
   abbrev pub FrameAlike : ServerStage → ServerStage → SaslFrame → Type 0
   FrameAlike stage other (frames.Init name response hostname) =
-      (way : Mechanism) → asked_way settings name ≡ Some way → InitAlike way response
+      (mechanism : Mechanism) → asked_mechanism settings name ≡ Some mechanism → InitAlike mechanism response
   FrameAlike stage other (frames.Response text) = ResponseAlike stage other text
   FrameAlike stage other frame = Unit {0}
 
@@ -70,11 +70,11 @@ module _ (settings : ServerSettings) (records : MultiRecords) (rights : Rights) 
   abbrev Both : ServerStage → ServerStage → ServerStage → (ServerStage → Type 0) → Type 0
   Both stage other next Answers = Answers next ⊎ (Answers stage × (next ≡ other))
 
-  asks_both : (does : Bool) (way : Mechanism) (stage other next : ServerStage) (nonce : List ℕ) (reply : SaslFrame)
-      → AsksForResponse does way other nonce reply next
-      → Both stage other next (λ after. AsksForResponse does way stage nonce reply after)
-  asks_both true way stage other next nonce reply is = inl is
-  asks_both false way stage other next nonce reply is = inr ((is.0, refl), is.1)
+  asks_both : (does : Bool) (mechanism : Mechanism) (stage other next : ServerStage) (nonce : List ℕ) (reply : SaslFrame)
+      → AsksForResponse does mechanism other nonce reply next
+      → Both stage other next (λ after. AsksForResponse does mechanism stage nonce reply after)
+  asks_both true mechanism stage other next nonce reply is = inl is
+  asks_both false mechanism stage other next nonce reply is = inr ((is.0, refl), is.1)
 
   begins_both : (version : ScramVersion) (plus : Bool) (nonce text : List ℕ)
       (answer : Result (Option (List ℕ × OpenExchange)) ServerScramErrorKind) → ScramAlike version plus text
@@ -103,9 +103,9 @@ module _ (settings : ServerSettings) (records : MultiRecords) (rights : Rights) 
   opens_both version plus stage other next nonce text (Err fault) reply begins is =
       inr ((Err fault, begins, (is.0, refl)), is.1)
 
-  init_both : (way : Mechanism) (stage other next : ServerStage) (nonce : List ℕ) (response : Option (List ℕ))
-      (reply : SaslFrame) → InitAlike way response → InitAnswers passed way other nonce response reply next
-      → Both stage other next (λ after. InitAnswers settings way stage nonce response reply after)
+  init_both : (mechanism : Mechanism) (stage other next : ServerStage) (nonce : List ℕ) (response : Option (List ℕ))
+      (reply : SaslFrame) → InitAlike mechanism response → InitAnswers passed mechanism other nonce response reply next
+      → Both stage other next (λ after. InitAnswers settings mechanism stage nonce response reply after)
   init_both mechanisms.Anonymous stage other next nonce response reply alike is = inl is
   init_both mechanisms.External stage other next nonce response reply alike (inl is) = inl (inl is)
   init_both mechanisms.External stage other next nonce response reply alike (inr (not, is)) =
@@ -123,23 +123,23 @@ module _ (settings : ServerSettings) (records : MultiRecords) (rights : Rights) 
       (begins_both version plus nonce text answer alike begins) is
 
   asked_both : (found : Option Mechanism) (stage other next : ServerStage) (nonce : List ℕ) (response : Option (List ℕ))
-      (reply : SaslFrame) → ((way : Mechanism) → found ≡ Some way → InitAlike way response)
+      (reply : SaslFrame) → ((mechanism : Mechanism) → found ≡ Some mechanism → InitAlike mechanism response)
       → MatchOption found (StageRejects other reply next)
-      (λ way. InitAnswers passed way other nonce response reply next)
+      (λ mechanism. InitAnswers passed mechanism other nonce response reply next)
       → Both stage other next (λ after. MatchOption found (StageRejects stage reply after)
-      (λ way. InitAnswers settings way stage nonce response reply after))
+      (λ mechanism. InitAnswers settings mechanism stage nonce response reply after))
   asked_both None stage other next nonce response reply alike is = inr ((is.0, refl), is.1)
-  asked_both (Some way) stage other next nonce response reply alike is =
-      init_both way stage other next nonce response reply (alike way refl) is
+  asked_both (Some mechanism) stage other next nonce response reply alike is =
+      init_both mechanism stage other next nonce response reply (alike mechanism refl) is
 
   where_both : (due : Bool) (name : List ℕ) (stage other next : ServerStage) (nonce : List ℕ)
       (response : Option (List ℕ)) (reply : SaslFrame)
-      → ((way : Mechanism) → asked_way settings name ≡ Some way → InitAlike way response)
+      → ((mechanism : Mechanism) → asked_mechanism settings name ≡ Some mechanism → InitAlike mechanism response)
       → InitWhere due passed other nonce name response reply next
       → Both stage other next (λ after. InitWhere due settings stage nonce name response reply after)
   where_both true name stage other next nonce response reply alike is = inl is
   where_both false name stage other next nonce response reply alike is =
-      asked_both (asked_way settings name) stage other next nonce response reply alike is
+      asked_both (asked_mechanism settings name) stage other next nonce response reply alike is
 
   -- ---- an answer to a frame
 
@@ -171,12 +171,12 @@ module _ (settings : ServerSettings) (records : MultiRecords) (rights : Rights) 
   rest_answered stage other next reply looks is =
       (stage, (is.0, refl), subst (λ (s : ServerStage). Looks stage s) (sym is.1) looks)
 
-  started_anew : (way : Mechanism) (next : ServerStage) (nonce text : List ℕ) (reply : SaslFrame)
-      → Both NotStarted NotStarted next (λ after. InitAnswers settings way NotStarted nonce (Some text) reply after)
-      → InitAnswers settings way NotStarted nonce (Some text) reply next
-  started_anew way next nonce text reply (inl is) = is
-  started_anew way next nonce text reply (inr (is, kept)) =
-      subst (λ (s : ServerStage). InitAnswers settings way NotStarted nonce (Some text) reply s) (sym kept) is
+  started_anew : (mechanism : Mechanism) (next : ServerStage) (nonce text : List ℕ) (reply : SaslFrame)
+      → Both NotStarted NotStarted next (λ after. InitAnswers settings mechanism NotStarted nonce (Some text) reply after)
+      → InitAnswers settings mechanism NotStarted nonce (Some text) reply next
+  started_anew mechanism next nonce text reply (inl is) = is
+  started_anew mechanism next nonce text reply (inr (is, kept)) =
+      subst (λ (s : ServerStage). InitAnswers settings mechanism NotStarted nonce (Some text) reply s) (sym kept) is
 
   confirms_both : (login other : ServerLogin) (next : ServerStage) (text : List ℕ) (reply : SaslFrame)
       → Looks (SignatureShown login) (SignatureShown other) → ConfirmsSignature other text reply next
@@ -229,10 +229,10 @@ module _ (settings : ServerSettings) (records : MultiRecords) (rights : Rights) 
       rest_answered NotStarted NotStarted next reply looks is
   response_answered NotStarted (UserAuthenticated other) next text reply looks alike is =
       rest_answered NotStarted (UserAuthenticated other) next reply looks is
-  response_answered (ResponseAsked way nonce) (ResponseAsked other_way other_nonce) next text reply looks alike is = (
+  response_answered (ResponseAsked mechanism nonce) (ResponseAsked other_mechanism other_nonce) next text reply looks alike is = (
     next,
-    started_anew way next nonce text reply (init_both way NotStarted NotStarted next nonce (Some text) reply alike
-        (subst (λ (n : List ℕ). InitAnswers passed way NotStarted n (Some text) reply next) looks.1
+    started_anew mechanism next nonce text reply (init_both mechanism NotStarted NotStarted next nonce (Some text) reply alike
+        (subst (λ (n : List ℕ). InitAnswers passed mechanism NotStarted n (Some text) reply next) looks.1
         (subst (λ (w : Mechanism). InitAnswers passed w NotStarted other_nonce (Some text) reply next) looks.0 is))),
     looks_same next,
   )
@@ -247,23 +247,23 @@ module _ (settings : ServerSettings) (records : MultiRecords) (rights : Rights) 
       confirms_both login other next text reply looks is
   response_answered (UserAuthenticated login) (UserAuthenticated other) next text reply looks alike is =
       rest_answered (UserAuthenticated login) (UserAuthenticated other) next reply looks is
-  response_answered NotStarted (ResponseAsked way nonce) next text reply looks alike is = absurd looks
+  response_answered NotStarted (ResponseAsked mechanism nonce) next text reply looks alike is = absurd looks
   response_answered NotStarted (ExchangeOpen version plus exchange) next text reply looks alike is = absurd looks
   response_answered NotStarted (SignatureShown other) next text reply looks alike is = absurd looks
-  response_answered (ResponseAsked way nonce) NotStarted next text reply looks alike is = absurd looks
-  response_answered (ResponseAsked way nonce) (ExchangeOpen version plus exchange) next text reply looks alike is = absurd looks
-  response_answered (ResponseAsked way nonce) (SignatureShown other) next text reply looks alike is = absurd looks
-  response_answered (ResponseAsked way nonce) (UserAuthenticated other) next text reply looks alike is = absurd looks
+  response_answered (ResponseAsked mechanism nonce) NotStarted next text reply looks alike is = absurd looks
+  response_answered (ResponseAsked mechanism nonce) (ExchangeOpen version plus exchange) next text reply looks alike is = absurd looks
+  response_answered (ResponseAsked mechanism nonce) (SignatureShown other) next text reply looks alike is = absurd looks
+  response_answered (ResponseAsked mechanism nonce) (UserAuthenticated other) next text reply looks alike is = absurd looks
   response_answered (ExchangeOpen version plus exchange) NotStarted next text reply looks alike is = absurd looks
-  response_answered (ExchangeOpen version plus exchange) (ResponseAsked way nonce) next text reply looks alike is = absurd looks
+  response_answered (ExchangeOpen version plus exchange) (ResponseAsked mechanism nonce) next text reply looks alike is = absurd looks
   response_answered (ExchangeOpen version plus exchange) (SignatureShown other) next text reply looks alike is = absurd looks
   response_answered (ExchangeOpen version plus exchange) (UserAuthenticated other) next text reply looks alike is = absurd looks
   response_answered (SignatureShown login) NotStarted next text reply looks alike is = absurd looks
-  response_answered (SignatureShown login) (ResponseAsked way nonce) next text reply looks alike is = absurd looks
+  response_answered (SignatureShown login) (ResponseAsked mechanism nonce) next text reply looks alike is = absurd looks
   response_answered (SignatureShown login) (ExchangeOpen version plus exchange) next text reply looks alike is = absurd looks
   response_answered (SignatureShown login) (UserAuthenticated other) next text reply looks alike is = absurd looks
   response_answered (UserAuthenticated login) NotStarted next text reply looks alike is = absurd looks
-  response_answered (UserAuthenticated login) (ResponseAsked way nonce) next text reply looks alike is = absurd looks
+  response_answered (UserAuthenticated login) (ResponseAsked mechanism nonce) next text reply looks alike is = absurd looks
   response_answered (UserAuthenticated login) (ExchangeOpen version plus exchange) next text reply looks alike is = absurd looks
   response_answered (UserAuthenticated login) (SignatureShown other) next text reply looks alike is = absurd looks
 
@@ -292,10 +292,10 @@ module _ (settings : ServerSettings) (records : MultiRecords) (rights : Rights) 
   out_so : (stage next : ServerStage) → next ≡ stage → IsOut stage → IsOut next
   out_so stage next same out = subst IsOut (sym same) out
 
-  asks_quiet : (does : Bool) (way : Mechanism) (stage next : ServerStage) (nonce : List ℕ) (reply : SaslFrame)
-      → AsksForResponse does way stage nonce reply next → Quiet reply next
-  asks_quiet true way stage next nonce reply is = inr (out_so (ResponseAsked way nonce) next is.1 refl)
-  asks_quiet false way stage next nonce reply is = inl (_, _, is.0)
+  asks_quiet : (does : Bool) (mechanism : Mechanism) (stage next : ServerStage) (nonce : List ℕ) (reply : SaslFrame)
+      → AsksForResponse does mechanism stage nonce reply next → Quiet reply next
+  asks_quiet true mechanism stage next nonce reply is = inr (out_so (ResponseAsked mechanism nonce) next is.1 refl)
+  asks_quiet false mechanism stage next nonce reply is = inl (_, _, is.0)
 
   opens_quiet : (version : ScramVersion) (plus : Bool) (stage next : ServerStage)
       (answer : Result (Option (List ℕ × OpenExchange)) ServerScramErrorKind) (reply : SaslFrame)
@@ -305,8 +305,8 @@ module _ (settings : ServerSettings) (records : MultiRecords) (rights : Rights) 
   opens_quiet version plus stage next (Ok None) reply is = inl (_, _, is.0)
   opens_quiet version plus stage next (Err fault) reply is = inl (_, _, is.0)
 
-  init_quiet : (way : Mechanism) (stage next : ServerStage) (nonce : List ℕ) (response : Option (List ℕ)) (reply : SaslFrame)
-      → InitAnswers settings way stage nonce response reply next → Quiet reply next
+  init_quiet : (mechanism : Mechanism) (stage next : ServerStage) (nonce : List ℕ) (response : Option (List ℕ)) (reply : SaslFrame)
+      → InitAnswers settings mechanism stage nonce response reply next → Quiet reply next
   init_quiet mechanisms.Anonymous stage next nonce response reply is = inl (_, _, is.0)
   init_quiet mechanisms.External stage next nonce response reply (inl (asks, is)) = inl (_, _, is.0)
   init_quiet mechanisms.External stage next nonce response reply (inr (not, is)) = inl (_, _, is.0)
@@ -321,15 +321,15 @@ module _ (settings : ServerSettings) (records : MultiRecords) (rights : Rights) 
 
   asked_quiet : (found : Option Mechanism) (stage next : ServerStage) (nonce : List ℕ) (response : Option (List ℕ))
       (reply : SaslFrame) → MatchOption found (StageRejects stage reply next)
-      (λ way. InitAnswers settings way stage nonce response reply next) → Quiet reply next
+      (λ mechanism. InitAnswers settings mechanism stage nonce response reply next) → Quiet reply next
   asked_quiet None stage next nonce response reply is = inl (_, _, is.0)
-  asked_quiet (Some way) stage next nonce response reply is = init_quiet way stage next nonce response reply is
+  asked_quiet (Some mechanism) stage next nonce response reply is = init_quiet mechanism stage next nonce response reply is
 
   where_quiet : (due : Bool) (name : List ℕ) (stage next : ServerStage) (nonce : List ℕ) (response : Option (List ℕ))
       (reply : SaslFrame) → InitWhere due settings stage nonce name response reply next → Quiet reply next
   where_quiet true name stage next nonce response reply is = inl (_, _, is.0)
   where_quiet false name stage next nonce response reply is =
-      asked_quiet (asked_way settings name) stage next nonce response reply is
+      asked_quiet (asked_mechanism settings name) stage next nonce response reply is
 
   signs_quiet : (signs : Bool) (login : ServerLogin) (message : List ℕ) (reply : SaslFrame) (next : ServerStage)
       → SendsSignature signs login message reply next → Quiet reply next
@@ -345,8 +345,8 @@ module _ (settings : ServerSettings) (records : MultiRecords) (rights : Rights) 
   response_quiet : (stage next : ServerStage) (text : List ℕ) (reply : SaslFrame)
       → ResponseAnswers settings stage text reply next → Quiet reply next
   response_quiet NotStarted next text reply is = inl (_, _, is.0)
-  response_quiet (ResponseAsked way nonce) next text reply is =
-      init_quiet way NotStarted next nonce (Some text) reply is
+  response_quiet (ResponseAsked mechanism nonce) next text reply is =
+      init_quiet mechanism NotStarted next nonce (Some text) reply is
   response_quiet (ExchangeOpen version plus exchange) next text reply (answer, answers, is) =
       closes_quiet settings.extra.signature version plus exchange answer reply next is
   response_quiet (SignatureShown login) next [] reply is = inl (_, _, is.0)

@@ -54,20 +54,20 @@ both_true : (one other : Bool) → (one && other) ≡ true → (one ≡ true) ×
 both_true true other is = (refl, is)
 both_true false other is = absurd (cc)
 
-module _ (settings : ServerSettings) (name : List ℕ) (way : Mechanism) where
+module _ (settings : ServerSettings) (name : List ℕ) (mechanism : Mechanism) where
   abbrev IsOffered : Type 0
-  IsOffered = (name ≡ mechanism_symbol way) × (is_offered_by settings way ≡ true)
+  IsOffered = (name ≡ mechanism_symbol mechanism) × (is_offered_by settings mechanism ≡ true)
 
   asked_of : (first : Mechanism) (rest : Option Mechanism) (is : Bool) → is_asked_by settings name first ≡ is
-      → (if is then Some first else rest) ≡ Some way → (rest ≡ Some way → IsOffered) → IsOffered
+      → (if is then Some first else rest) ≡ Some mechanism → (rest ≡ Some mechanism → IsOffered) → IsOffered
   asked_of first rest true asks same later =
-      let one : first ≡ way = cc in
+      let one : first ≡ mechanism = cc in
       let both = both_true (is_offered_by settings first) (pointwise nat_eq name (mechanism_symbol first)) asks in
       subst (λ (w : Mechanism). (name ≡ mechanism_symbol w) × (is_offered_by settings w ≡ true)) one
       (same_text name (mechanism_symbol first) (sym both.1), both.0)
   asked_of first rest false asks same later = later same
 
-  asked_offers : (order : List Mechanism) → asked_among settings name order ≡ Some way → IsOffered
+  asked_offers : (order : List Mechanism) → asked_among settings name order ≡ Some mechanism → IsOffered
   asked_offers [] same = absurd (cc)
   asked_offers (first ∷ others) same =
       asked_of first (asked_among settings name others) _ refl same (asked_offers others)
@@ -95,11 +95,11 @@ module _ (settings : ServerSettings) (records : MultiRecords) (rights : Rights) 
     may : (acts_for : Option (List ℕ)) → may_act rights user acts_for ≡ may_act settings.rights user acts_for
 
   abbrev Init : Mechanism → Option (List ℕ) → Type 0
-  Init way response = InitAlike settings records rights mock plain way response
+  Init mechanism response = InitAlike settings records rights mock plain mechanism response
 
-  init_alike : (Says : List ℕ → Type 0) (way : Mechanism) (name text : List ℕ) → Says text → name ≡ mechanism_symbol way
-      → is_offered_by settings way ≡ true → ((user : List ℕ) → ClaimsUser name text user → Agrees Says user)
-      → Init way (Some text)
+  init_alike : (Says : List ℕ → Type 0) (mechanism : Mechanism) (name text : List ℕ) → Says text → name ≡ mechanism_symbol mechanism
+      → is_offered_by settings mechanism ≡ true → ((user : List ℕ) → ClaimsUser name text user → Agrees Says user)
+      → Init mechanism (Some text)
   init_alike Says (mechanisms.Scram version plus) name text says same offers claims = λ client reads.
       let rules = rules_by plus settings.rules in
       let claim = claims_what_servers_read version rules text client reads in
@@ -132,25 +132,25 @@ module _ (settings : ServerSettings) (records : MultiRecords) (rights : Rights) 
   init_alike Says mechanisms.Anonymous name text says same offers claims = tt
   init_alike Says mechanisms.External name text says same offers claims = tt
 
-  response_init : (Says : List ℕ → Type 0) (way : Mechanism) (name : List ℕ) (response : Option (List ℕ))
-      → ((text : List ℕ) → response ≡ Some text → Says text) → name ≡ mechanism_symbol way → is_offered_by settings way ≡ true
-      → ((user : List ℕ) → ClaimIn name response (Some user) → Agrees Says user) → Init way response
-  response_init Says way name (Some text) says same offers claims =
-      init_alike Says way name text (says text refl) same offers claims
+  response_init : (Says : List ℕ → Type 0) (mechanism : Mechanism) (name : List ℕ) (response : Option (List ℕ))
+      → ((text : List ℕ) → response ≡ Some text → Says text) → name ≡ mechanism_symbol mechanism → is_offered_by settings mechanism ≡ true
+      → ((user : List ℕ) → ClaimIn name response (Some user) → Agrees Says user) → Init mechanism response
+  response_init Says mechanism name (Some text) says same offers claims =
+      init_alike Says mechanism name text (says text refl) same offers claims
   response_init Says (mechanisms.Scram version plus) name None says same offers claims = tt
   response_init Says mechanisms.Plain name None says same offers claims = tt
   response_init Says mechanisms.Anonymous name None says same offers claims = tt
   response_init Says mechanisms.External name None says same offers claims = tt
 
-  offered_so : (way : Mechanism) (nonce : List ℕ) (is : Bool)
-      → (if is then ResponseAsked way nonce else NotStarted) ≡ ResponseAsked way nonce → is ≡ true
-  offered_so way nonce true same = refl
-  offered_so way nonce false same = absurd (cc)
+  offered_so : (mechanism : Mechanism) (nonce : List ℕ) (is : Bool)
+      → (if is then ResponseAsked mechanism nonce else NotStarted) ≡ ResponseAsked mechanism nonce → is ≡ true
+  offered_so mechanism nonce true same = refl
+  offered_so mechanism nonce false same = absurd (cc)
 
-  offered : (way : Mechanism) (nonce : List ℕ) → IsRestored settings (ResponseAsked way nonce)
-      → is_offered_by settings way ≡ true
+  offered : (mechanism : Mechanism) (nonce : List ℕ) → IsRestored settings (ResponseAsked mechanism nonce)
+      → is_offered_by settings mechanism ≡ true
   unfolding IsRestored
-  offered way nonce was = offered_so way nonce (is_offered_by settings way) was
+  offered mechanism nonce was = offered_so mechanism nonce (is_offered_by settings mechanism) was
 
   -- the record of a user is one
   one_record : (Says : List ℕ → Type 0) (version : ScramVersion) (plus : Bool) (user : List ℕ)
@@ -176,9 +176,9 @@ module _ (settings : ServerSettings) (records : MultiRecords) (rights : Rights) 
       → ((user : List ℕ) → FrameNames scram turns.Response (frames.Response text) user
       → Agrees (CarriesText (frames.Response text)) user)
       → ResponseAlike settings records rights mock plain stage other text
-  response_alike scram (ResponseAsked way nonce) other text looks was is shows names =
-      init_alike (CarriesText (frames.Response text)) way (mechanism_symbol way) text refl refl (offered way nonce was)
-      (λ user claims. names user (inr (way, nonce, shows, claims)))
+  response_alike scram (ResponseAsked mechanism nonce) other text looks was is shows names =
+      init_alike (CarriesText (frames.Response text)) mechanism (mechanism_symbol mechanism) text refl refl (offered mechanism nonce was)
+      (λ user claims. names user (inr (mechanism, nonce, shows, claims)))
   response_alike scram (ExchangeOpen version plus exchange) (ExchangeOpen other_version other_plus other) text looks was is
       shows names =
       let challenge = exchange.challenge in
@@ -205,8 +205,8 @@ module _ (settings : ServerSettings) (records : MultiRecords) (rights : Rights) 
       → Agrees (CarriesText frame) user)
       → FrameAlike settings records rights mock plain stage other frame
   frame_alike scram turns.Init stage other (frames.Init name response hostname) in_turn looks was is shows names =
-      λ way asks. let offers = asked_offers settings name way offer_order asks in
-      response_init (CarriesText (frames.Init name response hostname)) way name response
+      λ mechanism asks. let offers = asked_offers settings name mechanism offer_order asks in
+      response_init (CarriesText (frames.Init name response hostname)) mechanism name response
       (λ text said. carried_so name text response hostname said) offers.0 offers.1 names
   frame_alike scram turns.Response stage other (frames.Response text) in_turn looks was is shows names =
       response_alike scram stage other text looks was is shows names

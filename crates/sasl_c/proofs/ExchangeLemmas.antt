@@ -52,7 +52,7 @@ shows_nothing : (scram : ScramStruct) → scram.state ≡ 0 → ShowsStage scram
 shows_nothing scram fresh = (
   (λ version challenge shown. never_zero challenge.header.flag (sym fresh ∙ shown.1.0)),
   (λ user acts_for shown. absurd (omega (arith, fresh, shown.0))),
-  λ way nonce shown. absurd (omega (arith, fresh, shown.0)),
+  λ mechanism nonce shown. absurd (omega (arith, fresh, shown.0)),
 )
 
 pub keeps_nothing : (scram : ScramStruct) (stage : KeptStage) → stage ≡ KeptNothing → scram.state ≡ 0
@@ -169,14 +169,14 @@ asked_shows scram mechanism nonce same sized =
 
 -- a struct whose text is not UTF-8, or not the name of a mechanism, shows no init
 pub not_utf8 : (scram : ScramStruct) (text : List ℕ) → text ≡ take scram.first_len scram.first → ¬ IsUtf8 text
-    → (way : Mechanism) (nonce : List ℕ) → ¬ HasAsked scram way nonce
-not_utf8 scram text same wrong way nonce asked = wrong (carried IsUtf8 (mechanism_symbol way) text (asked.4 ∙ sym same)
-    (IsUtf8-from_ascii (mechanism_symbol way) (IsAscii-mechanism_symbol way)))
+    → (mechanism : Mechanism) (nonce : List ℕ) → ¬ HasAsked scram mechanism nonce
+not_utf8 scram text same wrong mechanism nonce asked = wrong (carried IsUtf8 (mechanism_symbol mechanism) text (asked.4 ∙ sym same)
+    (IsUtf8-from_ascii (mechanism_symbol mechanism) (IsAscii-mechanism_symbol mechanism)))
 
 pub not_named : (scram : ScramStruct) (text : List ℕ) → text ≡ take scram.first_len scram.first
-    → ((mechanism : Mechanism) → mechanism_symbol mechanism ≢ text) → (way : Mechanism) (nonce : List ℕ)
-    → ¬ HasAsked scram way nonce
-not_named scram text same none way nonce asked = none way (asked.4 ∙ sym same)
+    → ((mechanism : Mechanism) → mechanism_symbol mechanism ≢ text) → (mechanism : Mechanism) (nonce : List ℕ)
+    → ¬ HasAsked scram mechanism nonce
+not_named scram text same none mechanism nonce asked = none mechanism (asked.4 ∙ sym same)
 
 pub named_asked : (scram : ScramStruct) (mechanism : Mechanism) (text nonce : List ℕ)
     → text ≡ take scram.first_len scram.first → mechanism_symbol mechanism ≡ text → scram.state ≡ 5 → scram.nonce_len ≡ 32

@@ -154,7 +154,7 @@ short_named scram turns.Init (frames.Response text) body name n begins few names
 short_named scram turns.Init (frames.Outcome code more) body name n begins few names = absurd names
 short_named scram turns.Response (frames.Response text) body name n begins few (inl (challenge, opens, same)) =
     omega (arith, ap length same, short_challenge scram challenge opens)
-short_named scram turns.Response (frames.Response text) body name n begins few (inr (way, nonce, asked, claims)) =
+short_named scram turns.Response (frames.Response text) body name n begins few (inr (mechanism, nonce, asked, claims)) =
     omega (
       arith,
       few,

@@ -13,7 +13,7 @@ use Rattle.fe2o3_scram.specs.declared.hmac.ScramVersion.{ScramVersion}
 use Rattle.fe2o3_sasl_core.specs.Bodies.{carried as sent_or_not, server_says}
 use Rattle.fe2o3_sasl_core.specs.Events.{Given, ServerSays, Challenged, Concluded, Failed}
 use Rattle.fe2o3_sasl_core.specs.Runs.{AcceptorAnswers, AcceptorGives, SendsCanonical}
-use Rattle.fe2o3_sasl_core.specs.SavedServers.{IsRestored, KeptStage, KeptNothing, KeptAsked, KeptOpen, KeptSignature, KeptLogin, challenge_way, exchange_now, kept_stage, restored_stage}
+use Rattle.fe2o3_sasl_core.specs.SavedServers.{IsRestored, KeptStage, KeptNothing, KeptAsked, KeptOpen, KeptSignature, KeptLogin, challenge_mechanism, exchange_now, kept_stage, restored_stage}
 use Rattle.fe2o3_sasl_core.specs.Servers.{ExchangeOpen, NotStarted, ResponseAsked, ServerSettings, ServerStage, SignatureShown, UserAuthenticated, is_offered_by, logged_in_at, sasl_reasons}
 use Rattle.fe2o3_sasl_core.specs.declared.rejection.Rejection.{Rejection}
 use Rattle.fe2o3_sasl_core.specs.declared.mechanism.Mechanism.{Mechanism}
@@ -28,18 +28,18 @@ use Rattle.sasl_c.proofs.StatusLemmas.{carried}
 -- ---- a stage that is restored
 
 module _ (settings : ServerSettings) where
-  again_asked : (way : Mechanism) (nonce : List ℕ) (is : Bool) → is_offered_by settings way ≡ is
-      → IsRestored settings (if is then ResponseAsked way nonce else NotStarted)
+  again_asked : (mechanism : Mechanism) (nonce : List ℕ) (is : Bool) → is_offered_by settings mechanism ≡ is
+      → IsRestored settings (if is then ResponseAsked mechanism nonce else NotStarted)
   unfolding IsRestored
-  again_asked way nonce true offers = ap (λ (is : Bool). if is then ResponseAsked way nonce else NotStarted) offers
-  again_asked way nonce false offers = refl
+  again_asked mechanism nonce true offers = ap (λ (is : Bool). if is then ResponseAsked mechanism nonce else NotStarted) offers
+  again_asked mechanism nonce false offers = refl
 
   abbrev opened : ScramVersion → ServerChallenge → ServerStage
   opened version challenge =
       ExchangeOpen version (is_required challenge.header.flag) (exchange_now settings version challenge)
 
   again_open : (version : ScramVersion) (challenge : ServerChallenge) (is : Bool)
-      → is_offered_by settings (challenge_way version challenge) ≡ is
+      → is_offered_by settings (challenge_mechanism version challenge) ≡ is
       → IsRestored settings (if is then opened version challenge else NotStarted)
   unfolding IsRestored
   again_open version challenge true offers =
@@ -50,9 +50,9 @@ module _ (settings : ServerSettings) where
   restored_again : (kept : KeptStage) → IsRestored settings (restored_stage settings kept)
   unfolding IsRestored
   restored_again KeptNothing = refl
-  restored_again (KeptAsked way nonce) = again_asked way nonce (is_offered_by settings way) refl
+  restored_again (KeptAsked mechanism nonce) = again_asked mechanism nonce (is_offered_by settings mechanism) refl
   restored_again (KeptOpen version challenge) =
-      again_open version challenge (is_offered_by settings (challenge_way version challenge)) refl
+      again_open version challenge (is_offered_by settings (challenge_mechanism version challenge)) refl
   restored_again (KeptSignature login) = refl
   restored_again (KeptLogin login) = refl
 
@@ -74,9 +74,9 @@ module _ (settings : ServerSettings) where
   pub kept_by : (stage : ServerStage) (kept : KeptStage) → stage ≡ restored_stage settings kept
       → (stage ≡ NotStarted) ⊎ (kept ≡ kept_stage stage)
   kept_by stage KeptNothing same = inl same
-  kept_by stage (KeptAsked way nonce) same = kept_where (is_offered_by settings way) _ stage _ refl same
+  kept_by stage (KeptAsked mechanism nonce) same = kept_where (is_offered_by settings mechanism) _ stage _ refl same
   kept_by stage (KeptOpen version challenge) same =
-      kept_where (is_offered_by settings (challenge_way version challenge)) _ stage _ refl same
+      kept_where (is_offered_by settings (challenge_mechanism version challenge)) _ stage _ refl same
   kept_by stage (KeptSignature login) same = inr (sym (ap kept_stage same))
   kept_by stage (KeptLogin login) same = inr (sym (ap kept_stage same))
 
@@ -135,7 +135,7 @@ Ends reply = (code : SaslCode) × (more : Option (List ℕ)) × (reply ≡ frame
 
 out_unfinished : (stage : ServerStage) → logged_in_at stage ≡ None → IsUnfinished (kept_stage stage)
 out_unfinished NotStarted out = tt
-out_unfinished (ResponseAsked way nonce) out = tt
+out_unfinished (ResponseAsked mechanism nonce) out = tt
 out_unfinished (ExchangeOpen version plus exchange) out = tt
 out_unfinished (SignatureShown login) out = tt
 out_unfinished (UserAuthenticated login) out = absurd (cc)

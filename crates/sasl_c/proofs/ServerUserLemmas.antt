@@ -56,9 +56,9 @@ pub ruleset response_user = (response_claims, response_claims_none, response_ask
 -- ---- a response
 
 -- a struct in which a challenge is open shows no init that was asked
-other_states : (scram : ScramStruct) (challenge : ServerChallenge) (way : Mechanism) (nonce : List ℕ) → IsOpen scram challenge
-    → HasAsked scram way nonce → ⊥
-other_states scram challenge way nonce shows asked = differ challenge.header.flag shows.0
+other_states : (scram : ScramStruct) (challenge : ServerChallenge) (mechanism : Mechanism) (nonce : List ℕ) → IsOpen scram challenge
+    → HasAsked scram mechanism nonce → ⊥
+other_states scram challenge mechanism nonce shows asked = differ challenge.header.flag shows.0
   where
     differ : (header : ChannelBindingFlag) → scram.state ≡ open_number header → ⊥
     differ NotSupported is = absurd (omega (arith, is, asked.0))
@@ -102,10 +102,10 @@ pub answer_opens : (scram : ScramStruct) (challenge : ServerChallenge) (text nam
 answer_opens scram challenge text name shows same = inl (challenge, shows, same)
 
 pub opens_no_user : (scram : ScramStruct) (text : List ℕ)
-    → ((way : Mechanism) (nonce : List ℕ) → ¬ HasAsked scram way nonce)
+    → ((mechanism : Mechanism) (nonce : List ℕ) → ¬ HasAsked scram mechanism nonce)
     → ((challenge : ServerChallenge) → ¬ IsOpen scram challenge) → (name : List ℕ) → ¬ AnswerNames scram text name
 opens_no_user scram text none closed name (inl (challenge, shows, same)) = closed challenge shows
-opens_no_user scram text none closed name (inr (way, nonce, asked, names)) = none way nonce asked
+opens_no_user scram text none closed name (inr (mechanism, nonce, asked, names)) = none mechanism nonce asked
 
 pub opening_asks : (scram : ScramStruct) (text : List ℕ) → ((challenge : ServerChallenge) × IsOpen scram challenge)
     → AnswerNeedsMemory scram text

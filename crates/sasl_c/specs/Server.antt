@@ -114,8 +114,8 @@ HasSigned server user acts_for = (server.state ≡ 4) × (server.user_len ≤ 25
 -- the struct is that of a server that has asked an init of this mechanism, with this nonce of 32 bytes, for its initial
 -- response (AMQP 1.0, part 5, section 5.3.3.2; RFC 4422, section 5)
 abbrev pub HasAsked : Struct → Mechanism → List ℕ → Type 0
-HasAsked server way nonce = (server.state ≡ 5) × (server.nonce_len ≡ 32) × (nonce ≡ take 32 server.nonce)
-    × (server.first_len ≤ 1024) × (mechanism_symbol way ≡ take server.first_len server.first)
+HasAsked server mechanism nonce = (server.state ≡ 5) × (server.nonce_len ≡ 32) × (nonce ≡ take 32 server.nonce)
+    × (server.first_len ≤ 1024) × (mechanism_symbol mechanism ≡ take server.first_len server.first)
 
 -- the struct is that of a server that has logged this user in, for this identity or for itself. ANONYMOUS has no user
 abbrev pub ShowsUser : Struct → Option (List ℕ) → Option (List ℕ) → Type 0
@@ -132,8 +132,8 @@ abbrev pub ShowsStage : Struct → KeptStage → Type 0
 ShowsStage server KeptNothing =
     ((version : ScramVersion) (challenge : ServerChallenge) → ¬ IsOpenBy server version challenge)
     × ((user : List ℕ) (acts_for : Option (List ℕ)) → ¬ HasSigned server user acts_for)
-    × ((way : Mechanism) (nonce : List ℕ) → ¬ HasAsked server way nonce)
-ShowsStage server (KeptAsked way nonce) = HasAsked server way nonce
+    × ((mechanism : Mechanism) (nonce : List ℕ) → ¬ HasAsked server mechanism nonce)
+ShowsStage server (KeptAsked mechanism nonce) = HasAsked server mechanism nonce
 ShowsStage server (KeptOpen version challenge) = IsOpenBy server version challenge
 ShowsStage server (KeptSignature login) = ShowsSigned server login.user login.acts_for
 ShowsStage server (KeptLogin login) = ShowsUser server login.user login.acts_for
@@ -218,19 +218,19 @@ signed_struct user acts_for = named_struct 4 user acts_for
 
 -- of one that has asked an init for its initial response: the mechanism's name is where the server-first message is otherwise
 abbrev pub asked_struct : Mechanism → List ℕ → Struct
-asked_struct way nonce = record {
+asked_struct mechanism nonce = record {
   state = 5;
   version = 0;
   user_len = 0;
   bare_len = 0;
   nonce_len = 32;
-  first_len = length (mechanism_symbol way);
+  first_len = length (mechanism_symbol mechanism);
   acts_for_len = 0;
   rejection = 0;
   user = replicate 256 0;
   bare = replicate 1024 0;
   nonce = zero_filled 512 nonce;
-  first = zero_filled 1024 (mechanism_symbol way);
+  first = zero_filled 1024 (mechanism_symbol mechanism);
   acts_for = replicate 256 0;
 }
 
@@ -242,7 +242,7 @@ struct_where state (Some user) acts_for = named_struct state user acts_for
 -- of one whose login has come this far
 abbrev pub stage_struct : KeptStage → Struct
 stage_struct KeptNothing = fresh_server_struct
-stage_struct (KeptAsked way nonce) = asked_struct way nonce
+stage_struct (KeptAsked mechanism nonce) = asked_struct mechanism nonce
 stage_struct (KeptOpen version challenge) = open_struct (version_number version) challenge
 stage_struct (KeptSignature login) = struct_where 4 login.user login.acts_for
 stage_struct (KeptLogin login) = struct_where 2 login.user login.acts_for

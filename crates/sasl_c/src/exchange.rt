@@ -43,7 +43,7 @@ impl ScramServer {
     /// Returns the mechanism and the nonce of the init that was asked for its initial response, if the struct holds one.
     #[tactic(auto, using(crate::proofs::ExchangeLemmas::reads_asked))]
     pub fn asked_init(&self) -> Option<(Mechanism, [u8; 32])>
-        ensures { MatchOption result ((way : MechanismOf) (nonce : List ℕ) → ¬ HasAsked self.now way nonce)
+        ensures { MatchOption result ((mechanism : MechanismOf) (nonce : List ℕ) → ¬ HasAsked self.now mechanism nonce)
             (λ asked. HasAsked self.now asked.0 asked.1) }
     {
         if self.state != 5 || self.nonce_len != 32 {

@@ -11,7 +11,7 @@ use Rattle.fe2o3_sasl_core.specs.Events.{Given, ServerSays, Challenged, Conclude
 use Rattle.fe2o3_sasl_core.specs.Runs.{SendsCanonical}
 use Rattle.fe2o3_sasl_core.specs.SaslAcceptor.{ends_with}
 use Rattle.fe2o3_sasl_core.specs.Mechanisms.{mechanism_symbol}
-use Rattle.fe2o3_sasl_core.specs.Servers.{ExchangeOpen, InitAnswers, NotStarted, ResponseAsked, ServerAt, ServerLogin, ServerSettings, ServerStage, SignatureShown, StageRejects, UserAuthenticated, asked_way, is_offered_by, logged_in_at, sasl_machine}
+use Rattle.fe2o3_sasl_core.specs.Servers.{ExchangeOpen, InitAnswers, NotStarted, ResponseAsked, ServerAt, ServerLogin, ServerSettings, ServerStage, SignatureShown, StageRejects, UserAuthenticated, asked_mechanism, is_offered_by, logged_in_at, sasl_machine}
 use Rattle.fe2o3_sasl_core.specs.declared.mechanism.Mechanism.{Mechanism}
 use Rattle.fe2o3_sasl_core.specs.declared.mechanism.Mechanism.TheVariants as mechanisms
 use Rattle.fe2o3_sasl_core.proofs.lemmas.frames.SpellingLemmas.{sent}
@@ -157,16 +157,16 @@ rest_responses server (event ∷ second ∷ events) replies last texts login (te
 -- ---- an init
 
 -- an init that completes a login, and what its messages are
-init_last : (settings : ServerSettings) (way : Mechanism) (nonce : List ℕ) (response : Option (List ℕ)) (login : ServerLogin)
-    → InitCompletes settings way response login → MessagesLogIn settings way nonce response [] login
+init_last : (settings : ServerSettings) (mechanism : Mechanism) (nonce : List ℕ) (response : Option (List ℕ)) (login : ServerLogin)
+    → InitCompletes settings mechanism response login → MessagesLogIn settings mechanism nonce response [] login
 init_last settings mechanisms.Anonymous nonce response login completes = (refl, completes)
 init_last settings mechanisms.External nonce response login completes = (refl, completes)
 init_last settings mechanisms.Plain nonce None login completes = absurd completes
 init_last settings mechanisms.Plain nonce (Some text) login completes = (text, refl, completes)
 init_last settings (mechanisms.Scram version plus) nonce response login completes = absurd completes
 
-last_init : (settings : ServerSettings) (way : Mechanism) (nonce : List ℕ) (response : Option (List ℕ)) (login : ServerLogin)
-    → MessagesLogIn settings way nonce response [] login → InitCompletes settings way response login
+last_init : (settings : ServerSettings) (mechanism : Mechanism) (nonce : List ℕ) (response : Option (List ℕ)) (login : ServerLogin)
+    → MessagesLogIn settings mechanism nonce response [] login → InitCompletes settings mechanism response login
 last_init settings mechanisms.Anonymous nonce response login messages = messages.1
 last_init settings mechanisms.External nonce response login messages = messages.1
 last_init settings mechanisms.Plain nonce None login (text, (asks, is), completes) = absurd (cc)
@@ -181,15 +181,15 @@ last_init settings (mechanisms.Scram version plus) nonce (Some said) login (mess
 -- the answers to an init whose mechanism is found
 abbrev pub FoundAnswers : Option Mechanism → ServerSettings → List ℕ → Option (List ℕ) → SaslFrame → ServerStage → Type 0
 FoundAnswers found settings nonce response reply next = MatchOption found (StageRejects NotStarted reply next)
-    (λ way. InitAnswers settings way NotStarted nonce response reply next)
+    (λ mechanism. InitAnswers settings mechanism NotStarted nonce response reply next)
 
-pub found_way : (found : Option Mechanism) (settings : ServerSettings) (nonce : List ℕ) (response : Option (List ℕ))
+pub found_mechanism : (found : Option Mechanism) (settings : ServerSettings) (nonce : List ℕ) (response : Option (List ℕ))
     (reply : SaslFrame) (next : ServerStage) → IsChallenged reply
     → FoundAnswers found settings nonce response reply next
-    → (way : Mechanism) × (found ≡ Some way) × InitAnswers settings way NotStarted nonce response reply next
-found_way None settings nonce response reply next (text, is) answers =
+    → (mechanism : Mechanism) × (found ≡ Some mechanism) × InitAnswers settings mechanism NotStarted nonce response reply next
+found_mechanism None settings nonce response reply next (text, is) answers =
     let no : ◌≡◌ {A = SaslFrame} (frames.Challenge text) (ends_with outcomes.Auth) = sym is ∙ answers.0 in absurd (cc)
-found_way (Some way) settings nonce response reply next challenged answers = (way, refl, answers)
+found_mechanism (Some mechanism) settings nonce response reply next challenged answers = (mechanism, refl, answers)
 
 -- a served run that ends with a login has all its frames
 logins_of : (pieces : List Piece) (limit : ℕ) (settings : ServerSettings) (events : List Given)
@@ -201,14 +201,14 @@ logins_of pieces limit settings [] replies last login are run some =
     no_login NotStarted login refl (sym (ap (λ (s : ServerAt). logged_in_at s.stage) run.1) ∙ some)
 logins_of pieces limit settings (event ∷ []) replies last login are (says, memory, all, step) some =
     let (name, response, hostname, spells) = init_of event.body are.1 in
-    let (due, (way, found, completes)) = last_completes (new_server settings) last event.nonce
+    let (due, (mechanism, found, completes)) = last_completes (new_server settings) last event.nonce
     (frames.Init name response hostname) says login refl some
     (init_step sasl_machine (new_server settings) last event says name response hostname spells memory step) in
-    let (named, offered) = asked_offers settings name way found in
+    let (named, offered) = asked_offers settings name mechanism found in
     record {
       init = event;
       later = [];
-      way = way;
+      mechanism = mechanism;
       response = response;
       hostname = hostname;
       texts = [];
@@ -216,22 +216,22 @@ logins_of pieces limit settings (event ∷ []) replies last login are (says, mem
       begins = subst (λ (n : List ℕ). SpellsBody event.body (Ok (frames.Init n response hostname))) named spells;
       offered = offered;
       goes_on = refl;
-      completes = init_last settings way event.nonce response login completes;
+      completes = init_last settings mechanism event.nonce response login completes;
     }
 logins_of pieces limit settings (event ∷ second ∷ events) replies last login are (body, next, others, all, step, run) some =
     let (name, response, hostname, spells) = init_of event.body are.1 in
     let c = challenge (new_server settings) next event.nonce (frames.Init name response hostname) body
     (init_step sasl_machine (new_server settings) next event (Challenged body) name response hostname spells
     (challenge_has_memory body) step) in
-    let (way, found, answers) = found_way (asked_way settings name) settings event.nonce response c.reply next.stage c.is
+    let (mechanism, found, answers) = found_mechanism (asked_mechanism settings name) settings event.nonce response c.reply next.stage c.is
     c.by.1 in
-    let (named, offered) = asked_offers settings name way found in
+    let (named, offered) = asked_offers settings name mechanism found in
     let (texts, more, rest) = responses_rest pieces limit (8 + (length event.body + 4)) next (second ∷ events) others last
     login are.3 run c.waits some in
     record {
       init = event;
       later = second ∷ events;
-      way = way;
+      mechanism = mechanism;
       response = response;
       hostname = hostname;
       texts = texts;
@@ -239,33 +239,33 @@ logins_of pieces limit settings (event ∷ second ∷ events) replies last login
       begins = subst (λ (n : List ℕ). SpellsBody event.body (Ok (frames.Init n response hostname))) named spells;
       offered = offered;
       goes_on = more;
-      completes = init_rest settings NotStarted next.stage event.nonce c.reply c.is texts login way response answers
+      completes = init_rest settings NotStarted next.stage event.nonce c.reply c.is texts login mechanism response answers
           (subst (λ (s : ServerSettings). RestLogsIn s next.stage texts login) c.by.0 rest);
     }
 
 -- a served run whose frames complete a login ends with it
-ends_with_login : (settings : ServerSettings) (init : Given) (later : List Given) (way : Mechanism)
+ends_with_login : (settings : ServerSettings) (init : Given) (later : List Given) (mechanism : Mechanism)
     (response hostname : Option (List ℕ)) (texts : List (List ℕ)) (replies : List ServerSays) (last : ServerAt)
-    (login : ServerLogin) → SpellsBody init.body (Ok (frames.Init (mechanism_symbol way) response hostname))
-    → is_offered_by settings way ≡ true → AreResponses later texts
-    → MessagesLogIn settings way init.nonce response texts login
+    (login : ServerLogin) → SpellsBody init.body (Ok (frames.Init (mechanism_symbol mechanism) response hostname))
+    → is_offered_by settings mechanism ≡ true → AreResponses later texts
+    → MessagesLogIn settings mechanism init.nonce response texts login
     → Served sasl_machine (new_server settings) (init ∷ later) replies last → Ends replies last login
-ends_with_login settings init [] way response hostname texts replies last login spells offered are messages
+ends_with_login settings init [] mechanism response hostname texts replies last login spells offered are messages
     (says, memory, all, step) =
-    let completes = last_init settings way init.nonce response login
-    (subst (λ (l : List (List ℕ)). MessagesLogIn settings way init.nonce response l login) are messages) in
+    let completes = last_init settings mechanism init.nonce response login
+    (subst (λ (l : List (List ℕ)). MessagesLogIn settings mechanism init.nonce response l login) are messages) in
     ends_by replies last says login all
-    (let_in (new_server settings) last init.nonce (frames.Init (mechanism_symbol way) response hostname) says login refl
-    (refl, (way, offered_asked settings way offered, completes))
-    (init_step sasl_machine (new_server settings) last init says (mechanism_symbol way) response hostname spells memory step))
-ends_with_login settings init (second ∷ events) way response hostname texts replies last login spells offered are messages
+    (let_in (new_server settings) last init.nonce (frames.Init (mechanism_symbol mechanism) response hostname) says login refl
+    (refl, (mechanism, offered_asked settings mechanism offered, completes))
+    (init_step sasl_machine (new_server settings) last init says (mechanism_symbol mechanism) response hostname spells memory step))
+ends_with_login settings init (second ∷ events) mechanism response hostname texts replies last login spells offered are messages
     (body, next, others, all, step, run) =
-    let c = challenge (new_server settings) next init.nonce (frames.Init (mechanism_symbol way) response hostname) body
-    (init_step sasl_machine (new_server settings) next init (Challenged body) (mechanism_symbol way) response hostname spells
+    let c = challenge (new_server settings) next init.nonce (frames.Init (mechanism_symbol mechanism) response hostname) body
+    (init_step sasl_machine (new_server settings) next init (Challenged body) (mechanism_symbol mechanism) response hostname spells
     (challenge_has_memory body) step) in
     let answers = subst (λ (found : Option Mechanism). FoundAnswers found settings init.nonce response c.reply next.stage)
-    (offered_asked settings way offered) c.by.1 in
-    let rest = rest_init settings NotStarted next.stage init.nonce c.reply c.is texts login way response answers messages in
+    (offered_asked settings mechanism offered) c.by.1 in
+    let rest = rest_init settings NotStarted next.stage init.nonce c.reply c.is texts login mechanism response answers messages in
     let ends = rest_responses next (second ∷ events) others last texts login are run c.waits
     (subst (λ (s : ServerSettings). RestLogsIn s next.stage texts login) (sym c.by.0) rest) in (
       later_last IsOkSent (Challenged body) replies others all
@@ -347,7 +347,7 @@ module _ (settings : ServerSettings) (server : ServerBy sasl_machine (new_server
   pub with_login : (login : ServerLogin) → CompletesLogin settings server.connection.events login
       → Ends server.connection.replies server.last.state login
   with_login login logs = let n = server.connection in
-      ends_with_login settings logs.init logs.later logs.way logs.response logs.hostname logs.texts n.replies
+      ends_with_login settings logs.init logs.later logs.mechanism logs.response logs.hostname logs.texts n.replies
       server.last.state login logs.begins logs.offered logs.goes_on logs.completes
       (subst (λ (l : List Given). Served sasl_machine (new_server settings) l n.replies server.last.state) logs.all run)
 

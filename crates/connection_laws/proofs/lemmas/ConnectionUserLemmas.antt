@@ -51,18 +51,18 @@ SaysUser settings version plus nonce response texts login = (first : List ℕ) �
     (first ∷ final ∷ confirmation settings.extra.signature)
     × ScramUser settings version plus nonce first final login
 
-says_user : (settings : ServerSettings) (version : ScramVersion) (plus : Bool) (nonce : List ℕ) (way : Mechanism)
+says_user : (settings : ServerSettings) (version : ScramVersion) (plus : Bool) (nonce : List ℕ) (mechanism : Mechanism)
     (response : Option (List ℕ)) (texts : List (List ℕ)) (login : ServerLogin)
-    → MessagesLogIn settings way nonce response texts login → login.way ≡ mechanisms.Scram version plus
+    → MessagesLogIn settings mechanism nonce response texts login → login.mechanism ≡ mechanisms.Scram version plus
     → SaysUser settings version plus nonce response texts login
 says_user settings version plus nonce mechanisms.Anonymous response texts login completes is =
-    let no = sym (ap (λ (l : ServerLogin). l.way) completes.1) ∙ is in absurd (cc)
+    let no = sym (ap (λ (l : ServerLogin). l.mechanism) completes.1) ∙ is in absurd (cc)
 says_user settings version plus nonce mechanisms.External response texts login completes is =
-    let no = sym (ap (λ (l : ServerLogin). l.way) completes.1.1) ∙ is in absurd (cc)
+    let no = sym (ap (λ (l : ServerLogin). l.mechanism) completes.1.1) ∙ is in absurd (cc)
 says_user settings version plus nonce mechanisms.Plain response texts login completes is =
-    let no = sym (ap (λ (l : ServerLogin). l.way) completes.2.2) ∙ is in absurd (cc)
+    let no = sym (ap (λ (l : ServerLogin). l.mechanism) completes.2.2) ∙ is in absurd (cc)
 says_user settings version plus nonce (mechanisms.Scram own bound) response texts login (messages, are, scram) is =
-    let one : mechanisms.Scram own bound ≡ mechanisms.Scram version plus = sym (ap (λ (l : ServerLogin). l.way) scram.made) ∙ is in
+    let one : mechanisms.Scram own bound ≡ mechanisms.Scram version plus = sym (ap (λ (l : ServerLogin). l.mechanism) scram.made) ∙ is in
     let hash : own ≡ version = cc in
     let kind : bound ≡ plus = cc in
     let says = scram_user settings own bound nonce messages login scram in (
@@ -76,7 +76,7 @@ says_user settings version plus nonce (mechanisms.Scram own bound) response text
 pub scram_users_meet_records : ScramUsersMeetRecords
 scram_users_meet_records settings server login version plus some is =
     let logs = of_login settings server login some in
-    let (first, final, are, says) = says_user settings version plus logs.init.nonce logs.way logs.response logs.texts login
+    let (first, final, are, says) = says_user settings version plus logs.init.nonce logs.mechanism logs.response logs.texts login
     logs.completes is in
     record { logs = logs; first = first; final = final; messages = are; says = says }
 
@@ -96,9 +96,9 @@ has_right settings login user identity asked who whom right is = (
   subst (λ (named : Option (List ℕ)). may_act settings.rights user named ≡ true) (sym whom ∙ is) right,
 )
 
-rights_of : (settings : ServerSettings) (nonce : List ℕ) (way : Mechanism) (response : Option (List ℕ))
+rights_of : (settings : ServerSettings) (nonce : List ℕ) (mechanism : Mechanism) (response : Option (List ℕ))
     (texts : List (List ℕ)) (login : ServerLogin) (identity : List ℕ)
-    → MessagesLogIn settings way nonce response texts login → login.acts_for ≡ Some identity
+    → MessagesLogIn settings mechanism nonce response texts login → login.acts_for ≡ Some identity
     → HasRight settings login identity
 rights_of settings nonce mechanisms.Anonymous response texts login identity completes is =
     let no = sym (ap (λ (l : ServerLogin). l.acts_for) completes.1) ∙ is in absurd (cc)
@@ -121,6 +121,6 @@ acting_users_have_rights settings server identity acting = go (logged_in_at serv
     go None none is = absurd (cc)
     go (Some login) some is =
         let logs = of_login settings server login some in
-        let (user, who, right) = rights_of settings logs.init.nonce logs.way logs.response logs.texts login identity
+        let (user, who, right) = rights_of settings logs.init.nonce logs.mechanism logs.response logs.texts login identity
         logs.completes is in
         (user, ap user_of_login some ∙ who, right)

@@ -21,8 +21,8 @@ use Rattle.connection_laws.proofs.lemmas.ServerFunctionLemmas.{one_opened}
 abbrev pub AskedLogsIn : ServerSettings → Mechanism → List ℕ → List (List ℕ) → ServerLogin → Type 0
 AskedLogsIn settings (mechanisms.Scram version plus) nonce texts login =
     ScramMessages settings version plus nonce texts login
-AskedLogsIn settings way nonce texts login =
-    (text : List ℕ) × (texts ≡ text ∷ []) × InitCompletes settings way (Some text) login
+AskedLogsIn settings mechanism nonce texts login =
+    (text : List ℕ) × (texts ≡ text ∷ []) × InitCompletes settings mechanism (Some text) login
 
 -- the responses of an open exchange
 abbrev pub OpenLogsIn : ServerSettings → ScramVersion → Bool → OpenExchange → List (List ℕ) → ServerLogin → Type 0
@@ -32,7 +32,7 @@ OpenLogsIn settings version plus exchange texts login = (final : List ℕ)
 
 -- the responses that complete a login from this stage on
 abbrev pub RestLogsIn : ServerSettings → ServerStage → List (List ℕ) → ServerLogin → Type 0
-RestLogsIn settings (ResponseAsked way nonce) texts login = AskedLogsIn settings way nonce texts login
+RestLogsIn settings (ResponseAsked mechanism nonce) texts login = AskedLogsIn settings mechanism nonce texts login
 RestLogsIn settings (ExchangeOpen version plus exchange) texts login =
     OpenLogsIn settings version plus exchange texts login
 RestLogsIn settings (SignatureShown shown) texts login = (texts ≡ [] ∷ []) × (login ≡ shown)
@@ -71,11 +71,11 @@ last_rests settings (SignatureShown shown) text login (empty, made) =
 last_rests settings NotStarted text login completes = absurd completes
 last_rests settings (UserAuthenticated before) text login completes = absurd completes
 
-asked_last : (settings : ServerSettings) (way : Mechanism) (text : List ℕ) (login : ServerLogin)
+asked_last : (settings : ServerSettings) (mechanism : Mechanism) (text : List ℕ) (login : ServerLogin)
     → ((other : List ℕ) × (◌≡◌ {A = List (List ℕ)} (text ∷ []) (other ∷ []))
-    × InitCompletes settings way (Some other) login) → InitCompletes settings way (Some text) login
-asked_last settings way text login (other, same, completes) =
-    subst (λ (t : List ℕ). InitCompletes settings way (Some t) login) (one_text text other same) completes
+    × InitCompletes settings mechanism (Some other) login) → InitCompletes settings mechanism (Some text) login
+asked_last settings mechanism text login (other, same, completes) =
+    subst (λ (t : List ℕ). InitCompletes settings mechanism (Some t) login) (one_text text other same) completes
 
 pub rests_last : (settings : ServerSettings) (stage : ServerStage) (text : List ℕ) (login : ServerLogin)
     → RestLogsIn settings stage (text ∷ []) login → ResponseCompletes settings stage text login
@@ -144,13 +144,13 @@ module _ (settings : ServerSettings) (kept next : ServerStage) (nonce : List ℕ
       subst (λ (s : ServerStage). RestLogsIn settings s texts login) (sym one.1)
       (scram.final, rest, scram.meets, scram.made)
 
-  asks_rest : (asks : Bool) (way : Mechanism) → AsksForResponse asks way kept nonce reply next
-      → (asks ≡ true) × (next ≡ ResponseAsked way nonce)
-  asks_rest true way is = (refl, is.1)
-  asks_rest false way is = not_outcome reply _ _ challenged is.0
+  asks_rest : (asks : Bool) (mechanism : Mechanism) → AsksForResponse asks mechanism kept nonce reply next
+      → (asks ≡ true) × (next ≡ ResponseAsked mechanism nonce)
+  asks_rest true mechanism is = (refl, is.1)
+  asks_rest false mechanism is = not_outcome reply _ _ challenged is.0
 
-  pub init_rest : (way : Mechanism) (response : Option (List ℕ)) → InitAnswers settings way kept nonce response reply next
-      → RestLogsIn settings next texts login → MessagesLogIn settings way nonce response texts login
+  pub init_rest : (mechanism : Mechanism) (response : Option (List ℕ)) → InitAnswers settings mechanism kept nonce response reply next
+      → RestLogsIn settings next texts login → MessagesLogIn settings mechanism nonce response texts login
   init_rest mechanisms.Anonymous response is rest = not_outcome reply _ _ challenged is.0
   init_rest mechanisms.External response (inl is) rest = not_outcome reply _ _ challenged is.1.0
   init_rest mechanisms.External response (inr is) rest = not_outcome reply _ _ challenged is.1.0
@@ -166,8 +166,8 @@ module _ (settings : ServerSettings) (kept next : ServerStage) (nonce : List ℕ
   init_rest (mechanisms.Scram version plus) (Some first) (answer, begins, opens) rest =
       (first ∷ texts, refl, opens_rest version plus first answer begins opens rest)
 
-  pub rest_init : (way : Mechanism) (response : Option (List ℕ)) → InitAnswers settings way kept nonce response reply next
-      → MessagesLogIn settings way nonce response texts login → RestLogsIn settings next texts login
+  pub rest_init : (mechanism : Mechanism) (response : Option (List ℕ)) → InitAnswers settings mechanism kept nonce response reply next
+      → MessagesLogIn settings mechanism nonce response texts login → RestLogsIn settings next texts login
   rest_init mechanisms.Anonymous response is messages = not_outcome reply _ _ challenged is.0
   rest_init mechanisms.External response (inl is) messages = not_outcome reply _ _ challenged is.1.0
   rest_init mechanisms.External response (inr is) messages = not_outcome reply _ _ challenged is.1.0

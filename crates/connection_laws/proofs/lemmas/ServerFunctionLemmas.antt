@@ -14,7 +14,7 @@ use Rattle.fe2o3_scram.specs.declared.scram_messages.error.ServerScramErrorKind.
 use Rattle.fe2o3_sasl_core.specs.LoginAttempts.{Attempt, ClaimIn, IsAttempt, LateClaim, RecordsResponse, with_late}
 use Rattle.fe2o3_sasl_core.specs.PlainServer.{asked_identity}
 use Rattle.fe2o3_sasl_core.specs.SaslAcceptor.{Acceptor, ScramAcceptor, acceptor_machine, ends_with}
-use Rattle.fe2o3_sasl_core.specs.Servers.{AsksForResponse, ClosesExchange, ConfirmsSignature, ExchangeOpen, InitAnswers, InitWhere, NotStarted, OpensScram, ResponseAnswers, ResponseAsked, ServerLogin, ServerSettings, ServerStage, SignatureShown, StageRejects, UserAuthenticated, asked_way, exchange_server, is_response_asked, provider_by, sasl_machine}
+use Rattle.fe2o3_sasl_core.specs.Servers.{AsksForResponse, ClosesExchange, ConfirmsSignature, ExchangeOpen, InitAnswers, InitWhere, NotStarted, OpensScram, ResponseAnswers, ResponseAsked, ServerLogin, ServerSettings, ServerStage, SignatureShown, StageRejects, UserAuthenticated, asked_mechanism, exchange_server, is_response_asked, provider_by, sasl_machine}
 use Rattle.fe2o3_sasl_core.specs.declared.mechanism.Mechanism.{Mechanism}
 use Rattle.fe2o3_sasl_core.specs.declared.mechanism.Mechanism.TheVariants as mechanisms
 use Rattle.fe2o3_sasl_core.proofs.lemmas.machines.ClaimLemmas.{one_claim}
@@ -148,16 +148,16 @@ one_answer settings version plus exchange text answer again is too =
 
 -- ---- inits
 
-one_asked : (asks : Bool) (way : Mechanism) (kept next last : ServerStage) (nonce : List ℕ) (reply other : SaslFrame)
-    → AsksForResponse asks way kept nonce reply next → AsksForResponse asks way kept nonce other last
+one_asked : (asks : Bool) (mechanism : Mechanism) (kept next last : ServerStage) (nonce : List ℕ) (reply other : SaslFrame)
+    → AsksForResponse asks mechanism kept nonce reply next → AsksForResponse asks mechanism kept nonce other last
     → AreOne reply other next last
-one_asked true way kept next last nonce reply other is too = (is.0 ∙ sym too.0, is.1 ∙ sym too.1)
-one_asked false way kept next last nonce reply other is too = (is.0 ∙ sym too.0, is.1 ∙ sym too.1)
+one_asked true mechanism kept next last nonce reply other is too = (is.0 ∙ sym too.0, is.1 ∙ sym too.1)
+one_asked false mechanism kept next last nonce reply other is too = (is.0 ∙ sym too.0, is.1 ∙ sym too.1)
 
-one_init : (settings : ServerSettings) (way : Mechanism) (kept next last : ServerStage) (nonce : List ℕ)
+one_init : (settings : ServerSettings) (mechanism : Mechanism) (kept next last : ServerStage) (nonce : List ℕ)
     (response : Option (List ℕ)) (reply other : SaslFrame)
-    → InitAnswers settings way kept nonce response reply next
-    → InitAnswers settings way kept nonce response other last → AreOne reply other next last
+    → InitAnswers settings mechanism kept nonce response reply next
+    → InitAnswers settings mechanism kept nonce response other last → AreOne reply other next last
 one_init settings mechanisms.Anonymous kept next last nonce response reply other is too =
     (is.0 ∙ sym too.0, is.1 ∙ sym too.1)
 one_init settings mechanisms.External kept next last nonce response reply other (inl is) (inl too) =
@@ -172,7 +172,7 @@ one_init settings mechanisms.Plain kept next last nonce (Some text) reply other 
     let one = one_message text is.0 too.0 is.1.0 too.1.0 in (
       is.2.0 ∙ sym too.2.0,
       is.2.1 ∙ ((λ i. UserAuthenticated (record {
-        way = mechanisms.Plain;
+        mechanism = mechanisms.Plain;
         user = Some (one i).user;
         acts_for = asked_identity (one i);
       })) ∙ sym too.2.1),
@@ -192,12 +192,12 @@ one_init settings (mechanisms.Scram version plus) kept next last nonce (Some tex
 one_found : (settings : ServerSettings) (found : Option Mechanism) (stage next last : ServerStage) (nonce : List ℕ)
     (response : Option (List ℕ)) (reply other : SaslFrame)
     → MatchOption found (StageRejects stage reply next)
-    (λ way. InitAnswers settings way stage nonce response reply next)
+    (λ mechanism. InitAnswers settings mechanism stage nonce response reply next)
     → MatchOption found (StageRejects stage other last)
-    (λ way. InitAnswers settings way stage nonce response other last) → AreOne reply other next last
+    (λ mechanism. InitAnswers settings mechanism stage nonce response other last) → AreOne reply other next last
 one_found settings None stage next last nonce response reply other is too = (is.0 ∙ sym too.0, is.1 ∙ sym too.1)
-one_found settings (Some way) stage next last nonce response reply other is too =
-    one_init settings way stage next last nonce response reply other is too
+one_found settings (Some mechanism) stage next last nonce response reply other is too =
+    one_init settings mechanism stage next last nonce response reply other is too
 
 one_where : (settings : ServerSettings) (asked : Bool) (stage next last : ServerStage) (nonce name : List ℕ)
     (response : Option (List ℕ)) (reply other : SaslFrame)
@@ -206,7 +206,7 @@ one_where : (settings : ServerSettings) (asked : Bool) (stage next last : Server
 one_where settings true stage next last nonce name response reply other is too =
     (is.0 ∙ sym too.0, is.1 ∙ sym too.1)
 one_where settings false stage next last nonce name response reply other is too =
-    one_found settings (asked_way settings name) stage next last nonce response reply other is too
+    one_found settings (asked_mechanism settings name) stage next last nonce response reply other is too
 
 -- ---- responses
 
@@ -218,8 +218,8 @@ one_confirmed shown (byte ∷ text) next last reply other is too = (is.0 ∙ sym
 one_response : (settings : ServerSettings) (stage next last : ServerStage) (text : List ℕ) (reply other : SaslFrame)
     → ResponseAnswers settings stage text reply next → ResponseAnswers settings stage text other last
     → AreOne reply other next last
-one_response settings (ResponseAsked way nonce) next last text reply other is too =
-    one_init settings way NotStarted next last nonce (Some text) reply other is too
+one_response settings (ResponseAsked mechanism nonce) next last text reply other is too =
+    one_init settings mechanism NotStarted next last nonce (Some text) reply other is too
 one_response settings (ExchangeOpen version plus exchange) next last text reply other is too =
     one_closed settings.extra.signature version plus exchange is.0 too.0 reply other next last
     (one_answer settings version plus exchange text is.0 too.0 is.1 too.1) is.2 too.2

@@ -9,7 +9,7 @@ use Rattle.fe2o3_scram.specs.declared.hmac.ScramVersion.{ScramVersion}
 use Rattle.fe2o3_scram.specs.declared.scram_messages.error.ServerScramErrorKind.{ServerScramErrorKind}
 use Rattle.fe2o3_scram.proofs.lemmas.messages.ClientFinalLemmas.{one_client_final}
 use Rattle.fe2o3_sasl_core.specs.PlainServer.{asked_identity}
-use Rattle.fe2o3_sasl_core.specs.Servers.{AsksForResponse, ClosesExchange, ConfirmsSignature, ExchangeOpen, InitAnswers, InitWhere, NotStarted, OpensScram, ResponseAnswers, ResponseAsked, SendsSignature, ServerLogin, ServerSettings, ServerStage, SignatureShown, StageRejects, UserAuthenticated, asked_way, exchange_login, exchange_server, is_response_asked, logged_in_at}
+use Rattle.fe2o3_sasl_core.specs.Servers.{AsksForResponse, ClosesExchange, ConfirmsSignature, ExchangeOpen, InitAnswers, InitWhere, NotStarted, OpensScram, ResponseAnswers, ResponseAsked, SendsSignature, ServerLogin, ServerSettings, ServerStage, SignatureShown, StageRejects, UserAuthenticated, asked_mechanism, exchange_login, exchange_server, is_response_asked, logged_in_at}
 use Rattle.fe2o3_sasl_core.specs.declared.mechanism.Mechanism.{Mechanism}
 use Rattle.fe2o3_sasl_core.specs.declared.mechanism.Mechanism.TheVariants as mechanisms
 use Rattle.fe2o3_sasl_core.proofs.lemmas.machines.PlainMessageLemmas.{one_message}
@@ -31,12 +31,12 @@ unnamed stage next login is none named =
 
 -- ---- only completed logins
 
-asked_lets_in : {A : Type 0} (asks : Bool) (way : Mechanism) (kept next : ServerStage) (nonce : List ℕ) (reply : SaslFrame)
-    (login : ServerLogin) → AsksForResponse asks way kept nonce reply next → logged_in_at next ≡ Some login
+asked_lets_in : {A : Type 0} (asks : Bool) (mechanism : Mechanism) (kept next : ServerStage) (nonce : List ℕ) (reply : SaslFrame)
+    (login : ServerLogin) → AsksForResponse asks mechanism kept nonce reply next → logged_in_at next ≡ Some login
     → A ⊎ (next ≡ kept)
-asked_lets_in true way kept next nonce reply login is named =
-    unnamed (ResponseAsked way nonce) next login is.1 refl named
-asked_lets_in false way kept next nonce reply login is named = inr is.1
+asked_lets_in true mechanism kept next nonce reply login is named =
+    unnamed (ResponseAsked mechanism nonce) next login is.1 refl named
+asked_lets_in false mechanism kept next nonce reply login is named = inr is.1
 
 opened_lets_in : {A : Type 0} (version : ScramVersion) (plus : Bool) (kept next : ServerStage)
     (answer : Result (Option (List ℕ × OpenExchange)) ServerScramErrorKind) (reply : SaslFrame) (login : ServerLogin)
@@ -46,10 +46,10 @@ opened_lets_in version plus kept next (Ok (Some opened)) reply login is named =
 opened_lets_in version plus kept next (Ok None) reply login is named = inr is.1
 opened_lets_in version plus kept next (Err fault) reply login is named = inr is.1
 
-init_lets_in : (settings : ServerSettings) (way : Mechanism) (kept next : ServerStage) (nonce : List ℕ)
+init_lets_in : (settings : ServerSettings) (mechanism : Mechanism) (kept next : ServerStage) (nonce : List ℕ)
     (response : Option (List ℕ)) (reply : SaslFrame) (login : ServerLogin)
-    → InitAnswers settings way kept nonce response reply next → logged_in_at next ≡ Some login
-    → InitCompletes settings way response login ⊎ (next ≡ kept)
+    → InitAnswers settings mechanism kept nonce response reply next → logged_in_at next ≡ Some login
+    → InitCompletes settings mechanism response login ⊎ (next ≡ kept)
 init_lets_in settings mechanisms.Anonymous kept next nonce response reply login is named =
     inl (named_login _ login next is.1 named)
 init_lets_in settings mechanisms.External kept next nonce response reply login (inl is) named =
@@ -97,9 +97,9 @@ late_lets_in stage next login (inr is) named = unnamed NotStarted next login is 
 response_lets_in : (settings : ServerSettings) (stage next : ServerStage) (text : List ℕ) (reply : SaslFrame)
     (login : ServerLogin) → ResponseAnswers settings stage text reply next → logged_in_at next ≡ Some login
     → ResponseCompletes settings stage text login ⊎ (next ≡ stage)
-response_lets_in settings (ResponseAsked way nonce) next text reply login is named =
-    late_lets_in (ResponseAsked way nonce) next login
-    (init_lets_in settings way NotStarted next nonce (Some text) reply login is named) named
+response_lets_in settings (ResponseAsked mechanism nonce) next text reply login is named =
+    late_lets_in (ResponseAsked mechanism nonce) next login
+    (init_lets_in settings mechanism NotStarted next nonce (Some text) reply login is named) named
 response_lets_in settings (ExchangeOpen version plus exchange) next text reply login is named =
     closed_lets_in settings settings.extra.signature version plus exchange text is.0 reply next login refl is.1 is.2 named
 response_lets_in settings (SignatureShown shown) next text reply login is named =
@@ -110,31 +110,31 @@ response_lets_in settings (UserAuthenticated before) next text reply login is na
 -- an init, where it asks for this mechanism or for none that is offered
 found_lets_in : (settings : ServerSettings) (stage next : ServerStage) (nonce name : List ℕ)
     (response : Option (List ℕ)) (reply : SaslFrame) (login : ServerLogin) (found : Option Mechanism)
-    → is_response_asked stage ≡ false → asked_way settings name ≡ found
+    → is_response_asked stage ≡ false → asked_mechanism settings name ≡ found
     → MatchOption found (StageRejects stage reply next)
-    (λ way. InitAnswers settings way stage nonce response reply next) → logged_in_at next ≡ Some login
-    → ((is_response_asked stage ≡ false) × ((way : Mechanism) × (asked_way settings name ≡ Some way)
-    × InitCompletes settings way response login)) ⊎ (next ≡ stage)
+    (λ mechanism. InitAnswers settings mechanism stage nonce response reply next) → logged_in_at next ≡ Some login
+    → ((is_response_asked stage ≡ false) × ((mechanism : Mechanism) × (asked_mechanism settings name ≡ Some mechanism)
+    × InitCompletes settings mechanism response login)) ⊎ (next ≡ stage)
 found_lets_in settings stage next nonce name response reply login None due found is named = inr is.1
-found_lets_in settings stage next nonce name response reply login (Some way) due found is named =
-    go (init_lets_in settings way stage next nonce response reply login is named)
+found_lets_in settings stage next nonce name response reply login (Some mechanism) due found is named =
+    go (init_lets_in settings mechanism stage next nonce response reply login is named)
   where
-    go : InitCompletes settings way response login ⊎ (next ≡ stage)
-        → ((is_response_asked stage ≡ false) × ((way : Mechanism) × (asked_way settings name ≡ Some way)
-        × InitCompletes settings way response login)) ⊎ (next ≡ stage)
-    go (inl completes) = inl (due, (way, found, completes))
+    go : InitCompletes settings mechanism response login ⊎ (next ≡ stage)
+        → ((is_response_asked stage ≡ false) × ((mechanism : Mechanism) × (asked_mechanism settings name ≡ Some mechanism)
+        × InitCompletes settings mechanism response login)) ⊎ (next ≡ stage)
+    go (inl completes) = inl (due, (mechanism, found, completes))
     go (inr same) = inr same
 
 where_lets_in : (settings : ServerSettings) (stage next : ServerStage) (nonce name : List ℕ)
     (response : Option (List ℕ)) (reply : SaslFrame) (login : ServerLogin) (asked : Bool)
     → is_response_asked stage ≡ asked → InitWhere asked settings stage nonce name response reply next
     → logged_in_at next ≡ Some login
-    → ((is_response_asked stage ≡ false) × ((way : Mechanism) × (asked_way settings name ≡ Some way)
-    × InitCompletes settings way response login)) ⊎ (next ≡ stage)
+    → ((is_response_asked stage ≡ false) × ((mechanism : Mechanism) × (asked_mechanism settings name ≡ Some mechanism)
+    × InitCompletes settings mechanism response login)) ⊎ (next ≡ stage)
 where_lets_in settings stage next nonce name response reply login true due is named =
     unnamed NotStarted next login is.1 refl named
 where_lets_in settings stage next nonce name response reply login false due is named =
-    found_lets_in settings stage next nonce name response reply login (asked_way settings name) due refl is named
+    found_lets_in settings stage next nonce name response reply login (asked_mechanism settings name) due refl is named
 
 pub only_lets_in : OnlyCompletedLoginsAreLetIn
 only_lets_in server next nonce (frames.Init name response hostname) reply login (same, answers, records) named =
@@ -148,9 +148,9 @@ only_lets_in server next nonce (frames.Outcome code more) reply login (same, ans
 
 -- ---- completed logins
 
-init_completes : (settings : ServerSettings) (way : Mechanism) (kept next : ServerStage) (nonce : List ℕ)
+init_completes : (settings : ServerSettings) (mechanism : Mechanism) (kept next : ServerStage) (nonce : List ℕ)
     (response : Option (List ℕ)) (reply : SaslFrame) (login : ServerLogin)
-    → InitAnswers settings way kept nonce response reply next → InitCompletes settings way response login
+    → InitAnswers settings mechanism kept nonce response reply next → InitCompletes settings mechanism response login
     → next ≡ UserAuthenticated login
 init_completes settings mechanisms.Anonymous kept next nonce response reply login is completes =
     is.1 ∙ ap UserAuthenticated (sym completes)
@@ -162,7 +162,7 @@ init_completes settings mechanisms.Plain kept next nonce None reply login is com
 init_completes settings mechanisms.Plain kept next nonce (Some text) reply login (inl is) completes =
     let one = one_message text is.0 completes.0 is.1.0 completes.1.0 in
     is.2.1 ∙ ((λ i. UserAuthenticated (record {
-      way = mechanisms.Plain;
+      mechanism = mechanisms.Plain;
       user = Some (one i).user;
       acts_for = asked_identity (one i);
     })) ∙ ap UserAuthenticated (sym completes.2))
@@ -194,8 +194,8 @@ confirmed_completes shown (byte ∷ text) reply next login is empty made = absur
 response_completes : (settings : ServerSettings) (stage next : ServerStage) (text : List ℕ) (reply : SaslFrame)
     (login : ServerLogin) → ResponseAnswers settings stage text reply next → ResponseCompletes settings stage text login
     → next ≡ UserAuthenticated login
-response_completes settings (ResponseAsked way nonce) next text reply login is completes =
-    init_completes settings way NotStarted next nonce (Some text) reply login is completes
+response_completes settings (ResponseAsked mechanism nonce) next text reply login is completes =
+    init_completes settings mechanism NotStarted next nonce (Some text) reply login is completes
 response_completes settings (ExchangeOpen version plus exchange) next text reply login (answer, answers, closes)
     completes =
     closed_completes settings version plus exchange text answer reply next login answers closes completes
@@ -206,12 +206,12 @@ response_completes settings (UserAuthenticated before) next text reply login is 
 
 pub lets_in : CompletedLoginsAreLetIn
 lets_in server next nonce (frames.Init name response hostname) reply login (same, answers, records)
-    (due, (way, found, completes)) =
+    (due, (mechanism, found, completes)) =
     let own = subst (λ (asked : Bool). InitWhere asked server.settings server.stage nonce name response reply next.stage)
     due answers in
     let of_way = subst (λ (it : Option Mechanism). MatchOption it (StageRejects server.stage reply next.stage)
-    (λ way. InitAnswers server.settings way server.stage nonce response reply next.stage)) found own in
-    init_completes server.settings way server.stage next.stage nonce response reply login of_way completes
+    (λ mechanism. InitAnswers server.settings mechanism server.stage nonce response reply next.stage)) found own in
+    init_completes server.settings mechanism server.stage next.stage nonce response reply login of_way completes
 lets_in server next nonce (frames.Response text) reply login (same, answers, records) completes =
     response_completes server.settings server.stage next.stage text reply login answers completes
 lets_in server next nonce (frames.Mechanisms names) reply login (same, answers, records) completes = absurd answers
@@ -230,12 +230,12 @@ pub unshown : {A : Type 0} (stage next : ServerStage) (login : ServerLogin) → 
 unshown stage next login is none shows =
     let no : None ≡ Some login = sym none ∙ ap shown_at (sym is ∙ shows) in absurd (cc)
 
-asked_shows : {A : Type 0} (asks : Bool) (way : Mechanism) (kept next : ServerStage) (nonce : List ℕ) (reply : SaslFrame)
-    (login : ServerLogin) → AsksForResponse asks way kept nonce reply next → next ≡ SignatureShown login
+asked_shows : {A : Type 0} (asks : Bool) (mechanism : Mechanism) (kept next : ServerStage) (nonce : List ℕ) (reply : SaslFrame)
+    (login : ServerLogin) → AsksForResponse asks mechanism kept nonce reply next → next ≡ SignatureShown login
     → A ⊎ (next ≡ kept)
-asked_shows true way kept next nonce reply login is shows =
-    unshown (ResponseAsked way nonce) next login is.1 refl shows
-asked_shows false way kept next nonce reply login is shows = inr is.1
+asked_shows true mechanism kept next nonce reply login is shows =
+    unshown (ResponseAsked mechanism nonce) next login is.1 refl shows
+asked_shows false mechanism kept next nonce reply login is shows = inr is.1
 
 opened_shows : {A : Type 0} (version : ScramVersion) (plus : Bool) (kept next : ServerStage)
     (answer : Result (Option (List ℕ × OpenExchange)) ServerScramErrorKind) (reply : SaslFrame) (login : ServerLogin)
@@ -245,9 +245,9 @@ opened_shows version plus kept next (Ok (Some opened)) reply login is shows =
 opened_shows version plus kept next (Ok None) reply login is shows = inr is.1
 opened_shows version plus kept next (Err fault) reply login is shows = inr is.1
 
-init_shows : {A : Type 0} (settings : ServerSettings) (way : Mechanism) (kept next : ServerStage) (nonce : List ℕ)
+init_shows : {A : Type 0} (settings : ServerSettings) (mechanism : Mechanism) (kept next : ServerStage) (nonce : List ℕ)
     (response : Option (List ℕ)) (reply : SaslFrame) (login : ServerLogin)
-    → InitAnswers settings way kept nonce response reply next → next ≡ SignatureShown login → A ⊎ (next ≡ kept)
+    → InitAnswers settings mechanism kept nonce response reply next → next ≡ SignatureShown login → A ⊎ (next ≡ kept)
 init_shows settings mechanisms.Anonymous kept next nonce response reply login is shows =
     unshown (UserAuthenticated _) next login is.1 refl shows
 init_shows settings mechanisms.External kept next nonce response reply login (inl is) shows =
@@ -297,9 +297,9 @@ late_shows stage next login (inr is) shows = unshown NotStarted next login is re
 response_shows : (settings : ServerSettings) (stage next : ServerStage) (text : List ℕ) (reply : SaslFrame)
     (login : ServerLogin) → ResponseAnswers settings stage text reply next → next ≡ SignatureShown login
     → ProofBefore settings stage (frames.Response text) login ⊎ (next ≡ stage)
-response_shows settings (ResponseAsked way nonce) next text reply login is shows =
-    late_shows (ResponseAsked way nonce) next login
-    (init_shows settings way NotStarted next nonce (Some text) reply login is shows) shows
+response_shows settings (ResponseAsked mechanism nonce) next text reply login is shows =
+    late_shows (ResponseAsked mechanism nonce) next login
+    (init_shows settings mechanism NotStarted next nonce (Some text) reply login is shows) shows
 response_shows settings (ExchangeOpen version plus exchange) next text reply login (answer, answers, closes) shows =
     closed_shows settings settings.extra.signature version plus exchange text answer reply next login answers closes
     shows
@@ -311,11 +311,11 @@ response_shows settings (UserAuthenticated before) next text reply login is show
 found_shows : {A : Type 0} (settings : ServerSettings) (stage next : ServerStage) (nonce : List ℕ)
     (response : Option (List ℕ)) (reply : SaslFrame) (login : ServerLogin) (found : Option Mechanism)
     → MatchOption found (StageRejects stage reply next)
-    (λ way. InitAnswers settings way stage nonce response reply next) → next ≡ SignatureShown login
+    (λ mechanism. InitAnswers settings mechanism stage nonce response reply next) → next ≡ SignatureShown login
     → A ⊎ (next ≡ stage)
 found_shows settings stage next nonce response reply login None is shows = inr is.1
-found_shows settings stage next nonce response reply login (Some way) is shows =
-    init_shows settings way stage next nonce response reply login is shows
+found_shows settings stage next nonce response reply login (Some mechanism) is shows =
+    init_shows settings mechanism stage next nonce response reply login is shows
 
 where_shows : {A : Type 0} (settings : ServerSettings) (stage next : ServerStage) (nonce name : List ℕ)
     (response : Option (List ℕ)) (reply : SaslFrame) (login : ServerLogin) (asked : Bool)
@@ -323,7 +323,7 @@ where_shows : {A : Type 0} (settings : ServerSettings) (stage next : ServerStage
 where_shows settings stage next nonce name response reply login true is shows =
     unshown NotStarted next login is.1 refl shows
 where_shows settings stage next nonce name response reply login false is shows =
-    found_shows settings stage next nonce response reply login (asked_way settings name) is shows
+    found_shows settings stage next nonce response reply login (asked_mechanism settings name) is shows
 
 pub follows_proof : SignaturesFollowProofs
 follows_proof server next nonce (frames.Init name response hostname) reply login (same, answers, records) shows =

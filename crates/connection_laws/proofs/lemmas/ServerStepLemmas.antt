@@ -10,7 +10,7 @@ use Rattle.fe2o3_scram.specs.declared.hmac.ScramVersion.{ScramVersion}
 use Rattle.fe2o3_scram.specs.declared.scram_messages.error.ServerScramErrorKind.{ServerScramErrorKind}
 use Rattle.fe2o3_sasl_core.specs.Events.{Challenged}
 use Rattle.fe2o3_sasl_core.specs.SaslAcceptor.{ends_with}
-use Rattle.fe2o3_sasl_core.specs.Servers.{AsksForResponse, ClosesExchange, ConfirmsSignature, ExchangeOpen, InitAnswers, InitWhere, NotStarted, OpensScram, ResponseAnswers, ResponseAsked, ServerAt, ServerLogin, ServerSettings, ServerStage, SignatureShown, StageRejects, UserAuthenticated, asked_way, exchange_server, is_response_asked, logged_in_at, sasl_machine}
+use Rattle.fe2o3_sasl_core.specs.Servers.{AsksForResponse, ClosesExchange, ConfirmsSignature, ExchangeOpen, InitAnswers, InitWhere, NotStarted, OpensScram, ResponseAnswers, ResponseAsked, ServerAt, ServerLogin, ServerSettings, ServerStage, SignatureShown, StageRejects, UserAuthenticated, asked_mechanism, exchange_server, is_response_asked, logged_in_at, sasl_machine}
 use Rattle.fe2o3_sasl_core.specs.declared.mechanism.Mechanism.{Mechanism}
 use Rattle.fe2o3_sasl_core.specs.declared.mechanism.Mechanism.TheVariants as mechanisms
 use Rattle.fe2o3_sasl_negotiation.specs.FrameSizes.{CanBeSent}
@@ -55,10 +55,10 @@ accepts kept next reply login is at =
 
 -- ---- inits
 
-asked_kind : (asks : Bool) (way : Mechanism) (kept next : ServerStage) (nonce : List ℕ) (reply : SaslFrame)
-    → AsksForResponse asks way kept nonce reply next → Kind kept reply next
-asked_kind true way kept next nonce reply is = waits [] (ResponseAsked way nonce) kept next reply is.0 is.1 refl
-asked_kind false way kept next nonce reply is = rejects kept next reply is
+asked_kind : (asks : Bool) (mechanism : Mechanism) (kept next : ServerStage) (nonce : List ℕ) (reply : SaslFrame)
+    → AsksForResponse asks mechanism kept nonce reply next → Kind kept reply next
+asked_kind true mechanism kept next nonce reply is = waits [] (ResponseAsked mechanism nonce) kept next reply is.0 is.1 refl
+asked_kind false mechanism kept next nonce reply is = rejects kept next reply is
 
 opened_kind : (version : ScramVersion) (plus : Bool) (kept next : ServerStage)
     (answer : Result (Option (List ℕ × OpenExchange)) ServerScramErrorKind) (reply : SaslFrame)
@@ -68,8 +68,8 @@ opened_kind version plus kept next (Ok (Some opened)) reply is =
 opened_kind version plus kept next (Ok None) reply is = rejects kept next reply is
 opened_kind version plus kept next (Err fault) reply is = rejects kept next reply is
 
-init_kind : (settings : ServerSettings) (way : Mechanism) (kept next : ServerStage) (nonce : List ℕ)
-    (response : Option (List ℕ)) (reply : SaslFrame) → InitAnswers settings way kept nonce response reply next
+init_kind : (settings : ServerSettings) (mechanism : Mechanism) (kept next : ServerStage) (nonce : List ℕ)
+    (response : Option (List ℕ)) (reply : SaslFrame) → InitAnswers settings mechanism kept nonce response reply next
     → Kind kept reply next
 init_kind settings mechanisms.Anonymous kept next nonce response reply is = accepts kept next reply _ is.0 is.1
 init_kind settings mechanisms.External kept next nonce response reply (inl is) = accepts kept next reply _ is.1.0 is.1.1
@@ -86,17 +86,17 @@ init_kind settings (mechanisms.Scram version plus) kept next nonce (Some text) r
 found_kind : (settings : ServerSettings) (found : Option Mechanism) (stage next : ServerStage) (nonce : List ℕ)
     (response : Option (List ℕ)) (reply : SaslFrame)
     → MatchOption found (StageRejects stage reply next)
-    (λ way. InitAnswers settings way stage nonce response reply next) → Kind stage reply next
+    (λ mechanism. InitAnswers settings mechanism stage nonce response reply next) → Kind stage reply next
 found_kind settings None stage next nonce response reply is = rejects stage next reply is
-found_kind settings (Some way) stage next nonce response reply is =
-    init_kind settings way stage next nonce response reply is
+found_kind settings (Some mechanism) stage next nonce response reply is =
+    init_kind settings mechanism stage next nonce response reply is
 
 where_kind : (settings : ServerSettings) (asked : Bool) (stage next : ServerStage) (nonce name : List ℕ)
     (response : Option (List ℕ)) (reply : SaslFrame)
     → InitWhere asked settings stage nonce name response reply next → Kind stage reply next
 where_kind settings true stage next nonce name response reply is = restarts stage next reply is
 where_kind settings false stage next nonce name response reply is =
-    found_kind settings (asked_way settings name) stage next nonce response reply is
+    found_kind settings (asked_mechanism settings name) stage next nonce response reply is
 
 -- ---- responses
 
@@ -127,17 +127,17 @@ confirmed_kind shown [] next reply is = accepts (SignatureShown shown) next repl
 confirmed_kind shown (byte ∷ text) next reply is = restarts (SignatureShown shown) next reply is
 
 -- what is kept is not the stage before, where a response was asked for
-late_kind : (way : Mechanism) (nonce : List ℕ) (next : ServerStage) (reply : SaslFrame) → Kind NotStarted reply next
-    → Kind (ResponseAsked way nonce) reply next
-late_kind way nonce next reply (inl is) = inl is
-late_kind way nonce next reply (inr (inl (is, inl at))) = inr (inl (is, inr at))
-late_kind way nonce next reply (inr (inl (is, inr at))) = inr (inl (is, inr at))
-late_kind way nonce next reply (inr (inr is)) = inr (inr is)
+late_kind : (mechanism : Mechanism) (nonce : List ℕ) (next : ServerStage) (reply : SaslFrame) → Kind NotStarted reply next
+    → Kind (ResponseAsked mechanism nonce) reply next
+late_kind mechanism nonce next reply (inl is) = inl is
+late_kind mechanism nonce next reply (inr (inl (is, inl at))) = inr (inl (is, inr at))
+late_kind mechanism nonce next reply (inr (inl (is, inr at))) = inr (inl (is, inr at))
+late_kind mechanism nonce next reply (inr (inr is)) = inr (inr is)
 
 response_kind : (settings : ServerSettings) (stage next : ServerStage) (text : List ℕ) (reply : SaslFrame)
     → ResponseAnswers settings stage text reply next → Kind stage reply next
-response_kind settings (ResponseAsked way nonce) next text reply is =
-    late_kind way nonce next reply (init_kind settings way NotStarted next nonce (Some text) reply is)
+response_kind settings (ResponseAsked mechanism nonce) next text reply is =
+    late_kind mechanism nonce next reply (init_kind settings mechanism NotStarted next nonce (Some text) reply is)
 response_kind settings (ExchangeOpen version plus exchange) next text reply (answer, answers, closes) =
     closed_kind settings settings.extra.signature version plus exchange text answer next reply answers closes
 response_kind settings (SignatureShown shown) next text reply is = confirmed_kind shown text next reply is

@@ -20,7 +20,7 @@ use Rattle.fe2o3_sasl_core.specs.Events.{Challenged, Failed, Given, ServerSays}
 use Rattle.fe2o3_sasl_core.specs.SaslAcceptor.{ends_with}
 use Rattle.fe2o3_sasl_core.specs.ServerHistory.{Accepted, server_at}
 use Rattle.fe2o3_sasl_core.specs.Mechanisms.{mechanism_symbol}
-use Rattle.fe2o3_sasl_core.specs.Servers.{ConfirmsSignature, ExchangeOpen, NotStarted, ResponseAnswers, ResponseAsked, ServerAt, ServerLogin, ServerSettings, ServerStage, SignatureShown, UserAuthenticated, asked_way, exchange_login, exchange_server, is_offered_by, logged_in_at, provider_by, rules_by, sasl_machine}
+use Rattle.fe2o3_sasl_core.specs.Servers.{ConfirmsSignature, ExchangeOpen, NotStarted, ResponseAnswers, ResponseAsked, ServerAt, ServerLogin, ServerSettings, ServerStage, SignatureShown, UserAuthenticated, asked_mechanism, exchange_login, exchange_server, is_offered_by, logged_in_at, provider_by, rules_by, sasl_machine}
 use Rattle.fe2o3_sasl_core.specs.declared.mechanism.Mechanism.{Mechanism}
 use Rattle.fe2o3_sasl_core.specs.declared.mechanism.Mechanism.TheVariants as mechanisms
 use Rattle.fe2o3_sasl_core.proofs.lemmas.frames.SpellingLemmas.{sent}
@@ -30,7 +30,7 @@ use Rattle.fe2o3_sasl_negotiation.specs.declared.progress.FrameKind.TheVariants 
 use Rattle.fe2o3_sasl_negotiation.proofs.lemmas.FrameSizeLemmas.{outcomes_fit}
 use Rattle.connection_laws.specs.ConnectionLogins.{AreMessages, AreResponses, CompletesLogin, MessagesLogIn, ScramMessages, confirmation, new_server}
 use Rattle.connection_laws.specs.ServerPairs.{AcceptsScram, SignedLoginsAreAccepted, scram_of, signed_login}
-use Rattle.connection_laws.proofs.lemmas.ConnectionLoginLemmas.{found_way, of_login, run}
+use Rattle.connection_laws.proofs.lemmas.ConnectionLoginLemmas.{found_mechanism, of_login, run}
 use Rattle.connection_laws.proofs.lemmas.RestLoginLemmas.{IsChallenged, RestLogsIn, init_rest, response_rest}
 use Rattle.connection_laws.proofs.lemmas.ServedLemmas.{Served, Stepped, init_of, init_step, response_step, sent_outcome}
 use Rattle.connection_laws.proofs.lemmas.ServerLemmas.{response_of}
@@ -84,23 +84,23 @@ module _ (settings : ServerSettings) (version : ScramVersion) (plus : Bool) (non
 -- the messages of a login of SCRAM by this mechanism, and what they are of
 abbrev SaysAccepted : ServerSettings → ScramVersion → Bool → List ℕ → Mechanism → Option (List ℕ) → List (List ℕ) → ServerLogin
     → Type 0
-SaysAccepted settings version plus nonce way response texts login = (way ≡ mechanisms.Scram version plus)
+SaysAccepted settings version plus nonce mechanism response texts login = (mechanism ≡ mechanisms.Scram version plus)
     × ((first : List ℕ) × (final : List ℕ) × AreMessages settings.extra.initial_response response texts
     (first ∷ final ∷ confirmation settings.extra.signature)
     × ((accepted : Accepted) × OfMessages settings version plus nonce first final login accepted))
 
-says_accepted : (settings : ServerSettings) (version : ScramVersion) (plus : Bool) (nonce : List ℕ) (way : Mechanism)
+says_accepted : (settings : ServerSettings) (version : ScramVersion) (plus : Bool) (nonce : List ℕ) (mechanism : Mechanism)
     (response : Option (List ℕ)) (texts : List (List ℕ)) (login : ServerLogin)
-    → MessagesLogIn settings way nonce response texts login → login.way ≡ mechanisms.Scram version plus
-    → SaysAccepted settings version plus nonce way response texts login
+    → MessagesLogIn settings mechanism nonce response texts login → login.mechanism ≡ mechanisms.Scram version plus
+    → SaysAccepted settings version plus nonce mechanism response texts login
 says_accepted settings version plus nonce mechanisms.Anonymous response texts login completes is =
-    let no = sym (ap (λ (l : ServerLogin). l.way) completes.1) ∙ is in absurd (cc)
+    let no = sym (ap (λ (l : ServerLogin). l.mechanism) completes.1) ∙ is in absurd (cc)
 says_accepted settings version plus nonce mechanisms.External response texts login completes is =
-    let no = sym (ap (λ (l : ServerLogin). l.way) completes.1.1) ∙ is in absurd (cc)
+    let no = sym (ap (λ (l : ServerLogin). l.mechanism) completes.1.1) ∙ is in absurd (cc)
 says_accepted settings version plus nonce mechanisms.Plain response texts login completes is =
-    let no = sym (ap (λ (l : ServerLogin). l.way) completes.2.2) ∙ is in absurd (cc)
+    let no = sym (ap (λ (l : ServerLogin). l.mechanism) completes.2.2) ∙ is in absurd (cc)
 says_accepted settings version plus nonce (mechanisms.Scram own bound) response texts login (messages, are, scram) is =
-    let one : mechanisms.Scram own bound ≡ mechanisms.Scram version plus = sym (ap (λ (l : ServerLogin). l.way) scram.made) ∙ is in
+    let one : mechanisms.Scram own bound ≡ mechanisms.Scram version plus = sym (ap (λ (l : ServerLogin). l.mechanism) scram.made) ∙ is in
     let hash : own ≡ version = cc in
     let kind : bound ≡ plus = cc in
     let (accepted, of) = of_messages settings own bound nonce messages login scram in (
@@ -124,10 +124,10 @@ AcceptedLogin settings version plus events login =
     × (login.user ≡ Some accepted.challenge.client.user) × (login.acts_for ≡ accepted.challenge.client.header.acts_for)
 
 logged_accepts : (settings : ServerSettings) (version : ScramVersion) (plus : Bool) (events : List Given)
-    (login : ServerLogin) → CompletesLogin settings events login → login.way ≡ mechanisms.Scram version plus
+    (login : ServerLogin) → CompletesLogin settings events login → login.mechanism ≡ mechanisms.Scram version plus
     → AcceptedLogin settings version plus events login
 logged_accepts settings version plus events login logs is =
-    let (way, (first, final, are, (accepted, of))) = says_accepted settings version plus logs.init.nonce logs.way logs.response
+    let (mechanism, (first, final, are, (accepted, of))) = says_accepted settings version plus logs.init.nonce logs.mechanism logs.response
     logs.texts login logs.completes is in (
       accepted,
       record {
@@ -141,8 +141,8 @@ logged_accepts settings version plus events login logs is =
         rest = confirmation settings.extra.signature;
         all = logs.all;
         begins = subst (λ (w : Mechanism). SpellsBody logs.init.body (Ok (frames.Init (mechanism_symbol w) logs.response logs.hostname)))
-            way logs.begins;
-        offered = subst (λ (w : Mechanism). is_offered_by settings w ≡ true) way logs.offered;
+            mechanism logs.begins;
+        offered = subst (λ (w : Mechanism). is_offered_by settings w ≡ true) mechanism logs.offered;
         goes_on = logs.goes_on;
         messages = are;
         reads = of.reads;
@@ -160,7 +160,7 @@ logged_accepts settings version plus events login logs is =
 shown_is : (stage : ServerStage) (login : ServerLogin) → shown_at stage ≡ Some login → stage ≡ SignatureShown login
 shown_is (SignatureShown shown) login is = ap SignatureShown (same_Some shown login is)
 shown_is NotStarted login is = absurd (cc)
-shown_is (ResponseAsked way nonce) login is = absurd (cc)
+shown_is (ResponseAsked mechanism nonce) login is = absurd (cc)
 shown_is (ExchangeOpen version plus exchange) login is = absurd (cc)
 shown_is (UserAuthenticated before) login is = absurd (cc)
 
@@ -307,15 +307,15 @@ some_final server text final reads empty =
 record ShowsLogin (settings : ServerSettings) (events : List Given) (login : ServerLogin) : Type 0 where
   init : Given
   later : List Given
-  way : Mechanism
+  mechanism : Mechanism
   response : Option (List ℕ)
   hostname : Option (List ℕ)
   texts : List (List ℕ)
   all : events ≡ init ∷ later
-  begins : SpellsBody init.body (Ok (frames.Init (mechanism_symbol way) response hostname))
-  offered : is_offered_by settings way ≡ true
+  begins : SpellsBody init.body (Ok (frames.Init (mechanism_symbol mechanism) response hostname))
+  offered : is_offered_by settings mechanism ≡ true
   goes_on : AreResponses later texts
-  completes : MessagesLogIn settings way init.nonce response (texts ++ [] ∷ []) login
+  completes : MessagesLogIn settings mechanism init.nonce response (texts ++ [] ∷ []) login
 
 shows_of : (pieces : List Piece) (limit : ℕ) (settings : ServerSettings) (events : List Given)
     (replies : List ServerSays) (last : ServerAt) (login : ServerLogin)
@@ -328,13 +328,13 @@ shows_of pieces limit settings (event ∷ []) replies last login are (says, memo
     let (name, response, hostname, spells) = init_of event.body are.1 in
     let it = first_shown (new_server settings) last event.nonce (frames.Init name response hostname) says login refl shows
     (init_step sasl_machine (new_server settings) last event says name response hostname spells memory step) in
-    let (way, found, answers) = found_way (asked_way settings name) settings event.nonce response it.reply last.stage it.is
+    let (mechanism, found, answers) = found_mechanism (asked_mechanism settings name) settings event.nonce response it.reply last.stage it.is
     it.by.1 in
-    let (named, offered) = asked_offers settings name way found in
+    let (named, offered) = asked_offers settings name mechanism found in
     record {
       init = event;
       later = [];
-      way = way;
+      mechanism = mechanism;
       response = response;
       hostname = hostname;
       texts = [];
@@ -342,7 +342,7 @@ shows_of pieces limit settings (event ∷ []) replies last login are (says, memo
       begins = subst (λ (n : List ℕ). SpellsBody event.body (Ok (frames.Init n response hostname))) named spells;
       offered = offered;
       goes_on = refl;
-      completes = init_rest settings NotStarted last.stage event.nonce it.reply it.is ([] ∷ []) login way response answers
+      completes = init_rest settings NotStarted last.stage event.nonce it.reply it.is ([] ∷ []) login mechanism response answers
           (confirms settings last.stage login shows);
     }
 shows_of pieces limit settings (event ∷ second ∷ events) replies last login are (body, next, others, all, step, run) shows =
@@ -350,15 +350,15 @@ shows_of pieces limit settings (event ∷ second ∷ events) replies last login 
     let c = challenge (new_server settings) next event.nonce (frames.Init name response hostname) body
     (init_step sasl_machine (new_server settings) next event (Challenged body) name response hostname spells
     (challenge_has_memory body) step) in
-    let (way, found, answers) = found_way (asked_way settings name) settings event.nonce response c.reply next.stage c.is
+    let (mechanism, found, answers) = found_mechanism (asked_mechanism settings name) settings event.nonce response c.reply next.stage c.is
     c.by.1 in
-    let (named, offered) = asked_offers settings name way found in
+    let (named, offered) = asked_offers settings name mechanism found in
     let (texts, more, rest) = shown_rest pieces limit (8 + (length event.body + 4)) next (second ∷ events) others last
     login are.3 run shows in
     record {
       init = event;
       later = second ∷ events;
-      way = way;
+      mechanism = mechanism;
       response = response;
       hostname = hostname;
       texts = texts;
@@ -366,15 +366,15 @@ shows_of pieces limit settings (event ∷ second ∷ events) replies last login 
       begins = subst (λ (n : List ℕ). SpellsBody event.body (Ok (frames.Init n response hostname))) named spells;
       offered = offered;
       goes_on = more;
-      completes = init_rest settings NotStarted next.stage event.nonce c.reply c.is (texts ++ [] ∷ []) login way response
+      completes = init_rest settings NotStarted next.stage event.nonce c.reply c.is (texts ++ [] ∷ []) login mechanism response
           answers (subst (λ (s : ServerSettings). RestLogsIn s next.stage (texts ++ [] ∷ []) login) c.by.0 rest);
     }
 
 shown_accepts : (settings : ServerSettings) (version : ScramVersion) (plus : Bool) (events : List Given)
-    (login : ServerLogin) → ShowsLogin settings events login → login.way ≡ mechanisms.Scram version plus
+    (login : ServerLogin) → ShowsLogin settings events login → login.mechanism ≡ mechanisms.Scram version plus
     → AcceptedLogin settings version plus events login
 shown_accepts settings version plus events login shows is =
-    let (way, (first, final, are, (accepted, of))) = says_accepted settings version plus shows.init.nonce shows.way
+    let (mechanism, (first, final, are, (accepted, of))) = says_accepted settings version plus shows.init.nonce shows.mechanism
     shows.response (shows.texts ++ [] ∷ []) login shows.completes is in (
       accepted,
       record {
@@ -388,8 +388,8 @@ shown_accepts settings version plus events login shows is =
         rest = [];
         all = shows.all;
         begins = subst (λ (w : Mechanism). SpellsBody shows.init.body
-            (Ok (frames.Init (mechanism_symbol w) shows.response shows.hostname))) way shows.begins;
-        offered = subst (λ (w : Mechanism). is_offered_by settings w ≡ true) way shows.offered;
+            (Ok (frames.Init (mechanism_symbol w) shows.response shows.hostname))) mechanism shows.begins;
+        offered = subst (λ (w : Mechanism). is_offered_by settings w ≡ true) mechanism shows.offered;
         goes_on = shows.goes_on;
         messages = cut_messages settings.extra.initial_response settings.extra.signature shows.response shows.texts first
             final (some_final (server_at (scram_of settings version plus) accepted.challenge) final accepted.final of.meets)
@@ -424,5 +424,5 @@ signed_logins_are_accepted settings server login version plus signed is =
         (run settings server) shows) is
     go (UserAuthenticated before) at named = logged (ap (λ (s : ServerStage). logged_in_at s) at ∙ named)
     go NotStarted at named = absurd (cc)
-    go (ResponseAsked way nonce) at named = absurd (cc)
+    go (ResponseAsked mechanism nonce) at named = absurd (cc)
     go (ExchangeOpen version plus exchange) at named = absurd (cc)

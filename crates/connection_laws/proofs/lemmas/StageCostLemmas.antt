@@ -20,7 +20,7 @@ use Rattle.fe2o3_sasl_core.specs.Events.{Given, Failed}
 use Rattle.fe2o3_sasl_core.specs.MockChoices.{MockChoice, count_of_unknown, mock_for}
 use Rattle.fe2o3_sasl_core.specs.PlainServer.{TestsPassword, count_or, plain_hmacs}
 use Rattle.fe2o3_sasl_core.specs.SaslAcceptor.{ScramAcceptor}
-use Rattle.fe2o3_sasl_core.specs.Servers.{AsksForResponse, ClosesExchange, ConfirmsSignature, ExchangeOpen, InitAnswers, InitWhere, NotStarted, OpensScram, ResponseAnswers, ResponseAsked, ServerLogin, ServerSettings, ServerStage, SignatureShown, StageRejects, UserAuthenticated, asked_way, init_hmacs, init_where_hmacs, is_offered_by, plain_by_settings, provider_by, response_hmacs}
+use Rattle.fe2o3_sasl_core.specs.Servers.{AsksForResponse, ClosesExchange, ConfirmsSignature, ExchangeOpen, InitAnswers, InitWhere, NotStarted, OpensScram, ResponseAnswers, ResponseAsked, ServerLogin, ServerSettings, ServerStage, SignatureShown, StageRejects, UserAuthenticated, asked_mechanism, init_hmacs, init_where_hmacs, is_offered_by, plain_by_settings, provider_by, response_hmacs}
 use Rattle.fe2o3_sasl_core.specs.declared.mechanism.Mechanism.{Mechanism}
 use Rattle.fe2o3_sasl_core.specs.declared.mechanism.Mechanism.TheVariants as mechanisms
 use Rattle.fe2o3_sasl_core.proofs.lemmas.machines.RunCostLemmas.{server_runs_cost}
@@ -106,14 +106,14 @@ module _ (settings : ServerSettings) (most : ℕ) (counts : HasCountsUpTo settin
   -- ---- from a stage on
 
   -- the most that a login by a mechanism takes
-  abbrev pub way_most : Mechanism → ℕ
-  way_most (mechanisms.Scram version plus) = look_up_most settings.mock + 2
-  way_most mechanisms.Plain = most + 2
-  way_most way = 0
+  abbrev pub mechanism_most : Mechanism → ℕ
+  mechanism_most (mechanisms.Scram version plus) = look_up_most settings.mock + 2
+  mechanism_most mechanisms.Plain = most + 2
+  mechanism_most mechanism = 0
 
   -- the most that the responses take from a stage on
   abbrev pub left_at : ServerStage → ℕ
-  left_at (ResponseAsked way nonce) = way_most way
+  left_at (ResponseAsked mechanism nonce) = mechanism_most mechanism
   left_at (ExchangeOpen version plus exchange) = 2
   left_at stage = 0
 
@@ -121,8 +121,8 @@ module _ (settings : ServerSettings) (most : ℕ) (counts : HasCountsUpTo settin
   nothing before after costs = let bound = costs.1 0 refl in omega (arith, bound)
 
   -- an init that is answered
-  init_ends : (way : Mechanism) (response : Option (List ℕ)) (before after : ℕ)
-      → AtMost (init_hmacs settings way response) before after → after ≤ before + way_most way
+  init_ends : (mechanism : Mechanism) (response : Option (List ℕ)) (before after : ℕ)
+      → AtMost (init_hmacs settings mechanism response) before after → after ≤ before + mechanism_most mechanism
   init_ends mechanisms.Anonymous response before after costs =
       let bound = nothing before after costs in omega (arith, bound)
   init_ends mechanisms.External response before after costs =
@@ -143,15 +143,15 @@ module _ (settings : ServerSettings) (most : ℕ) (counts : HasCountsUpTo settin
   opens_to version plus kept next (Ok None) reply challenged is = not_outcome reply _ _ challenged is.0
   opens_to version plus kept next (Err fault) reply challenged is = not_outcome reply _ _ challenged is.0
 
-  asks_for : (asks : Bool) (way : Mechanism) (kept next : ServerStage) (nonce : List ℕ) (reply : SaslFrame)
-      → IsChallenged reply → AsksForResponse asks way kept nonce reply next → left_at next ≡ way_most way
-  asks_for true way kept next nonce reply challenged is = ap left_at is.1
-  asks_for false way kept next nonce reply challenged is = not_outcome reply _ _ challenged is.0
+  asks_for : (asks : Bool) (mechanism : Mechanism) (kept next : ServerStage) (nonce : List ℕ) (reply : SaslFrame)
+      → IsChallenged reply → AsksForResponse asks mechanism kept nonce reply next → left_at next ≡ mechanism_most mechanism
+  asks_for true mechanism kept next nonce reply challenged is = ap left_at is.1
+  asks_for false mechanism kept next nonce reply challenged is = not_outcome reply _ _ challenged is.0
 
   -- an init that is answered by a challenge
-  init_waits : (way : Mechanism) (kept next : ServerStage) (nonce : List ℕ) (response : Option (List ℕ)) (reply : SaslFrame)
-      (before after : ℕ) → IsChallenged reply → InitAnswers settings way kept nonce response reply next
-      → AtMost (init_hmacs settings way response) before after → after + left_at next ≤ before + way_most way
+  init_waits : (mechanism : Mechanism) (kept next : ServerStage) (nonce : List ℕ) (response : Option (List ℕ)) (reply : SaslFrame)
+      (before after : ℕ) → IsChallenged reply → InitAnswers settings mechanism kept nonce response reply next
+      → AtMost (init_hmacs settings mechanism response) before after → after + left_at next ≤ before + mechanism_most mechanism
   init_waits mechanisms.Anonymous kept next nonce response reply before after challenged is costs =
       not_outcome reply _ _ challenged is.0
   init_waits mechanisms.External kept next nonce response reply before after challenged (inl is) costs =
@@ -178,7 +178,7 @@ module _ (settings : ServerSettings) (most : ℕ) (counts : HasCountsUpTo settin
       omega (arith, bound, one, left)
 
   -- a mechanism that is offered takes no more than a login
-  offered_most : (way : Mechanism) → is_offered_by settings way ≡ true → way_most way ≤ login_most settings most
+  offered_most : (mechanism : Mechanism) → is_offered_by settings mechanism ≡ true → mechanism_most mechanism ≤ login_most settings most
   offered_most (mechanisms.Scram version plus) offered =
       le-max_left (look_up_most settings.mock + 2) (plain_most (is_offered_by settings mechanisms.Plain) most)
   offered_most mechanisms.Plain offered =
@@ -189,14 +189,14 @@ module _ (settings : ServerSettings) (most : ℕ) (counts : HasCountsUpTo settin
   offered_most mechanisms.External offered = omega arith
 
   found_ends : (name : List ℕ) (found : Option Mechanism) (response : Option (List ℕ)) (before after : ℕ)
-      → asked_way settings name ≡ found
-      → AtMost (λ n. MatchOption found (n ≡ 0) (λ way. init_hmacs settings way response n)) before after
+      → asked_mechanism settings name ≡ found
+      → AtMost (λ n. MatchOption found (n ≡ 0) (λ mechanism. init_hmacs settings mechanism response n)) before after
       → after ≤ before + login_most settings most
   found_ends name None response before after asked costs =
       let bound = nothing before after costs in omega (arith, bound)
-  found_ends name (Some way) response before after asked costs =
-      let bound = init_ends way response before after costs in
-      let few = offered_most way (asked_offers settings name way asked).1 in
+  found_ends name (Some mechanism) response before after asked costs =
+      let bound = init_ends mechanism response before after costs in
+      let few = offered_most mechanism (asked_offers settings name mechanism asked).1 in
       omega (arith, bound, few)
 
   pub where_ends : (asked : Bool) (name : List ℕ) (response : Option (List ℕ)) (before after : ℕ)
@@ -204,20 +204,20 @@ module _ (settings : ServerSettings) (most : ℕ) (counts : HasCountsUpTo settin
   where_ends true name response before after costs =
       let bound = nothing before after costs in omega (arith, bound)
   where_ends false name response before after costs =
-      found_ends name (asked_way settings name) response before after refl costs
+      found_ends name (asked_mechanism settings name) response before after refl costs
 
   found_waits : (name : List ℕ) (found : Option Mechanism) (stage next : ServerStage) (nonce : List ℕ)
       (response : Option (List ℕ)) (reply : SaslFrame) (before after : ℕ) → IsChallenged reply
-      → asked_way settings name ≡ found
+      → asked_mechanism settings name ≡ found
       → MatchOption found (StageRejects stage reply next)
-      (λ way. InitAnswers settings way stage nonce response reply next)
-      → AtMost (λ n. MatchOption found (n ≡ 0) (λ way. init_hmacs settings way response n)) before after
+      (λ mechanism. InitAnswers settings mechanism stage nonce response reply next)
+      → AtMost (λ n. MatchOption found (n ≡ 0) (λ mechanism. init_hmacs settings mechanism response n)) before after
       → after + left_at next ≤ before + login_most settings most
   found_waits name None stage next nonce response reply before after challenged asked is costs =
       not_outcome reply _ _ challenged is.0
-  found_waits name (Some way) stage next nonce response reply before after challenged asked is costs =
-      let bound = init_waits way stage next nonce response reply before after challenged is costs in
-      let few = offered_most way (asked_offers settings name way asked).1 in
+  found_waits name (Some mechanism) stage next nonce response reply before after challenged asked is costs =
+      let bound = init_waits mechanism stage next nonce response reply before after challenged is costs in
+      let few = offered_most mechanism (asked_offers settings name mechanism asked).1 in
       omega (arith, bound, few)
 
   pub where_waits : (asked : Bool) (name : List ℕ) (stage next : ServerStage) (nonce : List ℕ)
@@ -228,14 +228,14 @@ module _ (settings : ServerSettings) (most : ℕ) (counts : HasCountsUpTo settin
   where_waits true name stage next nonce response reply before after challenged is costs =
       not_outcome reply _ _ challenged is.0
   where_waits false name stage next nonce response reply before after challenged is costs =
-      found_waits name (asked_way settings name) stage next nonce response reply before after challenged refl is costs
+      found_waits name (asked_mechanism settings name) stage next nonce response reply before after challenged refl is costs
 
   -- a response that is answered
   pub response_ends : (stage : ServerStage) (event : Given) (text : List ℕ) (before after : ℕ)
       → SpellsBody event.body (Ok (frames.Response text)) → AtMost (response_hmacs settings stage text) before after
       → after ≤ before + left_at stage
-  response_ends (ResponseAsked way nonce) event text before after spells costs =
-      init_ends way (Some text) before after costs
+  response_ends (ResponseAsked mechanism nonce) event text before after spells costs =
+      init_ends mechanism (Some text) before after costs
   response_ends (ExchangeOpen version plus exchange) event text before after spells costs =
       two (with_rights settings.rights (provider_by settings version plus))
       (ServerFirstSent exchange.challenge exchange.stored) event text before after spells costs
@@ -263,8 +263,8 @@ module _ (settings : ServerSettings) (most : ℕ) (counts : HasCountsUpTo settin
       (before after : ℕ) → SpellsBody event.body (Ok (frames.Response text)) → IsChallenged reply
       → ResponseAnswers settings stage text reply next → AtMost (response_hmacs settings stage text) before after
       → after + left_at next ≤ before + left_at stage
-  response_waits (ResponseAsked way nonce) next event text reply before after spells challenged is costs =
-      init_waits way NotStarted next nonce (Some text) reply before after challenged is costs
+  response_waits (ResponseAsked mechanism nonce) next event text reply before after spells challenged is costs =
+      init_waits mechanism NotStarted next nonce (Some text) reply before after challenged is costs
   response_waits (ExchangeOpen version plus exchange) next event text reply before after spells challenged
       (answer, answers, closes) costs =
       let bound = two (with_rights settings.rights (provider_by settings version plus))

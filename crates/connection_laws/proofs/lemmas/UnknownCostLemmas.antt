@@ -14,7 +14,7 @@ use Rattle.fe2o3_sasl_core.specs.LoginAttempts.{Attempt}
 use Rattle.fe2o3_sasl_core.specs.MockChoices.{MockChoice, count_of_unknown, mock_for}
 use Rattle.fe2o3_sasl_core.specs.PlainServer.{TestsPassword, count_or, plain_hmacs}
 use Rattle.fe2o3_sasl_core.specs.SaslAcceptor.{ScramAcceptor}
-use Rattle.fe2o3_sasl_core.specs.Servers.{ExchangeOpen, NotStarted, ResponseAsked, ServerLogin, ServerSettings, ServerStage, SignatureShown, UserAuthenticated, asked_way, init_hmacs, init_where_hmacs, is_response_asked, plain_by_settings, response_hmacs, sasl_hmacs}
+use Rattle.fe2o3_sasl_core.specs.Servers.{ExchangeOpen, NotStarted, ResponseAsked, ServerLogin, ServerSettings, ServerStage, SignatureShown, UserAuthenticated, asked_mechanism, init_hmacs, init_where_hmacs, is_response_asked, plain_by_settings, response_hmacs, sasl_hmacs}
 use Rattle.fe2o3_sasl_core.specs.declared.mechanism.Mechanism.{Mechanism}
 use Rattle.fe2o3_sasl_core.specs.declared.mechanism.Mechanism.TheVariants as mechanisms
 use Rattle.connection_laws.specs.ConnectionLogins.{MessagesLogIn}
@@ -32,8 +32,8 @@ OnePlainCost settings records n = (text : List ℕ) → plain_hmacs (plain_by_se
 
 module _ (settings : ServerSettings) (records : MultiRecords) (one : OneProvider settings records) (n : ℕ)
     (plain : OnePlainCost settings records n) where
-  init_cost : (way : Mechanism) (response : Option (List ℕ)) → init_hmacs settings way response n
-      → init_hmacs (over records settings) way response n
+  init_cost : (mechanism : Mechanism) (response : Option (List ℕ)) → init_hmacs settings mechanism response n
+      → init_hmacs (over records settings) mechanism response n
   init_cost (mechanisms.Scram version plus) (Some text) is = subst (λ (p : Provider). acceptor_hmacs (ScramAcceptor p Initial)
       (frames.Init (server_mechanism p.version p.rules) (Some text) None) n) (one version plus) is
   init_cost (mechanisms.Scram version plus) None is = is
@@ -43,19 +43,19 @@ module _ (settings : ServerSettings) (records : MultiRecords) (one : OneProvider
   init_cost mechanisms.External response is = is
 
   found_cost : (found : Option Mechanism) (response : Option (List ℕ))
-      → MatchOption found (n ≡ 0) (λ way. init_hmacs settings way response n)
-      → MatchOption found (n ≡ 0) (λ way. init_hmacs (over records settings) way response n)
+      → MatchOption found (n ≡ 0) (λ mechanism. init_hmacs settings mechanism response n)
+      → MatchOption found (n ≡ 0) (λ mechanism. init_hmacs (over records settings) mechanism response n)
   found_cost None response is = is
-  found_cost (Some way) response is = init_cost way response is
+  found_cost (Some mechanism) response is = init_cost mechanism response is
 
   where_cost : (asked : Bool) (name : List ℕ) (response : Option (List ℕ))
       → init_where_hmacs asked settings name response n → init_where_hmacs asked (over records settings) name response n
   where_cost true name response is = is
-  where_cost false name response is = found_cost (asked_way settings name) response is
+  where_cost false name response is = found_cost (asked_mechanism settings name) response is
 
   response_cost : (stage : ServerStage) (text : List ℕ) → response_hmacs settings stage text n
       → response_hmacs (over records settings) stage text n
-  response_cost (ResponseAsked way nonce) text is = init_cost way (Some text) is
+  response_cost (ResponseAsked mechanism nonce) text is = init_cost mechanism (Some text) is
   response_cost (ExchangeOpen version plus exchange) text is = subst (λ (p : Provider). acceptor_hmacs
       (ScramAcceptor (with_rights settings.rights p) (ServerFirstSent exchange.challenge exchange.stored))
       (frames.Response text) n) (one version plus) is
@@ -141,15 +141,15 @@ abbrev HasRecord : ServerSettings → ServerLogin → Type 0
 HasRecord settings login = (user : List ℕ) × (stored : Record) × (login.user ≡ Some user)
     × (record_at (provider_for settings.plain_version settings.records).records user ≡ Some stored)
 
-plain_record : (settings : ServerSettings) (nonce : List ℕ) (way : Mechanism) (response : Option (List ℕ))
-    (texts : List (List ℕ)) (login : ServerLogin) → MessagesLogIn settings way nonce response texts login
-    → login.way ≡ mechanisms.Plain → HasRecord settings login
+plain_record : (settings : ServerSettings) (nonce : List ℕ) (mechanism : Mechanism) (response : Option (List ℕ))
+    (texts : List (List ℕ)) (login : ServerLogin) → MessagesLogIn settings mechanism nonce response texts login
+    → login.mechanism ≡ mechanisms.Plain → HasRecord settings login
 plain_record settings nonce mechanisms.Anonymous response texts login completes is =
-    let no = sym (ap (λ (l : ServerLogin). l.way) completes.1) ∙ is in absurd (cc)
+    let no = sym (ap (λ (l : ServerLogin). l.mechanism) completes.1) ∙ is in absurd (cc)
 plain_record settings nonce mechanisms.External response texts login completes is =
-    let no = sym (ap (λ (l : ServerLogin). l.way) completes.1.1) ∙ is in absurd (cc)
+    let no = sym (ap (λ (l : ServerLogin). l.mechanism) completes.1.1) ∙ is in absurd (cc)
 plain_record settings nonce (mechanisms.Scram version plus) response texts login (messages, are, scram) is =
-    let no = sym (ap (λ (l : ServerLogin). l.way) scram.made) ∙ is in absurd (cc)
+    let no = sym (ap (λ (l : ServerLogin). l.mechanism) scram.made) ∙ is in absurd (cc)
 plain_record settings nonce mechanisms.Plain response texts login (text, are, (parts, lets_in, made)) is =
     let (password, tested, (stored, found, meets)) = lets_in.2.0 in
     (parts.user, stored, ap (λ (l : ServerLogin). l.user) made, found)
@@ -157,4 +157,4 @@ plain_record settings nonce mechanisms.Plain response texts login (text, are, (p
 pub plain_users_have_records : PlainUsersHaveRecords
 plain_users_have_records settings server login some is =
     let logs = of_login settings server login some in
-    plain_record settings logs.init.nonce logs.way logs.response logs.texts login logs.completes is
+    plain_record settings logs.init.nonce logs.mechanism logs.response logs.texts login logs.completes is

@@ -14,7 +14,7 @@ use Rattle.fe2o3_sasl_core.specs.Events.{Given, ServerSays, Failed}
 use Rattle.fe2o3_sasl_core.specs.MockChoices.{MockChoice}
 use Rattle.fe2o3_sasl_core.specs.PlainServer.{PlainParts}
 use Rattle.fe2o3_sasl_core.specs.Runs.{AcceptorAnswers, AcceptorSteps, Runs, SendsCanonical}
-use Rattle.fe2o3_sasl_core.specs.Servers.{ExchangeOpen, InitAnswers, InitWhere, MessageLetsIn, NotStarted, ResponseAnswers, ResponseAsked, ServerAt, ServerSettings, ServerStage, SignatureShown, StageRejects, UserAuthenticated, asked_way, is_response_asked, provider_by, sasl_machine}
+use Rattle.fe2o3_sasl_core.specs.Servers.{ExchangeOpen, InitAnswers, InitWhere, MessageLetsIn, NotStarted, ResponseAnswers, ResponseAsked, ServerAt, ServerSettings, ServerStage, SignatureShown, StageRejects, UserAuthenticated, asked_mechanism, is_response_asked, provider_by, sasl_machine}
 use Rattle.fe2o3_sasl_core.specs.declared.mechanism.Mechanism.{Mechanism}
 use Rattle.fe2o3_sasl_core.specs.declared.mechanism.Mechanism.TheVariants as mechanisms
 use Rattle.fe2o3_sasl_negotiation.specs.Negotiations.{Side}
@@ -47,10 +47,10 @@ AlikeBy settings records frame = Unit {0}
 -- ---- a step
 
 module _ (settings : ServerSettings) (records : MultiRecords) (one : OneProvider settings records) where
-  init_over : (way : Mechanism) (kept next : ServerStage) (nonce : List ℕ) (response : Option (List ℕ)) (reply : SaslFrame)
-      → (way ≡ mechanisms.Plain → (text : List ℕ) → response ≡ Some text → AlikeIn settings records text)
-      → InitAnswers settings way kept nonce response reply next
-      → InitAnswers (over records settings) way kept nonce response reply next
+  init_over : (mechanism : Mechanism) (kept next : ServerStage) (nonce : List ℕ) (response : Option (List ℕ)) (reply : SaslFrame)
+      → (mechanism ≡ mechanisms.Plain → (text : List ℕ) → response ≡ Some text → AlikeIn settings records text)
+      → InitAnswers settings mechanism kept nonce response reply next
+      → InitAnswers (over records settings) mechanism kept nonce response reply next
   init_over mechanisms.Anonymous kept next nonce response reply plain is = is
   init_over mechanisms.External kept next nonce response reply plain is = is
   init_over mechanisms.Plain kept next nonce None reply plain is = is
@@ -66,17 +66,17 @@ module _ (settings : ServerSettings) (records : MultiRecords) (one : OneProvider
   )
 
   found_over : (name : List ℕ) (found : Option Mechanism) (stage next : ServerStage) (nonce : List ℕ)
-      (response : Option (List ℕ)) (reply : SaslFrame) → asked_way settings name ≡ found
+      (response : Option (List ℕ)) (reply : SaslFrame) → asked_mechanism settings name ≡ found
       → ((text : List ℕ) → name ≡ codes "PLAIN" → response ≡ Some text → AlikeIn settings records text)
       → MatchOption found (StageRejects stage reply next)
-      (λ way. InitAnswers settings way stage nonce response reply next)
+      (λ mechanism. InitAnswers settings mechanism stage nonce response reply next)
       → MatchOption found (StageRejects stage reply next)
-      (λ way. InitAnswers (over records settings) way stage nonce response reply next)
+      (λ mechanism. InitAnswers (over records settings) mechanism stage nonce response reply next)
   found_over name None stage next nonce response reply asked plain is = is
-  found_over name (Some way) stage next nonce response reply asked plain is =
-      init_over way stage next nonce response reply (λ by text said. plain text (plain_name by) said) is
+  found_over name (Some mechanism) stage next nonce response reply asked plain is =
+      init_over mechanism stage next nonce response reply (λ by text said. plain text (plain_name by) said) is
     where
-      plain_name : way ≡ mechanisms.Plain → name ≡ codes "PLAIN"
+      plain_name : mechanism ≡ mechanisms.Plain → name ≡ codes "PLAIN"
       plain_name by = (asked_offers settings name mechanisms.Plain (asked ∙ ap Some by)).0
 
   where_over : (asked : Bool) (name : List ℕ) (stage next : ServerStage) (nonce : List ℕ)
@@ -86,12 +86,12 @@ module _ (settings : ServerSettings) (records : MultiRecords) (one : OneProvider
       → InitWhere asked (over records settings) stage nonce name response reply next
   where_over true name stage next nonce response reply plain is = is
   where_over false name stage next nonce response reply plain is =
-      found_over name (asked_way settings name) stage next nonce response reply refl plain is
+      found_over name (asked_mechanism settings name) stage next nonce response reply refl plain is
 
   response_over : (stage next : ServerStage) (text : List ℕ) (reply : SaslFrame) → AlikeIn settings records text
       → ResponseAnswers settings stage text reply next → ResponseAnswers (over records settings) stage text reply next
-  response_over (ResponseAsked way nonce) next text reply plain is =
-      init_over way NotStarted next nonce (Some text) reply
+  response_over (ResponseAsked mechanism nonce) next text reply plain is =
+      init_over mechanism NotStarted next nonce (Some text) reply
       (λ by other said. subst (λ (t : List ℕ). AlikeIn settings records t) (one_text text other said) plain) is
     where
       one_text : (text other : List ℕ) → Some text ≡ Some other → text ≡ other

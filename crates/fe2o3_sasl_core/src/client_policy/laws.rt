@@ -12,7 +12,6 @@ ghost use Rattle.fe2o3_sasl_core.specs.ClientPolicyLaws.{OfferedChannelIsBound, 
 /// - `offered`: from such an offer a profile is selected, and it binds exactly this channel.
 /// - `unoffered`: from any other offer with SCRAM that the policy allows, without `must_bind`, the selected profile is of
 ///   SCRAM and says `y,,`.
-/// - `required`: with `must_bind` a selected profile of SCRAM binds
 /// - `required`: with `must_bind` a selected profile of SCRAM binds exactly the channel of the policy.
 /// - `scram`: each selected profile of SCRAM binds a channel or says `y,,`, so that nobody talks it out of its channel.
 pub fn selected_channels()

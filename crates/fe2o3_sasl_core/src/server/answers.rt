@@ -9,9 +9,9 @@ ghost use Rattle.fe2o3_scram.specs.ScramServer.{lent_mock};
 ghost use Rattle.fe2o3_sasl_core.specs.ExternalServer.{AsksFor};
 ghost use Rattle.fe2o3_sasl_core.specs.SaslAcceptor.{HasReason, ends_with, reason_in, sent_frame};
 ghost use Rattle.fe2o3_sasl_core.specs.MockChoices.{count_of_unknown, mock_for};
-ghost use Rattle.fe2o3_sasl_core.specs.Servers.{AsksForResponse, ExchangeOpen, FinalRejects, InitAllocates, InitAnswers, InitRejects, ServerLogin, ResponseAllocates, ResponseAnswers, ResponseRejects, InitWhere, InitWhereRejects, ServerStage, UserAuthenticated, ConfirmsSignature, asked_way, init_hmacs, init_where_hmacs, is_named, is_response_asked, server_login, is_offered_by, plain_by_settings, response_hmacs, rules_by, settings_in, stage_of};
+ghost use Rattle.fe2o3_sasl_core.specs.Servers.{AsksForResponse, ExchangeOpen, FinalRejects, InitAllocates, InitAnswers, InitRejects, ServerLogin, ResponseAllocates, ResponseAnswers, ResponseRejects, InitWhere, InitWhereRejects, ServerStage, UserAuthenticated, ConfirmsSignature, asked_mechanism, init_hmacs, init_where_hmacs, is_named, is_response_asked, server_login, is_offered_by, plain_by_settings, response_hmacs, rules_by, settings_in, stage_of};
 ghost use Rattle.fe2o3_sasl_core.specs.declared.rejection.Rejection.TheVariants.{NoInitialResponse};
-ghost use Rattle.fe2o3_sasl_core.specs.declared.mechanism.Mechanism.TheVariants.{Scram as ScramWay, Plain as PlainWay, Anonymous as AnonymousWay, External as ExternalWay};
+ghost use Rattle.fe2o3_sasl_core.specs.declared.mechanism.Mechanism.TheVariants.{Scram, Plain, Anonymous, External};
 ghost use Rattle.fe2o3_sasl_core.specs.private.ServerMoves.{TakesAtMost, TakesExactly, after};
 
 use crate::OutOfMemory;
@@ -35,11 +35,11 @@ const DEFAULT_PLAIN_ITERATIONS: u32 = 4096;
 
 impl Server<'_> {
     /// Returns whether the server offers this mechanism.
-    pub(crate) fn offers(&self, way: Mechanism) -> bool
-        ensures { result ≡ is_offered_by (settings_in self.now) way }
+    pub(crate) fn offers(&self, mechanism: Mechanism) -> bool
+        ensures { result ≡ is_offered_by (settings_in self.now) mechanism }
     {
         let mechanisms = self.options.mechanisms;
-        match way {
+        match mechanism {
             Mechanism::Scram(version, plus) => {
                 mechanisms.has_hash(version) && (!plus || self.transport.channels.is_some())
             }
@@ -52,7 +52,7 @@ impl Server<'_> {
     /// Returns the mechanism that this name asks for, if it is offered.
     #[tactic(auto, using(crate::proofs::lemmas::machines::MechanismLemmas::asked))]
     pub(crate) fn asked(&self, name: &str) -> Option<Mechanism>
-        ensures { result ≡ asked_way (settings_in self.now) name.now }
+        ensures { result ≡ asked_mechanism (settings_in self.now) name.now }
     {
         let mechanism = Mechanism::of_name(name)?;
         if self.offers(mechanism) {
@@ -129,14 +129,14 @@ impl Server<'_> {
     ) -> Result<(SaslServerFrame, Move), OutOfMemory>
         requires { meter.old ≤ 2 ^ 63 }
         ensures ok { IfOk result (λ made. (kept : ServerStage) → InitAnswers (settings_in self.now)
-            (ScramWay version plus) kept nonce.now (Some text.now) (sent_frame made.0) (after kept made.1)) }
+            (Scram version plus) kept nonce.now (Some text.now) (sent_frame made.0) (after kept made.1)) }
         ensures reason { IfOk result (λ made.
-            HasReason (InitRejects (settings_in self.now) (ScramWay version plus) (Some text.now)) made.0) }
+            HasReason (InitRejects (settings_in self.now) (Scram version plus) (Some text.now)) made.0) }
         ensures memory { IfErr result (λ _.
-            InitAllocates (settings_in self.now) (ScramWay version plus) (Some text.now)) }
-        ensures cost { TakesAtMost (init_hmacs (settings_in self.now) (ScramWay version plus) (Some text.now))
+            InitAllocates (settings_in self.now) (Scram version plus) (Some text.now)) }
+        ensures cost { TakesAtMost (init_hmacs (settings_in self.now) (Scram version plus) (Some text.now))
             meter.old meter.new }
-        ensures exactly { OnOk result (TakesExactly (init_hmacs (settings_in self.now) (ScramWay version plus)
+        ensures exactly { OnOk result (TakesExactly (init_hmacs (settings_in self.now) (Scram version plus)
             (Some text.now)) meter.old meter.new) }
     {
         let rules = self.rules(plus);
@@ -178,12 +178,12 @@ impl Server<'_> {
     ) -> Result<(SaslServerFrame, Move), OutOfMemory>
         requires { meter.old ≤ 2 ^ 63 }
         ensures ok { IfOk result (λ made. (kept : ServerStage) (nonce : List ℕ) → InitAnswers (settings_in self.now)
-            PlainWay kept nonce (Some text.now) (sent_frame made.0) (after kept made.1)) }
+            Plain kept nonce (Some text.now) (sent_frame made.0) (after kept made.1)) }
         ensures reason { IfOk result (λ made.
-            HasReason (InitRejects (settings_in self.now) PlainWay (Some text.now)) made.0) }
-        ensures memory { IfErr result (λ _. InitAllocates (settings_in self.now) PlainWay (Some text.now)) }
-        ensures cost { TakesAtMost (init_hmacs (settings_in self.now) PlainWay (Some text.now)) meter.old meter.new }
-        ensures exactly { OnOk result (TakesExactly (init_hmacs (settings_in self.now) PlainWay (Some text.now))
+            HasReason (InitRejects (settings_in self.now) Plain (Some text.now)) made.0) }
+        ensures memory { IfErr result (λ _. InitAllocates (settings_in self.now) Plain (Some text.now)) }
+        ensures cost { TakesAtMost (init_hmacs (settings_in self.now) Plain (Some text.now)) meter.old meter.new }
+        ensures exactly { OnOk result (TakesExactly (init_hmacs (settings_in self.now) Plain (Some text.now))
             meter.old meter.new) }
     {
         let options = self.options;
@@ -202,7 +202,7 @@ impl Server<'_> {
         };
         if test.lets_in(alloc, &message, meter)? {
             let login = LoginOf {
-                way: Mechanism::Plain,
+                mechanism: Mechanism::Plain,
                 user: Some(message.username.to_string(alloc)?),
                 acts_for: copied(alloc, message.asked_identity())?,
             };
@@ -222,10 +222,10 @@ impl Server<'_> {
         response: Option<&[u8]>,
     ) -> Result<(SaslServerFrame, Move), OutOfMemory>
         ensures ok { IfOk result (λ made. (kept : ServerStage) (nonce : List ℕ) → InitAnswers (settings_in self.now)
-            ExternalWay kept nonce (shown response.entry) (sent_frame made.0) (after kept made.1)) }
+            External kept nonce (shown response.entry) (sent_frame made.0) (after kept made.1)) }
         ensures reason { IfOk result (λ made.
-            HasReason (InitRejects (settings_in self.now) ExternalWay (shown response.entry)) made.0) }
-        ensures memory { IfErr result (λ _. InitAllocates (settings_in self.now) ExternalWay (shown response.entry)) }
+            HasReason (InitRejects (settings_in self.now) External (shown response.entry)) made.0) }
+        ensures memory { IfErr result (λ _. InitAllocates (settings_in self.now) External (shown response.entry)) }
     {
         if !asks_for(self.transport.external, response) {
             return Ok((
@@ -234,7 +234,7 @@ impl Server<'_> {
             ));
         }
         let login = LoginOf {
-            way: Mechanism::External,
+            mechanism: Mechanism::External,
             user: Some(self.transport.external.to_string(alloc)?),
             acts_for: None,
         };
@@ -245,15 +245,15 @@ impl Server<'_> {
     fn answer_none(
         &self,
         alloc: Global,
-        way: Mechanism,
+        mechanism: Mechanism,
         nonce: &[u8; 32],
     ) -> (SaslServerFrame, Move)
-        ensures ok { (kept : ServerStage) → AsksForResponse (settings_in self.now).extra.initial_response way kept
+        ensures ok { (kept : ServerStage) → AsksForResponse (settings_in self.now).extra.initial_response mechanism kept
             nonce.now (sent_frame result.0) (after kept result.1) }
         ensures reason { HasReason (λ reason. reason ≡ NoInitialResponse) result.0 }
     {
         if self.options.extra_challenges.initial_response {
-            let stage = Stage::Asked { way, nonce: *nonce };
+            let stage = Stage::Asked { mechanism, nonce: *nonce };
             (challenge(Vec::new(alloc)), Move::To(stage))
         } else {
             (
@@ -264,35 +264,35 @@ impl Server<'_> {
     }
 
     /// Answers an init of this mechanism with this initial response.
-    fn answer_way(
+    fn answer_mechanism(
         &self,
         alloc: Global,
-        way: Mechanism,
+        mechanism: Mechanism,
         response: Option<&[u8]>,
         nonce: &[u8; 32],
         meter: &mut Meter,
     ) -> Result<(SaslServerFrame, Move), OutOfMemory>
         requires { meter.old ≤ 2 ^ 63 }
-        ensures ok { IfOk result (λ made. (kept : ServerStage) → InitAnswers (settings_in self.now) way kept nonce.now
+        ensures ok { IfOk result (λ made. (kept : ServerStage) → InitAnswers (settings_in self.now) mechanism kept nonce.now
             (shown response.entry) (sent_frame made.0) (after kept made.1)) }
         ensures reason { IfOk result (λ made.
-            HasReason (InitRejects (settings_in self.now) way (shown response.entry)) made.0) }
-        ensures memory { IfErr result (λ _. InitAllocates (settings_in self.now) way (shown response.entry)) }
-        ensures cost { TakesAtMost (init_hmacs (settings_in self.now) way (shown response.entry)) meter.old meter.new }
-        ensures exactly { OnOk result (TakesExactly (init_hmacs (settings_in self.now) way (shown response.entry))
+            HasReason (InitRejects (settings_in self.now) mechanism (shown response.entry)) made.0) }
+        ensures memory { IfErr result (λ _. InitAllocates (settings_in self.now) mechanism (shown response.entry)) }
+        ensures cost { TakesAtMost (init_hmacs (settings_in self.now) mechanism (shown response.entry)) meter.old meter.new }
+        ensures exactly { OnOk result (TakesExactly (init_hmacs (settings_in self.now) mechanism (shown response.entry))
             meter.old meter.new) }
     {
-        match (way, response) {
+        match (mechanism, response) {
             (Mechanism::Anonymous, _) => {
                 let login = LoginOf {
-                    way: Mechanism::Anonymous,
+                    mechanism: Mechanism::Anonymous,
                     user: None,
                     acts_for: None,
                 };
                 Ok((accepted(), Move::To(Stage::Authenticated(login))))
             }
             (Mechanism::External, response) => self.answer_external(alloc, response),
-            (way, None) => Ok(self.answer_none(alloc, way, nonce)),
+            (mechanism, None) => Ok(self.answer_none(alloc, mechanism, nonce)),
             (Mechanism::Plain, Some(text)) => self.answer_plain(alloc, text, meter),
             (Mechanism::Scram(version, plus), Some(text)) => {
                 self.answer_scram(alloc, version, plus, text, nonce, meter)
@@ -327,7 +327,7 @@ impl Server<'_> {
             ));
         }
         match self.asked(name) {
-            Some(way) => self.answer_way(alloc, way, response, nonce, meter),
+            Some(mechanism) => self.answer_mechanism(alloc, mechanism, response, nonce, meter),
             None => Ok((
                 SaslServerFrame::Rejected(Rejection::MechanismNotOffered),
                 Move::Stay,
@@ -395,8 +395,8 @@ impl Server<'_> {
             (stage_of self.now.stage) text.now) meter.old meter.new) }
     {
         match &self.stage {
-            Stage::Asked { way, nonce } => {
-                let (reply, moves) = self.answer_way(alloc, *way, Some(text), nonce, meter)?;
+            Stage::Asked { mechanism, nonce } => {
+                let (reply, moves) = self.answer_mechanism(alloc, *mechanism, Some(text), nonce, meter)?;
                 Ok((reply, moves.or_restart()))
             }
             Stage::Open {

@@ -102,7 +102,7 @@ impl SavedLogin<'_> {
         ensures { IfOk result (λ login. server_login login ≡ saved_login self.now) }
     {
         Ok(LoginOf {
-            way: self.mechanism,
+            mechanism: self.mechanism,
             user: copied(alloc, self.user)?,
             acts_for: copied(alloc, self.acts_for)?,
         })
@@ -115,7 +115,7 @@ impl LoginOf {
         ensures { saved_login result ≡ server_login self.now }
     {
         SavedLogin {
-            mechanism: self.way,
+            mechanism: self.mechanism,
             user: self.user.as_deref(),
             acts_for: self.acts_for.as_deref(),
         }
@@ -129,8 +129,8 @@ impl<'a> Server<'a> {
     {
         match &self.stage {
             Stage::Start => SavedStage::NotStarted,
-            Stage::Asked { way, nonce } => SavedStage::ResponseAsked {
-                mechanism: *way,
+            Stage::Asked { mechanism, nonce } => SavedStage::ResponseAsked {
+                mechanism: *mechanism,
                 nonce: *nonce,
             },
             Stage::Open {
@@ -216,11 +216,11 @@ impl<'a> Server<'a> {
     }
 
     /// Returns the stage in which an init of this mechanism, with this nonce, was asked for its initial response.
-    fn restored_init(&self, way: Mechanism, nonce: [u8; 32]) -> Stage
-        ensures { stage_of result ≡ restored_stage (settings_in self.now) (KeptAsked way nonce) }
+    fn restored_init(&self, mechanism: Mechanism, nonce: [u8; 32]) -> Stage
+        ensures { stage_of result ≡ restored_stage (settings_in self.now) (KeptAsked mechanism nonce) }
     {
-        if self.offers(way) {
-            Stage::Asked { way, nonce }
+        if self.offers(mechanism) {
+            Stage::Asked { mechanism, nonce }
         } else {
             Stage::Start
         }

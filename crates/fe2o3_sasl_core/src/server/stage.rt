@@ -12,7 +12,7 @@ use std::alloc::AllocError;
 /// Who has logged in: by this mechanism, as this user, or as nobody by ANONYMOUS, for this identity, or for itself.
 #[derive(Drop)]
 pub(crate) struct LoginOf {
-    pub(crate) way: Mechanism,
+    pub(crate) mechanism: Mechanism,
     pub(crate) user: Option<String>,
     pub(crate) acts_for: Option<String>,
 }
@@ -22,7 +22,7 @@ impl Clone for LoginOf {
 
     fn clone(&self) -> Result<Self, AllocError> {
         Ok(Self {
-            way: self.way,
+            mechanism: self.mechanism,
             user: self.user.clone()?,
             acts_for: self.acts_for.clone()?,
         })
@@ -37,7 +37,7 @@ pub(crate) enum Stage {
 
     /// An init without an initial response was answered by an empty challenge.
     Asked {
-        way: Mechanism,
+        mechanism: Mechanism,
         nonce: [u8; 32],
     },
 
@@ -132,8 +132,8 @@ impl Clone for Stage {
     fn clone(&self) -> Result<Self, AllocError> {
         Ok(match self {
             Stage::Start => Stage::Start,
-            Stage::Asked { way, nonce } => Stage::Asked {
-                way: *way,
+            Stage::Asked { mechanism, nonce } => Stage::Asked {
+                mechanism: *mechanism,
                 nonce: *nonce,
             },
             Stage::Open {
@@ -157,7 +157,7 @@ fn login_by(version: ScramVersion, plus: bool, exchange: ServerExchange) -> Logi
 {
     let (user, acts_for) = exchange.into_names();
     LoginOf {
-        way: Mechanism::Scram(version, plus),
+        mechanism: Mechanism::Scram(version, plus),
         user: Some(user),
         acts_for,
     }

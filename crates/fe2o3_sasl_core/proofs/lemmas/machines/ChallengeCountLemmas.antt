@@ -15,7 +15,7 @@ use Rattle.fe2o3_sasl_core.specs.Bodies.{SpellsBody, server_says}
 use Rattle.fe2o3_sasl_core.specs.ChallengeCounts.{BoundsChallenges, BoundsHold, GoesOn, IsChallenge, IsError, IsInit, IsResponse, SaslServersAreBounded, ServersHaveFewChallenges, one_if, challenges_left, challenges_most, stage_left}
 use Rattle.fe2o3_sasl_core.specs.Events.{Given, ServerSays, Failed}
 use Rattle.fe2o3_sasl_core.specs.Runs.{Runs, AcceptorSteps, SendsCanonical}
-use Rattle.fe2o3_sasl_core.specs.Servers.{AsksForResponse, ClosesExchange, ConfirmsSignature, ExchangeOpen, InitAnswers, InitWhere, NotStarted, OpensScram, ResponseAnswers, ResponseAsked, SendsSignature, ServerLogin, ServerSettings, ServerStage, SignatureShown, StageRejects, UserAuthenticated, asked_way, exchange_login, is_response_asked, sasl_machine}
+use Rattle.fe2o3_sasl_core.specs.Servers.{AsksForResponse, ClosesExchange, ConfirmsSignature, ExchangeOpen, InitAnswers, InitWhere, NotStarted, OpensScram, ResponseAnswers, ResponseAsked, SendsSignature, ServerLogin, ServerSettings, ServerStage, SignatureShown, StageRejects, UserAuthenticated, asked_mechanism, exchange_login, is_response_asked, sasl_machine}
 use Rattle.fe2o3_sasl_core.specs.declared.mechanism.Mechanism.{Mechanism}
 use Rattle.fe2o3_sasl_core.specs.declared.mechanism.Mechanism.TheVariants as mechanisms
 use Rattle.fe2o3_sasl_core.proofs.lemmas.frames.SpellingLemmas.{one_spelled_frame}
@@ -163,12 +163,12 @@ module _ (settings : ServerSettings) where
       → StageRejects kept reply next → A
   rejects kept reply next goes is = ends reply outcomes.Auth None is.0 goes
 
-  asks_within : (does : Bool) (way : Mechanism) (kept : ServerStage) (nonce : List ℕ) (reply : SaslFrame)
+  asks_within : (does : Bool) (mechanism : Mechanism) (kept : ServerStage) (nonce : List ℕ) (reply : SaslFrame)
       (next : ServerStage) → does ≡ settings.extra.initial_response → GoesOn reply
-      → AsksForResponse does way kept nonce reply next → Within next
-  asks_within true way kept nonce reply next same goes is = let one = ap one_if same in
-      within (ResponseAsked way nonce) next is.1 (omega (arith, one))
-  asks_within false way kept nonce reply next same goes is = rejects kept reply next goes is
+      → AsksForResponse does mechanism kept nonce reply next → Within next
+  asks_within true mechanism kept nonce reply next same goes is = let one = ap one_if same in
+      within (ResponseAsked mechanism nonce) next is.1 (omega (arith, one))
+  asks_within false mechanism kept nonce reply next same goes is = rejects kept reply next goes is
 
   -- an answer to a client-first message that goes on leaves a signature
   opens_to : (version : ScramVersion) (plus : Bool) (kept : ServerStage)
@@ -178,8 +178,8 @@ module _ (settings : ServerSettings) where
   opens_to version plus kept (Ok None) reply next goes is = rejects kept reply next goes is
   opens_to version plus kept (Err fault) reply next goes is = rejects kept reply next goes is
 
-  text_to : (way : Mechanism) (kept : ServerStage) (nonce text : List ℕ) (reply : SaslFrame) (next : ServerStage)
-      → GoesOn reply → InitAnswers settings way kept nonce (Some text) reply next → left next ≡ one_if signs
+  text_to : (mechanism : Mechanism) (kept : ServerStage) (nonce text : List ℕ) (reply : SaslFrame) (next : ServerStage)
+      → GoesOn reply → InitAnswers settings mechanism kept nonce (Some text) reply next → left next ≡ one_if signs
   text_to mechanisms.Anonymous kept nonce text reply next goes is = ends reply outcomes.Ok None is.0 goes
   text_to mechanisms.External kept nonce text reply next goes (inl (asked, is)) = ends reply outcomes.Ok None is.0 goes
   text_to mechanisms.External kept nonce text reply next goes (inr (other, is)) = rejects kept reply next goes is
@@ -188,10 +188,10 @@ module _ (settings : ServerSettings) where
   text_to (mechanisms.Scram version plus) kept nonce text reply next goes (answer, begins, is) =
       opens_to version plus kept answer reply next goes is
 
-  init_within : (way : Mechanism) (kept : ServerStage) (nonce : List ℕ) (response : Option (List ℕ)) (reply : SaslFrame)
-      (next : ServerStage) → GoesOn reply → InitAnswers settings way kept nonce response reply next → Within next
-  init_within way kept nonce (Some text) reply next goes is =
-      let same = text_to way kept nonce text reply next goes is in omega (arith, same)
+  init_within : (mechanism : Mechanism) (kept : ServerStage) (nonce : List ℕ) (response : Option (List ℕ)) (reply : SaslFrame)
+      (next : ServerStage) → GoesOn reply → InitAnswers settings mechanism kept nonce response reply next → Within next
+  init_within mechanism kept nonce (Some text) reply next goes is =
+      let same = text_to mechanism kept nonce text reply next goes is in omega (arith, same)
   init_within mechanisms.Anonymous kept nonce None reply next goes is = ends reply outcomes.Ok None is.0 goes
   init_within mechanisms.External kept nonce None reply next goes (inl (asked, is)) = ends reply outcomes.Ok None is.0 goes
   init_within mechanisms.External kept nonce None reply next goes (inr (other, is)) = rejects kept reply next goes is
@@ -203,17 +203,17 @@ module _ (settings : ServerSettings) where
   asked_within : (asked : Option Mechanism) (stage : ServerStage) (nonce : List ℕ) (response : Option (List ℕ))
       (reply : SaslFrame) (next : ServerStage) → GoesOn reply
       → MatchOption asked (StageRejects stage reply next)
-      (λ way. InitAnswers settings way stage nonce response reply next) → Within next
+      (λ mechanism. InitAnswers settings mechanism stage nonce response reply next) → Within next
   asked_within None stage nonce response reply next goes is = rejects stage reply next goes is
-  asked_within (Some way) stage nonce response reply next goes is =
-      init_within way stage nonce response reply next goes is
+  asked_within (Some mechanism) stage nonce response reply next goes is =
+      init_within mechanism stage nonce response reply next goes is
 
   where_within : (due : Bool) (stage : ServerStage) (nonce name : List ℕ) (response : Option (List ℕ))
       (reply : SaslFrame) (next : ServerStage) → GoesOn reply
       → InitWhere due settings stage nonce name response reply next → Within next
   where_within true stage nonce name response reply next goes is = rejects NotStarted reply next goes is
   where_within false stage nonce name response reply next goes is =
-      asked_within (asked_way settings name) stage nonce response reply next goes is
+      asked_within (asked_mechanism settings name) stage nonce response reply next goes is
 
   -- a response that goes on lowers what is left
   sends_lower : (does : Bool) (login : ServerLogin) (message : List ℕ) (reply : SaslFrame) (next : ServerStage)
@@ -236,8 +236,8 @@ module _ (settings : ServerSettings) where
 
   response_lower : (stage : ServerStage) (text : List ℕ) (reply : SaslFrame) (next : ServerStage) → GoesOn reply
       → ResponseAnswers settings stage text reply next → left next < left stage
-  response_lower (ResponseAsked way nonce) text reply next goes is =
-      let same = text_to way NotStarted nonce text reply next goes is in omega (arith, same)
+  response_lower (ResponseAsked mechanism nonce) text reply next goes is =
+      let same = text_to mechanism NotStarted nonce text reply next goes is in omega (arith, same)
   response_lower (ExchangeOpen version plus exchange) text reply next goes (answer, held, is) =
       closes_lower version plus exchange answer reply next goes is
   response_lower (SignatureShown login) text reply next goes is = confirms_none login text reply next goes is

@@ -4,7 +4,7 @@ use Rattle.std.specs.Prelude.{◌&&◌, if◌then◌else◌, cond, nat_eq}
 use Rattle.std.specs.Cmp.Lexicographic.{pointwise, same_text, other_text}
 use Rattle.fe2o3_scram.specs.declared.hmac.ScramVersion.TheVariants.{Sha1, Sha256, Sha512}
 use Rattle.fe2o3_sasl_core.specs.Mechanisms.{mechanism_symbol}
-use Rattle.fe2o3_sasl_core.specs.Servers.{ServerSettings, asked_among, asked_way, is_asked_by, is_offered_by, offer_order}
+use Rattle.fe2o3_sasl_core.specs.Servers.{ServerSettings, asked_among, asked_mechanism, is_asked_by, is_offered_by, offer_order}
 use Rattle.fe2o3_sasl_core.specs.declared.mechanism.Mechanism.{Mechanism}
 use Rattle.fe2o3_sasl_core.specs.declared.mechanism.Mechanism.TheVariants as mechanisms
 
@@ -66,7 +66,7 @@ among_offers settings name (first ∷ others) mechanism is =
         subst (λ (w : Mechanism). IsOffered settings name w) one (asked_is settings name first asks)
     go false asks found later = later found
 
-pub asked_offers : (settings : ServerSettings) (name : List ℕ) (mechanism : Mechanism) → asked_way settings name ≡ Some mechanism
+pub asked_offers : (settings : ServerSettings) (name : List ℕ) (mechanism : Mechanism) → asked_mechanism settings name ≡ Some mechanism
     → IsOffered settings name mechanism
 asked_offers settings name mechanism is = among_offers settings name offer_order mechanism is
 
@@ -108,26 +108,26 @@ among_asked settings (first ∷ others) mechanism offered there =
         (sym (and_false (is_offered_by settings mechanism) (pointwise nat_eq (mechanism_symbol mechanism) (mechanism_symbol mechanism)) offered own)) refl)
 
 pub offered_asked : (settings : ServerSettings) (mechanism : Mechanism) → is_offered_by settings mechanism ≡ true
-    → asked_way settings (mechanism_symbol mechanism) ≡ Some mechanism
+    → asked_mechanism settings (mechanism_symbol mechanism) ≡ Some mechanism
 offered_asked settings mechanism offered = among_asked settings offer_order mechanism offered (is_in mechanism)
 
 -- ---- by the mechanism of a name
 
 pub asked_and_offered : (settings : ServerSettings) (name : List ℕ) (mechanism : Mechanism)
     → mechanism_symbol mechanism ≡ name → is_offered_by settings mechanism ≡ true
-    → Some mechanism ≡ asked_way settings name
+    → Some mechanism ≡ asked_mechanism settings name
 asked_and_offered settings name mechanism named offered =
-    sym (subst (λ (n : List ℕ). asked_way settings n ≡ Some mechanism) named (offered_asked settings mechanism offered))
+    sym (subst (λ (n : List ℕ). asked_mechanism settings n ≡ Some mechanism) named (offered_asked settings mechanism offered))
 
 -- what is asked for is not this
-never_asked : (settings : ServerSettings) (name : List ℕ) (asked : Option Mechanism) → asked_way settings name ≡ asked
+never_asked : (settings : ServerSettings) (name : List ℕ) (asked : Option Mechanism) → asked_mechanism settings name ≡ asked
     → ((mechanism : Mechanism) → ¬ IsOffered settings name mechanism) → None ≡ asked
 never_asked settings name None is none = refl
 never_asked settings name (Some mechanism) is none = absurd (none mechanism (asked_offers settings name mechanism is))
 
 pub asked_not_offered : (settings : ServerSettings) (name : List ℕ) (mechanism : Mechanism)
-    → mechanism_symbol mechanism ≡ name → is_offered_by settings mechanism ≡ false → None ≡ asked_way settings name
-asked_not_offered settings name mechanism named offered = never_asked settings name (asked_way settings name) refl
+    → mechanism_symbol mechanism ≡ name → is_offered_by settings mechanism ≡ false → None ≡ asked_mechanism settings name
+asked_not_offered settings name mechanism named offered = never_asked settings name (asked_mechanism settings name) refl
     (λ other (same, offers). true_is_not_false (sym offers ∙ (ap (is_offered_by settings)
     (one_mechanism other mechanism (sym same ∙ sym named)) ∙ offered)))
   where
@@ -135,8 +135,8 @@ asked_not_offered settings name mechanism named offered = never_asked settings n
     true_is_not_false is = cc
 
 pub asked_by_no_name : (settings : ServerSettings) (name : List ℕ)
-    → ((mechanism : Mechanism) → mechanism_symbol mechanism ≢ name) → None ≡ asked_way settings name
+    → ((mechanism : Mechanism) → mechanism_symbol mechanism ≢ name) → None ≡ asked_mechanism settings name
 asked_by_no_name settings name none =
-    never_asked settings name (asked_way settings name) refl (λ mechanism (same, offers). none mechanism (sym same))
+    never_asked settings name (asked_mechanism settings name) refl (λ mechanism (same, offers). none mechanism (sym same))
 
 pub ruleset asked = (asked_and_offered, asked_not_offered, asked_by_no_name)

@@ -10,7 +10,7 @@ use Rattle.fe2o3_scram.specs.declared.hmac.ScramVersion.TheVariants.{Sha1, Sha25
 use Rattle.fe2o3_scram.specs.declared.scram_messages.server_rules.ServerRules.{ServerRules}
 use Rattle.fe2o3_sasl_core.specs.AnyMechanism.{has_name, both_names}
 use Rattle.fe2o3_sasl_core.specs.Mechanisms.{mechanism_symbol}
-use Rattle.fe2o3_sasl_core.specs.Servers.{ServerSettings, asked_among, asked_way, is_asked_by, is_offered_by, name_where_offered, offer_order, sasl_names, with_offered}
+use Rattle.fe2o3_sasl_core.specs.Servers.{ServerSettings, asked_among, asked_mechanism, is_asked_by, is_offered_by, name_where_offered, offer_order, sasl_names, with_offered}
 use Rattle.fe2o3_sasl_core.specs.declared.mechanism.Mechanism.{Mechanism}
 
 -- a name is in one of two lists
@@ -146,25 +146,25 @@ is_either : (a : Bool) → a ≡ (if a then true else false)
 is_either true = refl
 is_either false = refl
 
-one_more_asked : (a b asked : Bool) (way : Mechanism) (rest : Option Mechanism) (both : Bool) → both ≡ (if a then true else b)
+one_more_asked : (a b asked : Bool) (mechanism : Mechanism) (rest : Option Mechanism) (both : Bool) → both ≡ (if a then true else b)
     → b ≡ asked
-    → (if both then true else is_some rest) ≡ (if a then true else is_some (if asked then Some way else rest))
-one_more_asked true b asked way rest both is same = ap (λ (x : Bool). if x then true else is_some rest) is
-one_more_asked false b true way rest both is same = ap (λ (x : Bool). if x then true else is_some rest) (is ∙ same)
-one_more_asked false b false way rest both is same = ap (λ (x : Bool). if x then true else is_some rest) (is ∙ same)
+    → (if both then true else is_some rest) ≡ (if a then true else is_some (if asked then Some mechanism else rest))
+one_more_asked true b asked mechanism rest both is same = ap (λ (x : Bool). if x then true else is_some rest) is
+one_more_asked false b true mechanism rest both is same = ap (λ (x : Bool). if x then true else is_some rest) (is ∙ same)
+one_more_asked false b false mechanism rest both is same = ap (λ (x : Bool). if x then true else is_some rest) (is ∙ same)
 
 has_offered : (settings : ServerSettings) (names : List (List ℕ)) (ways : List Mechanism) (name : List ℕ)
     → has_name (with_offered settings names ways) name
     ≡ (if has_name names name then true else is_some (asked_among settings name ways))
 has_offered settings names [] name = is_either (has_name names name)
-has_offered settings names (way ∷ others) name =
-    let here = name_where_offered (is_offered_by settings way) (mechanism_symbol way) in
+has_offered settings names (mechanism ∷ others) name =
+    let here = name_where_offered (is_offered_by settings mechanism) (mechanism_symbol mechanism) in
     has_offered settings (names ++ here) others name
-    ∙ one_more_asked (has_name names name) (has_name here name) (is_asked_by settings name way) way
+    ∙ one_more_asked (has_name names name) (has_name here name) (is_asked_by settings name mechanism) mechanism
     (asked_among settings name others) (has_name (names ++ here) name) (has_name-append names here name)
-    (has_asked (is_offered_by settings way) (mechanism_symbol way) name)
+    (has_asked (is_offered_by settings mechanism) (mechanism_symbol mechanism) name)
 
 -- a name is offered exactly if it asks for a mechanism
 pub has_sasl_name : (settings : ServerSettings) (name : List ℕ)
-    → has_name (sasl_names settings) name ≡ is_some (asked_way settings name)
+    → has_name (sasl_names settings) name ≡ is_some (asked_mechanism settings name)
 has_sasl_name settings name = has_offered settings [] offer_order name

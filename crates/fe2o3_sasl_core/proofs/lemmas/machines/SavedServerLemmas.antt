@@ -21,7 +21,7 @@ use Rattle.fe2o3_scram.specs.declared.scram_messages.error.ServerScramErrorKind.
 use Rattle.fe2o3_scram.specs.declared.scram_messages.server_rules.ServerRules.{ServerRules}
 use Rattle.fe2o3_sasl_core.specs.SavedServers.{IsRestored, NoRecordIsUnmet, RestoredStagesAreEqual, no_record, or_no_record, record_now}
 use Rattle.fe2o3_sasl_core.specs.Mechanisms.{mechanism_symbol}
-use Rattle.fe2o3_sasl_core.specs.Servers.{AsksForResponse, ClosesExchange, ConfirmsSignature, ExchangeOpen, InitAnswers, InitWhere, NotStarted, OpensScram, ResponseAnswers, ResponseAsked, SendsSignature, ServerLogin, ServerSettings, ServerStage, SignatureShown, StageAnswers, StageRejects, UserAuthenticated, asked_among, asked_way, exchange_login, has_hash, is_asked_by, is_offered_by, is_response_asked, offer_order, provider_by, rules_by}
+use Rattle.fe2o3_sasl_core.specs.Servers.{AsksForResponse, ClosesExchange, ConfirmsSignature, ExchangeOpen, InitAnswers, InitWhere, NotStarted, OpensScram, ResponseAnswers, ResponseAsked, SendsSignature, ServerLogin, ServerSettings, ServerStage, SignatureShown, StageAnswers, StageRejects, UserAuthenticated, asked_among, asked_mechanism, exchange_login, has_hash, is_asked_by, is_offered_by, is_response_asked, offer_order, provider_by, rules_by}
 use Rattle.fe2o3_sasl_core.specs.declared.mechanism.Mechanism.{Mechanism}
 use Rattle.fe2o3_sasl_core.specs.declared.mechanism.Mechanism.TheVariants as mechanisms
 
@@ -56,17 +56,17 @@ and_right true other is = is
 and_right false other is = absurd (cc)
 
 -- a mechanism that a name asks for is offered
-module _ (settings : ServerSettings) (name : List ℕ) (way : Mechanism) where
+module _ (settings : ServerSettings) (name : List ℕ) (mechanism : Mechanism) where
   asked_of : (first : Mechanism) (rest : Option Mechanism) (is : Bool) → is_asked_by settings name first ≡ is
-      → (if is then Some first else rest) ≡ Some way → (rest ≡ Some way → is_offered_by settings way ≡ true)
-      → is_offered_by settings way ≡ true
+      → (if is then Some first else rest) ≡ Some mechanism → (rest ≡ Some mechanism → is_offered_by settings mechanism ≡ true)
+      → is_offered_by settings mechanism ≡ true
   asked_of first rest true asks same later =
-      let one : first ≡ way = cc in
+      let one : first ≡ mechanism = cc in
       subst (λ (w : Mechanism). is_offered_by settings w ≡ true) one
       (and_left (is_offered_by settings first) (pointwise nat_eq name (mechanism_symbol first)) asks)
   asked_of first rest false asks same later = later same
 
-  asked_offered : (order : List Mechanism) → asked_among settings name order ≡ Some way → is_offered_by settings way ≡ true
+  asked_offered : (order : List Mechanism) → asked_among settings name order ≡ Some mechanism → is_offered_by settings mechanism ≡ true
   asked_offered [] same = absurd (cc)
   asked_offered (first ∷ others) same =
       asked_of first (asked_among settings name others) _ refl same (asked_offered others)
@@ -110,18 +110,18 @@ module _ (settings : ServerSettings) where
   unfolding IsRestored
   logged_in login = refl
 
-  asks : (way : Mechanism) (nonce : List ℕ) → is_offered_by settings way ≡ true → Is (ResponseAsked way nonce)
+  asks : (mechanism : Mechanism) (nonce : List ℕ) → is_offered_by settings mechanism ≡ true → Is (ResponseAsked mechanism nonce)
   unfolding IsRestored
-  asks way nonce offers = ap (λ (is : Bool). if is then ResponseAsked way nonce else NotStarted) offers
+  asks mechanism nonce offers = ap (λ (is : Bool). if is then ResponseAsked mechanism nonce else NotStarted) offers
 
-  offers_so : (way : Mechanism) (nonce : List ℕ) (is : Bool)
-      → (if is then ResponseAsked way nonce else NotStarted) ≡ ResponseAsked way nonce → is ≡ true
-  offers_so way nonce true same = refl
-  offers_so way nonce false same = absurd (cc)
+  offers_so : (mechanism : Mechanism) (nonce : List ℕ) (is : Bool)
+      → (if is then ResponseAsked mechanism nonce else NotStarted) ≡ ResponseAsked mechanism nonce → is ≡ true
+  offers_so mechanism nonce true same = refl
+  offers_so mechanism nonce false same = absurd (cc)
 
-  offered : (way : Mechanism) (nonce : List ℕ) → Is (ResponseAsked way nonce) → is_offered_by settings way ≡ true
+  offered : (mechanism : Mechanism) (nonce : List ℕ) → Is (ResponseAsked mechanism nonce) → is_offered_by settings mechanism ≡ true
   unfolding IsRestored
-  offered way nonce was = offers_so way nonce (is_offered_by settings way) was
+  offered mechanism nonce was = offers_so mechanism nonce (is_offered_by settings mechanism) was
 
   abbrev exchange_with : ScramVersion → ServerChallenge → Bool → ServerStage
   exchange_with version challenge plus = if is_offered_by settings (mechanisms.Scram version plus)
@@ -145,10 +145,10 @@ module _ (settings : ServerSettings) where
   then_is : (stage next : ServerStage) → next ≡ stage → Is stage → Is next
   then_is stage next same is = subst Is (sym same) is
 
-  asks_for : (does : Bool) (way : Mechanism) (kept : ServerStage) (nonce : List ℕ) (reply : SaslFrame) (next : ServerStage)
-      → is_offered_by settings way ≡ true → Is kept → AsksForResponse does way kept nonce reply next → Is next
-  asks_for true way kept nonce reply next offers was is = then_is _ next is.1 (asks way nonce offers)
-  asks_for false way kept nonce reply next offers was is = then_is kept next is.1 was
+  asks_for : (does : Bool) (mechanism : Mechanism) (kept : ServerStage) (nonce : List ℕ) (reply : SaslFrame) (next : ServerStage)
+      → is_offered_by settings mechanism ≡ true → Is kept → AsksForResponse does mechanism kept nonce reply next → Is next
+  asks_for true mechanism kept nonce reply next offers was is = then_is _ next is.1 (asks mechanism nonce offers)
+  asks_for false mechanism kept nonce reply next offers was is = then_is kept next is.1 was
 
   begins : (version : ScramVersion) (plus : Bool) (kept : ServerStage) (nonce text : List ℕ)
       (answer : Result (Option (List ℕ × OpenExchange)) ServerScramErrorKind) (reply : SaslFrame) (next : ServerStage)
@@ -164,9 +164,9 @@ module _ (settings : ServerSettings) where
   begins version plus kept nonce text (Ok None) reply next offers was held is = then_is kept next is.1 was
   begins version plus kept nonce text (Err fault) reply next offers was held is = then_is kept next is.1 was
 
-  init_goes : (way : Mechanism) (kept : ServerStage) (nonce : List ℕ) (response : Option (List ℕ)) (reply : SaslFrame)
-      (next : ServerStage) → is_offered_by settings way ≡ true → Is kept
-      → InitAnswers settings way kept nonce response reply next → Is next
+  init_goes : (mechanism : Mechanism) (kept : ServerStage) (nonce : List ℕ) (response : Option (List ℕ)) (reply : SaslFrame)
+      (next : ServerStage) → is_offered_by settings mechanism ≡ true → Is kept
+      → InitAnswers settings mechanism kept nonce response reply next → Is next
   init_goes mechanisms.Anonymous kept nonce response reply next offers was is = then_is _ next is.1 (logged_in _)
   init_goes mechanisms.External kept nonce response reply next offers was (inl (asked, is)) =
       then_is _ next is.1 (logged_in _)
@@ -183,19 +183,19 @@ module _ (settings : ServerSettings) where
 
   asked_goes : (asked : Option Mechanism) (stage : ServerStage) (nonce : List ℕ) (response : Option (List ℕ))
       (reply : SaslFrame) (next : ServerStage)
-      → ((way : Mechanism) → asked ≡ Some way → is_offered_by settings way ≡ true) → Is stage
+      → ((mechanism : Mechanism) → asked ≡ Some mechanism → is_offered_by settings mechanism ≡ true) → Is stage
       → MatchOption asked (StageRejects stage reply next)
-      (λ way. InitAnswers settings way stage nonce response reply next) → Is next
+      (λ mechanism. InitAnswers settings mechanism stage nonce response reply next) → Is next
   asked_goes None stage nonce response reply next offers was is = then_is stage next is.1 was
-  asked_goes (Some way) stage nonce response reply next offers was is =
-      init_goes way stage nonce response reply next (offers way refl) was is
+  asked_goes (Some mechanism) stage nonce response reply next offers was is =
+      init_goes mechanism stage nonce response reply next (offers mechanism refl) was is
 
   init_where : (due : Bool) (stage : ServerStage) (nonce name : List ℕ) (response : Option (List ℕ)) (reply : SaslFrame)
       (next : ServerStage) → Is stage → InitWhere due settings stage nonce name response reply next → Is next
   init_where true stage nonce name response reply next was is = then_is NotStarted next is.1 nothing
   init_where false stage nonce name response reply next was is =
-      asked_goes (asked_way settings name) stage nonce response reply next
-      (λ way same. asked_offered settings name way offer_order same) was is
+      asked_goes (asked_mechanism settings name) stage nonce response reply next
+      (λ mechanism same. asked_offered settings name mechanism offer_order same) was is
 
   sends : (signs : Bool) (login : ServerLogin) (message : List ℕ) (reply : SaslFrame) (next : ServerStage)
       → SendsSignature signs login message reply next → Is next
@@ -216,8 +216,8 @@ module _ (settings : ServerSettings) where
 
   response_goes : (stage : ServerStage) (text : List ℕ) (reply : SaslFrame) (next : ServerStage) → Is stage
       → ResponseAnswers settings stage text reply next → Is next
-  response_goes (ResponseAsked way nonce) text reply next was is =
-      init_goes way NotStarted nonce (Some text) reply next (offered way nonce was) nothing is
+  response_goes (ResponseAsked mechanism nonce) text reply next was is =
+      init_goes mechanism NotStarted nonce (Some text) reply next (offered mechanism nonce was) nothing is
   response_goes (ExchangeOpen version plus exchange) text reply next was (answer, held, is) =
       closes version plus exchange answer reply next was is
   response_goes (SignatureShown login) text reply next was is = confirms login text reply next is

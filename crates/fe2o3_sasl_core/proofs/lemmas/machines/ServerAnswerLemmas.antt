@@ -32,7 +32,7 @@ use Rattle.fe2o3_sasl_core.specs.declared.mechanism.Mechanism.{Mechanism}
 use Rattle.fe2o3_sasl_core.specs.declared.mechanism.Mechanism.TheVariants as mechanisms
 
 -- the name of a mechanism is ASCII
-pub IsAscii-mechanism_symbol : (way : Mechanism) → IsAscii (mechanism_symbol way)
+pub IsAscii-mechanism_symbol : (mechanism : Mechanism) → IsAscii (mechanism_symbol mechanism)
 IsAscii-mechanism_symbol (mechanisms.Scram version plus) = IsAscii-mechanism_of version plus
 IsAscii-mechanism_symbol mechanisms.Plain = IsAscii-from_is_ascii (codes "PLAIN") refl
 IsAscii-mechanism_symbol mechanisms.Anonymous = IsAscii-from_is_ascii (codes "ANONYMOUS") refl

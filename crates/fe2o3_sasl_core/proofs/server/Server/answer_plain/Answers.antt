@@ -26,7 +26,7 @@ returns-in_ok-copied-clause-ok c = λ kept nonce.
       (
         c.accepted.ensures.frame,
         λ i. UserAuthenticated (record {
-          way = mechanisms.Plain;
+          mechanism = mechanisms.Plain;
           user = Some (c.in_ok-to_string.ensures.ok i);
           acts_for = (c.in_ok-copied.ensures ∙ c.asked_identity.ensures) i;
         }),

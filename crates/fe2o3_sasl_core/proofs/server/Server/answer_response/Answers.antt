@@ -6,9 +6,9 @@ use Rattle.fe2o3_sasl_core.proofs.server.Server.answer_response.Goals as goal
 
 pub returns-in_ok-reply-in-Asked-clause-ok : goal.returns-in_ok-reply-in-Asked-clause-ok
 returns-in_ok-reply-in-Asked-clause-ok c = rw (c.in-Asked.is, c.or_restart.ensures) (subst (λ (next : ServerStage).
-    InitAnswers (settings_in c.args.self.now) c.in-Asked.way NotStarted c.in-Asked.nonce (Some c.args.text.now)
+    InitAnswers (settings_in c.args.self.now) c.in-Asked.mechanism NotStarted c.in-Asked.nonce (Some c.args.text.now)
     (sent_frame c.in_ok-reply-in-Asked.reply) next)
-    (sym (after_restart (ResponseAsked c.in-Asked.way c.in-Asked.nonce) c.in_ok-reply-in-Asked.moves))
+    (sym (after_restart (ResponseAsked c.in-Asked.mechanism c.in-Asked.nonce) c.in_ok-reply-in-Asked.moves))
     (c.in_ok-reply-in-Asked.ensures.ok NotStarted))
 
 pub returns-in-Open-clause-memory : goal.returns-in-Open-clause-memory

@@ -2,4 +2,4 @@ use Rattle.fe2o3_sasl_core.proofs.lemmas.machines.ServerAnswerLemmas.{IsAscii-me
 use Rattle.fe2o3_sasl_core.proofs.server.Server.offer.Goals as goal
 
 pub symbol_of-requires : goal.symbol_of-requires
-symbol_of-requires c = rw c.name.ensures (IsAscii-mechanism_symbol c.args.way)
+symbol_of-requires c = rw c.name.ensures (IsAscii-mechanism_symbol c.args.mechanism)

@@ -1,5 +1,5 @@
 use Rattle.std.proofs.lemmas.Result.{IfOk-weaker}
-use Rattle.fe2o3_sasl_core.proofs.server.Server.answer_way.Goals as goal
+use Rattle.fe2o3_sasl_core.proofs.server.Server.answer_mechanism.Goals as goal
 
 pub returns-in-External-default-clause-ok : goal.returns-in-External-default-clause-ok
 returns-in-External-default-clause-ok c = rw c.in-External-default.is-0 (IfOk-weaker c.answer_external.result _ _
