@@ -43,7 +43,8 @@ ResponseCompletes settings stage text login = ⊥
 -- response
 abbrev pub FrameCompletes : ServerSettings → ServerStage → SaslFrame → ServerLogin → Type 0
 FrameCompletes settings stage (frames.Init name response hostname) login = (is_response_asked stage ≡ false)
-    × ((mechanism : Mechanism) × (asked_mechanism settings name ≡ Some mechanism) × InitCompletes settings mechanism response login)
+    × ((mechanism : Mechanism) × (asked_mechanism settings name ≡ Some mechanism)
+    × InitCompletes settings mechanism response login)
 FrameCompletes settings stage (frames.Response text) login = ResponseCompletes settings stage text login
 FrameCompletes settings stage frame login = ⊥
 

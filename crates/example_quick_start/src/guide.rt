@@ -14,9 +14,8 @@ use std::alloc::Global;
 use std::io::Write;
 use std::random::RandomSource;
 
-/// The options of clients that test each message by the grammar of RFC 5802. The server chooses the iteration count between
-/// the bounds.
-pub fn new_client_options() -> ClientOptions {
+/// The options of strict clients (RFC 5802, section 7). The server chooses the iteration count between the bounds.
+pub fn client_options() -> ClientOptions {
     ClientOptions {
         limits: IterationLimits {
             min_iterations: 4096,
@@ -30,10 +29,8 @@ pub fn new_client_options() -> ClientOptions {
 /// A client by a password.
 pub fn new_client(alloc: Global, user: &str, password: &str) -> Result<SaslProfile> {
     let (user, password) = (user.to_string(alloc)?, password.to_string(alloc)?);
-    let client = ScramClient::new(user, password, ScramVersion::Sha256).with_options(
-        new_client_options(),
-    );
-    Ok(SaslProfile::from(client))
+    let client = ScramClient::new(user, password, ScramVersion::Sha256);
+    Ok(SaslProfile::from(client.with_options(client_options())))
 }
 
 /// A client that binds its TLS connection, by the strongest hash that the server offers.
@@ -47,12 +44,10 @@ pub fn bound_client(
         kind: ChannelKind::TlsExporter,
         cbind_data: ChannelData::new(exported)?,
     };
-    let limits = IterationLimits {
-        min_iterations: 4096,
-        max_iterations: 100_000,
-    };
+    let ClientOptions { limits, strict, .. } = client_options();
     let policy = ClientPolicy {
         limits,
+        strict,
         channel: Some(channel),
         must_bind: true,
         ..ClientPolicy::scram_from(ScramVersion::Sha256)
@@ -106,7 +101,7 @@ pub fn log<W: Write>(server: &Server<'_>, output: &mut W) -> Result<()> {
 pub fn keyed_client(alloc: Global, user: &str, keys: &CachedKeys) -> Result<SaslProfile> {
     let (user, secret) = (user.to_string(alloc)?, ClientSecret::Keys(keys));
     let client = ScramClient::with_secret(alloc, user, secret, keys.scram_version())?;
-    Ok(SaslProfile::from(client.with_options(new_client_options())))
+    Ok(SaslProfile::from(client.with_options(client_options())))
 }
 
 /// Restores a side in another place. The values that are saved hold no password, no key and no record.

@@ -96,8 +96,9 @@ is_offered_by settings mechanisms.External = settings.mechanisms.external && is_
 
 -- all mechanisms, in the order in which they are offered
 abbrev pub offer_order : List Mechanism
-offer_order = mechanisms.Scram Sha512 true ∷ mechanisms.Scram Sha256 true ∷ mechanisms.Scram Sha1 true ∷ mechanisms.Scram Sha512 false
-    ∷ mechanisms.Scram Sha256 false ∷ mechanisms.Scram Sha1 false ∷ mechanisms.Plain ∷ mechanisms.Anonymous ∷ mechanisms.External ∷ []
+offer_order = mechanisms.Scram Sha512 true ∷ mechanisms.Scram Sha256 true ∷ mechanisms.Scram Sha1 true
+    ∷ mechanisms.Scram Sha512 false ∷ mechanisms.Scram Sha256 false ∷ mechanisms.Scram Sha1 false ∷ mechanisms.Plain
+    ∷ mechanisms.Anonymous ∷ mechanisms.External ∷ []
 
 -- whether a server offers one of these mechanisms, and one of all
 abbrev pub offers_among : ServerSettings → List Mechanism → Bool

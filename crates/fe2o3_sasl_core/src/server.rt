@@ -365,7 +365,8 @@ impl<'a> Server<'a> {
         mechanism: Mechanism,
     ) -> Result<(), OutOfMemory>
         ensures { OnOk result (names.new.items
-            ≡ names.old.items ++ name_where_offered (is_offered_by (settings_in self.now) mechanism) (mechanism_symbol mechanism)) }
+            ≡ names.old.items ++ name_where_offered (is_offered_by (settings_in self.now) mechanism)
+            (mechanism_symbol mechanism)) }
     {
         if self.offers(mechanism) {
             names.push(symbol_of(alloc, mechanism.name())?)?;

@@ -40,7 +40,8 @@ some_record (frames.Outcome code more) before = (before, refl)
 abbrev pub Looks : ServerStage → ServerStage → Type 0
 Looks NotStarted NotStarted = Unit {0}
 Looks NotStarted (UserAuthenticated other) = other.user ≡ None
-Looks (ResponseAsked mechanism nonce) (ResponseAsked other_mechanism other_nonce) = (other_mechanism ≡ mechanism) × (other_nonce ≡ nonce)
+Looks (ResponseAsked mechanism nonce) (ResponseAsked other_mechanism other_nonce) = (other_mechanism ≡ mechanism)
+    × (other_nonce ≡ nonce)
 Looks (ExchangeOpen version plus exchange) (ExchangeOpen other_version other_plus other) =
     (other_version ≡ version) × (other_plus ≡ plus) × (other.challenge ≡ exchange.challenge)
 Looks (SignatureShown login) (SignatureShown other) = (other.user ≡ login.user) × (other.acts_for ≡ login.acts_for)

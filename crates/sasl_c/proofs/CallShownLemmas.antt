@@ -110,7 +110,8 @@ module _ (settings : ServerSettings) (records : MultiRecords) (rights : Rights) 
       subst (λ (s : ServerStage). Looks (ExchangeOpen version plus exchange) s) (sym same) (refl, one, challenge)
   open_looks version plus exchange mine other binds stage false challenge was same = absurd (cc)
 
-  restored_asked : (mechanism other_mechanism : Mechanism) (nonce other_nonce : List ℕ) (stage : ServerStage) → other_mechanism ≡ mechanism
+  restored_asked : (mechanism other_mechanism : Mechanism) (nonce other_nonce : List ℕ) (stage : ServerStage)
+      → other_mechanism ≡ mechanism
       → other_nonce ≡ nonce → IsRestored settings (ResponseAsked mechanism nonce)
       → stage ≡ restored_stage passed (KeptAsked other_mechanism other_nonce) → Looks (ResponseAsked mechanism nonce) stage
   unfolding IsRestored
@@ -153,8 +154,10 @@ module _ (settings : ServerSettings) (records : MultiRecords) (rights : Rights) 
       subst (λ (s : ServerStage). Looks NotStarted s) (sym same) (no_user scram login.user login.acts_for zero too)
   restored_looks scram (ResponseAsked mechanism nonce) other KeptNothing out was written shows too same =
       absurd (too.2 mechanism nonce shows)
-  restored_looks scram (ResponseAsked mechanism nonce) other (KeptAsked other_mechanism other_nonce) out was written shows too same =
-      restored_asked mechanism other_mechanism nonce other_nonce other (one_mechanism other_mechanism mechanism (too.4 ∙ sym shows.4))
+  restored_looks scram (ResponseAsked mechanism nonce) other
+      (KeptAsked other_mechanism other_nonce) out was written shows too same =
+      restored_asked mechanism other_mechanism nonce other_nonce other (one_mechanism other_mechanism mechanism (too.4
+      ∙ sym shows.4))
       (too.2 ∙ sym shows.2) was same
   restored_looks scram (ResponseAsked mechanism nonce) other (KeptOpen version challenge) out was written shows too same =
       absurd (not_five challenge.header.flag (sym too.1.0 ∙ shows.0))

@@ -251,11 +251,13 @@ module _ (settings : ServerSettings) (records : MultiRecords) (rights : Rights) 
   response_answered NotStarted (ExchangeOpen version plus exchange) next text reply looks alike is = absurd looks
   response_answered NotStarted (SignatureShown other) next text reply looks alike is = absurd looks
   response_answered (ResponseAsked mechanism nonce) NotStarted next text reply looks alike is = absurd looks
-  response_answered (ResponseAsked mechanism nonce) (ExchangeOpen version plus exchange) next text reply looks alike is = absurd looks
+  response_answered (ResponseAsked mechanism nonce)
+      (ExchangeOpen version plus exchange) next text reply looks alike is = absurd looks
   response_answered (ResponseAsked mechanism nonce) (SignatureShown other) next text reply looks alike is = absurd looks
   response_answered (ResponseAsked mechanism nonce) (UserAuthenticated other) next text reply looks alike is = absurd looks
   response_answered (ExchangeOpen version plus exchange) NotStarted next text reply looks alike is = absurd looks
-  response_answered (ExchangeOpen version plus exchange) (ResponseAsked mechanism nonce) next text reply looks alike is = absurd looks
+  response_answered (ExchangeOpen version plus exchange)
+      (ResponseAsked mechanism nonce) next text reply looks alike is = absurd looks
   response_answered (ExchangeOpen version plus exchange) (SignatureShown other) next text reply looks alike is = absurd looks
   response_answered (ExchangeOpen version plus exchange) (UserAuthenticated other) next text reply looks alike is = absurd looks
   response_answered (SignatureShown login) NotStarted next text reply looks alike is = absurd looks
@@ -305,7 +307,8 @@ module _ (settings : ServerSettings) (records : MultiRecords) (rights : Rights) 
   opens_quiet version plus stage next (Ok None) reply is = inl (_, _, is.0)
   opens_quiet version plus stage next (Err fault) reply is = inl (_, _, is.0)
 
-  init_quiet : (mechanism : Mechanism) (stage next : ServerStage) (nonce : List ℕ) (response : Option (List ℕ)) (reply : SaslFrame)
+  init_quiet : (mechanism : Mechanism) (stage next : ServerStage) (nonce : List ℕ) (response : Option (List ℕ))
+      (reply : SaslFrame)
       → InitAnswers settings mechanism stage nonce response reply next → Quiet reply next
   init_quiet mechanisms.Anonymous stage next nonce response reply is = inl (_, _, is.0)
   init_quiet mechanisms.External stage next nonce response reply (inl (asks, is)) = inl (_, _, is.0)

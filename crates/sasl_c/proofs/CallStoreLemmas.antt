@@ -97,7 +97,8 @@ module _ (settings : ServerSettings) (records : MultiRecords) (rights : Rights) 
   abbrev Init : Mechanism → Option (List ℕ) → Type 0
   Init mechanism response = InitAlike settings records rights mock plain mechanism response
 
-  init_alike : (Says : List ℕ → Type 0) (mechanism : Mechanism) (name text : List ℕ) → Says text → name ≡ mechanism_symbol mechanism
+  init_alike : (Says : List ℕ → Type 0) (mechanism : Mechanism) (name text : List ℕ) → Says text
+      → name ≡ mechanism_symbol mechanism
       → is_offered_by settings mechanism ≡ true → ((user : List ℕ) → ClaimsUser name text user → Agrees Says user)
       → Init mechanism (Some text)
   init_alike Says (mechanisms.Scram version plus) name text says same offers claims = λ client reads.
@@ -133,7 +134,8 @@ module _ (settings : ServerSettings) (records : MultiRecords) (rights : Rights) 
   init_alike Says mechanisms.External name text says same offers claims = tt
 
   response_init : (Says : List ℕ → Type 0) (mechanism : Mechanism) (name : List ℕ) (response : Option (List ℕ))
-      → ((text : List ℕ) → response ≡ Some text → Says text) → name ≡ mechanism_symbol mechanism → is_offered_by settings mechanism ≡ true
+      → ((text : List ℕ) → response ≡ Some text → Says text) → name ≡ mechanism_symbol mechanism
+      → is_offered_by settings mechanism ≡ true
       → ((user : List ℕ) → ClaimIn name response (Some user) → Agrees Says user) → Init mechanism response
   response_init Says mechanism name (Some text) says same offers claims =
       init_alike Says mechanism name text (says text refl) same offers claims
@@ -177,7 +179,8 @@ module _ (settings : ServerSettings) (records : MultiRecords) (rights : Rights) 
       → Agrees (CarriesText (frames.Response text)) user)
       → ResponseAlike settings records rights mock plain stage other text
   response_alike scram (ResponseAsked mechanism nonce) other text looks was is shows names =
-      init_alike (CarriesText (frames.Response text)) mechanism (mechanism_symbol mechanism) text refl refl (offered mechanism nonce was)
+      init_alike (CarriesText (frames.Response text)) mechanism (mechanism_symbol mechanism) text refl refl
+      (offered mechanism nonce was)
       (λ user claims. names user (inr (mechanism, nonce, shows, claims)))
   response_alike scram (ExchangeOpen version plus exchange) (ExchangeOpen other_version other_plus other) text looks was is
       shows names =

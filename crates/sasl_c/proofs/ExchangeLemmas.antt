@@ -170,7 +170,8 @@ asked_shows scram mechanism nonce same sized =
 -- a struct whose text is not UTF-8, or not the name of a mechanism, shows no init
 pub not_utf8 : (scram : ScramStruct) (text : List ℕ) → text ≡ take scram.first_len scram.first → ¬ IsUtf8 text
     → (mechanism : Mechanism) (nonce : List ℕ) → ¬ HasAsked scram mechanism nonce
-not_utf8 scram text same wrong mechanism nonce asked = wrong (carried IsUtf8 (mechanism_symbol mechanism) text (asked.4 ∙ sym same)
+not_utf8 scram text same wrong mechanism nonce asked = wrong (carried IsUtf8 (mechanism_symbol mechanism) text (asked.4
+    ∙ sym same)
     (IsUtf8-from_ascii (mechanism_symbol mechanism) (IsAscii-mechanism_symbol mechanism)))
 
 pub not_named : (scram : ScramStruct) (text : List ℕ) → text ≡ take scram.first_len scram.first

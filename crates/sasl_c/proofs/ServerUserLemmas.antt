@@ -56,7 +56,8 @@ pub ruleset response_user = (response_claims, response_claims_none, response_ask
 -- ---- a response
 
 -- a struct in which a challenge is open shows no init that was asked
-other_states : (scram : ScramStruct) (challenge : ServerChallenge) (mechanism : Mechanism) (nonce : List ℕ) → IsOpen scram challenge
+other_states : (scram : ScramStruct) (challenge : ServerChallenge) (mechanism : Mechanism) (nonce : List ℕ)
+    → IsOpen scram challenge
     → HasAsked scram mechanism nonce → ⊥
 other_states scram challenge mechanism nonce shows asked = differ challenge.header.flag shows.0
   where

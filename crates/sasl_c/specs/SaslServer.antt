@@ -305,7 +305,8 @@ ReceivesAsServer config bytes nonce before after taken (Err status) = NotReceive
 -- the user that the initial response names
 abbrev pub AnswerNames : ScramStruct → List ℕ → List ℕ → Type 0
 AnswerNames scram text name = ((challenge : ServerChallenge) × IsOpen scram challenge × (name ≡ challenge.user))
-    ⊎ ((mechanism : Mechanism) × (nonce : List ℕ) × HasAsked scram mechanism nonce × ClaimsUser (mechanism_symbol mechanism) text name)
+    ⊎ ((mechanism : Mechanism) × (nonce : List ℕ) × HasAsked scram mechanism nonce
+    × ClaimsUser (mechanism_symbol mechanism) text name)
 
 -- a frame in turn names this user: an init, or a response
 abbrev pub FrameNames : ScramStruct → FrameKind → SaslFrame → List ℕ → Type 0
@@ -330,7 +331,8 @@ ResponseAsks mechanism None = ⊥
 -- and for a response: where a challenge is open, or for an initial response
 abbrev pub AnswerNeedsMemory : ScramStruct → List ℕ → Type 0
 AnswerNeedsMemory scram text = ((challenge : ServerChallenge) × IsOpen scram challenge)
-    ⊎ ((mechanism : Mechanism) × (nonce : List ℕ) × HasAsked scram mechanism nonce × ClaimAllocates (mechanism_symbol mechanism) text)
+    ⊎ ((mechanism : Mechanism) × (nonce : List ℕ) × HasAsked scram mechanism nonce
+    × ClaimAllocates (mechanism_symbol mechanism) text)
 
 -- and for a frame in turn: an init, or a response
 abbrev pub FrameAsks : ScramStruct → FrameKind → SaslFrame → Type 0

@@ -157,7 +157,8 @@ rest_responses server (event ∷ second ∷ events) replies last texts login (te
 -- ---- an init
 
 -- an init that completes a login, and what its messages are
-init_last : (settings : ServerSettings) (mechanism : Mechanism) (nonce : List ℕ) (response : Option (List ℕ)) (login : ServerLogin)
+init_last : (settings : ServerSettings) (mechanism : Mechanism) (nonce : List ℕ) (response : Option (List ℕ))
+    (login : ServerLogin)
     → InitCompletes settings mechanism response login → MessagesLogIn settings mechanism nonce response [] login
 init_last settings mechanisms.Anonymous nonce response login completes = (refl, completes)
 init_last settings mechanisms.External nonce response login completes = (refl, completes)
@@ -165,7 +166,8 @@ init_last settings mechanisms.Plain nonce None login completes = absurd complete
 init_last settings mechanisms.Plain nonce (Some text) login completes = (text, refl, completes)
 init_last settings (mechanisms.Scram version plus) nonce response login completes = absurd completes
 
-last_init : (settings : ServerSettings) (mechanism : Mechanism) (nonce : List ℕ) (response : Option (List ℕ)) (login : ServerLogin)
+last_init : (settings : ServerSettings) (mechanism : Mechanism) (nonce : List ℕ) (response : Option (List ℕ))
+    (login : ServerLogin)
     → MessagesLogIn settings mechanism nonce response [] login → InitCompletes settings mechanism response login
 last_init settings mechanisms.Anonymous nonce response login messages = messages.1
 last_init settings mechanisms.External nonce response login messages = messages.1
@@ -223,7 +225,8 @@ logins_of pieces limit settings (event ∷ second ∷ events) replies last login
     let c = challenge (new_server settings) next event.nonce (frames.Init name response hostname) body
     (init_step sasl_machine (new_server settings) next event (Challenged body) name response hostname spells
     (challenge_has_memory body) step) in
-    let (mechanism, found, answers) = found_mechanism (asked_mechanism settings name) settings event.nonce response c.reply next.stage c.is
+    let (mechanism, found, answers) = found_mechanism
+    (asked_mechanism settings name) settings event.nonce response c.reply next.stage c.is
     c.by.1 in
     let (named, offered) = asked_offers settings name mechanism found in
     let (texts, more, rest) = responses_rest pieces limit (8 + (length event.body + 4)) next (second ∷ events) others last
@@ -257,11 +260,13 @@ ends_with_login settings init [] mechanism response hostname texts replies last 
     ends_by replies last says login all
     (let_in (new_server settings) last init.nonce (frames.Init (mechanism_symbol mechanism) response hostname) says login refl
     (refl, (mechanism, offered_asked settings mechanism offered, completes))
-    (init_step sasl_machine (new_server settings) last init says (mechanism_symbol mechanism) response hostname spells memory step))
+    (init_step sasl_machine (new_server settings) last init says
+    (mechanism_symbol mechanism) response hostname spells memory step))
 ends_with_login settings init (second ∷ events) mechanism response hostname texts replies last login spells offered are messages
     (body, next, others, all, step, run) =
     let c = challenge (new_server settings) next init.nonce (frames.Init (mechanism_symbol mechanism) response hostname) body
-    (init_step sasl_machine (new_server settings) next init (Challenged body) (mechanism_symbol mechanism) response hostname spells
+    (init_step sasl_machine (new_server settings) next init (Challenged body)
+    (mechanism_symbol mechanism) response hostname spells
     (challenge_has_memory body) step) in
     let answers = subst (λ (found : Option Mechanism). FoundAnswers found settings init.nonce response c.reply next.stage)
     (offered_asked settings mechanism offered) c.by.1 in

@@ -62,7 +62,8 @@ says_user settings version plus nonce mechanisms.External response texts login c
 says_user settings version plus nonce mechanisms.Plain response texts login completes is =
     let no = sym (ap (λ (l : ServerLogin). l.mechanism) completes.2.2) ∙ is in absurd (cc)
 says_user settings version plus nonce (mechanisms.Scram own bound) response texts login (messages, are, scram) is =
-    let one : mechanisms.Scram own bound ≡ mechanisms.Scram version plus = sym (ap (λ (l : ServerLogin). l.mechanism) scram.made) ∙ is in
+    let one : mechanisms.Scram own bound ≡ mechanisms.Scram version plus = sym (ap (λ
+    (l : ServerLogin). l.mechanism) scram.made) ∙ is in
     let hash : own ≡ version = cc in
     let kind : bound ≡ plus = cc in
     let says = scram_user settings own bound nonce messages login scram in (

@@ -149,7 +149,8 @@ module _ (settings : ServerSettings) (kept next : ServerStage) (nonce : List ℕ
   asks_rest true mechanism is = (refl, is.1)
   asks_rest false mechanism is = not_outcome reply _ _ challenged is.0
 
-  pub init_rest : (mechanism : Mechanism) (response : Option (List ℕ)) → InitAnswers settings mechanism kept nonce response reply next
+  pub init_rest : (mechanism : Mechanism) (response : Option (List ℕ))
+      → InitAnswers settings mechanism kept nonce response reply next
       → RestLogsIn settings next texts login → MessagesLogIn settings mechanism nonce response texts login
   init_rest mechanisms.Anonymous response is rest = not_outcome reply _ _ challenged is.0
   init_rest mechanisms.External response (inl is) rest = not_outcome reply _ _ challenged is.1.0
@@ -166,7 +167,8 @@ module _ (settings : ServerSettings) (kept next : ServerStage) (nonce : List ℕ
   init_rest (mechanisms.Scram version plus) (Some first) (answer, begins, opens) rest =
       (first ∷ texts, refl, opens_rest version plus first answer begins opens rest)
 
-  pub rest_init : (mechanism : Mechanism) (response : Option (List ℕ)) → InitAnswers settings mechanism kept nonce response reply next
+  pub rest_init : (mechanism : Mechanism) (response : Option (List ℕ))
+      → InitAnswers settings mechanism kept nonce response reply next
       → MessagesLogIn settings mechanism nonce response texts login → RestLogsIn settings next texts login
   rest_init mechanisms.Anonymous response is messages = not_outcome reply _ _ challenged is.0
   rest_init mechanisms.External response (inl is) messages = not_outcome reply _ _ challenged is.1.0

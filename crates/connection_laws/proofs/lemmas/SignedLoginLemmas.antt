@@ -100,7 +100,8 @@ says_accepted settings version plus nonce mechanisms.External response texts log
 says_accepted settings version plus nonce mechanisms.Plain response texts login completes is =
     let no = sym (ap (λ (l : ServerLogin). l.mechanism) completes.2.2) ∙ is in absurd (cc)
 says_accepted settings version plus nonce (mechanisms.Scram own bound) response texts login (messages, are, scram) is =
-    let one : mechanisms.Scram own bound ≡ mechanisms.Scram version plus = sym (ap (λ (l : ServerLogin). l.mechanism) scram.made) ∙ is in
+    let one : mechanisms.Scram own bound ≡ mechanisms.Scram version plus = sym (ap (λ
+    (l : ServerLogin). l.mechanism) scram.made) ∙ is in
     let hash : own ≡ version = cc in
     let kind : bound ≡ plus = cc in
     let (accepted, of) = of_messages settings own bound nonce messages login scram in (
@@ -127,7 +128,15 @@ logged_accepts : (settings : ServerSettings) (version : ScramVersion) (plus : Bo
     (login : ServerLogin) → CompletesLogin settings events login → login.mechanism ≡ mechanisms.Scram version plus
     → AcceptedLogin settings version plus events login
 logged_accepts settings version plus events login logs is =
-    let (mechanism, (first, final, are, (accepted, of))) = says_accepted settings version plus logs.init.nonce logs.mechanism logs.response
+    let (
+      mechanism,
+      (
+        first,
+        final,
+        are,
+        (accepted, of),
+      ),
+    ) = says_accepted settings version plus logs.init.nonce logs.mechanism logs.response
     logs.texts login logs.completes is in (
       accepted,
       record {
@@ -140,7 +149,8 @@ logged_accepts settings version plus events login logs is =
         final = final;
         rest = confirmation settings.extra.signature;
         all = logs.all;
-        begins = subst (λ (w : Mechanism). SpellsBody logs.init.body (Ok (frames.Init (mechanism_symbol w) logs.response logs.hostname)))
+        begins = subst (λ (w : Mechanism). SpellsBody logs.init.body (Ok (frames.Init
+            (mechanism_symbol w) logs.response logs.hostname)))
             mechanism logs.begins;
         offered = subst (λ (w : Mechanism). is_offered_by settings w ≡ true) mechanism logs.offered;
         goes_on = logs.goes_on;
@@ -328,7 +338,8 @@ shows_of pieces limit settings (event ∷ []) replies last login are (says, memo
     let (name, response, hostname, spells) = init_of event.body are.1 in
     let it = first_shown (new_server settings) last event.nonce (frames.Init name response hostname) says login refl shows
     (init_step sasl_machine (new_server settings) last event says name response hostname spells memory step) in
-    let (mechanism, found, answers) = found_mechanism (asked_mechanism settings name) settings event.nonce response it.reply last.stage it.is
+    let (mechanism, found, answers) = found_mechanism
+    (asked_mechanism settings name) settings event.nonce response it.reply last.stage it.is
     it.by.1 in
     let (named, offered) = asked_offers settings name mechanism found in
     record {
@@ -350,7 +361,8 @@ shows_of pieces limit settings (event ∷ second ∷ events) replies last login 
     let c = challenge (new_server settings) next event.nonce (frames.Init name response hostname) body
     (init_step sasl_machine (new_server settings) next event (Challenged body) name response hostname spells
     (challenge_has_memory body) step) in
-    let (mechanism, found, answers) = found_mechanism (asked_mechanism settings name) settings event.nonce response c.reply next.stage c.is
+    let (mechanism, found, answers) = found_mechanism
+    (asked_mechanism settings name) settings event.nonce response c.reply next.stage c.is
     c.by.1 in
     let (named, offered) = asked_offers settings name mechanism found in
     let (texts, more, rest) = shown_rest pieces limit (8 + (length event.body + 4)) next (second ∷ events) others last

@@ -178,7 +178,8 @@ module _ (settings : ServerSettings) (most : ℕ) (counts : HasCountsUpTo settin
       omega (arith, bound, one, left)
 
   -- a mechanism that is offered takes no more than a login
-  offered_most : (mechanism : Mechanism) → is_offered_by settings mechanism ≡ true → mechanism_most mechanism ≤ login_most settings most
+  offered_most : (mechanism : Mechanism) → is_offered_by settings mechanism ≡ true
+      → mechanism_most mechanism ≤ login_most settings most
   offered_most (mechanisms.Scram version plus) offered =
       le-max_left (look_up_most settings.mock + 2) (plain_most (is_offered_by settings mechanisms.Plain) most)
   offered_most mechanisms.Plain offered =

@@ -253,7 +253,10 @@ impl Server<'_> {
         ensures reason { HasReason (λ reason. reason ≡ NoInitialResponse) result.0 }
     {
         if self.options.extra_challenges.initial_response {
-            let stage = Stage::Asked { mechanism, nonce: *nonce };
+            let stage = Stage::Asked {
+                mechanism,
+                nonce: *nonce,
+            };
             (challenge(Vec::new(alloc)), Move::To(stage))
         } else {
             (
@@ -396,7 +399,13 @@ impl Server<'_> {
     {
         match &self.stage {
             Stage::Asked { mechanism, nonce } => {
-                let (reply, moves) = self.answer_mechanism(alloc, *mechanism, Some(text), nonce, meter)?;
+                let (reply, moves) = self.answer_mechanism(
+                    alloc,
+                    *mechanism,
+                    Some(text),
+                    nonce,
+                    meter,
+                )?;
                 Ok((reply, moves.or_restart()))
             }
             Stage::Open {

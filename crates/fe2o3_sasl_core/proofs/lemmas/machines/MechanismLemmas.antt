@@ -60,13 +60,15 @@ among_offers settings name (first ∷ others) mechanism is =
   where
     go : (asked : Bool) → is_asked_by settings name first ≡ asked
         → (if asked then Some first else asked_among settings name others) ≡ Some mechanism
-        → (asked_among settings name others ≡ Some mechanism → IsOffered settings name mechanism) → IsOffered settings name mechanism
+        → (asked_among settings name others ≡ Some mechanism → IsOffered settings name mechanism)
+        → IsOffered settings name mechanism
     go true asks found later =
         let one : first ≡ mechanism = cc in
         subst (λ (w : Mechanism). IsOffered settings name w) one (asked_is settings name first asks)
     go false asks found later = later found
 
-pub asked_offers : (settings : ServerSettings) (name : List ℕ) (mechanism : Mechanism) → asked_mechanism settings name ≡ Some mechanism
+pub asked_offers : (settings : ServerSettings) (name : List ℕ) (mechanism : Mechanism)
+    → asked_mechanism settings name ≡ Some mechanism
     → IsOffered settings name mechanism
 asked_offers settings name mechanism is = among_offers settings name offer_order mechanism is
 
@@ -94,18 +96,21 @@ among_asked : (settings : ServerSettings) (all : List Mechanism) (mechanism : Me
     → IsIn mechanism all → asked_among settings (mechanism_symbol mechanism) all ≡ Some mechanism
 among_asked settings [] mechanism offered there = absurd there
 among_asked settings (first ∷ others) mechanism offered there =
-    go (is_asked_by settings (mechanism_symbol mechanism) first) refl there (λ in_others. among_asked settings others mechanism offered in_others)
+    go (is_asked_by settings (mechanism_symbol mechanism) first) refl there
+    (λ in_others. among_asked settings others mechanism offered in_others)
   where
     go : (asked : Bool) → is_asked_by settings (mechanism_symbol mechanism) first ≡ asked → IsIn mechanism (first ∷ others)
         → (IsIn mechanism others → asked_among settings (mechanism_symbol mechanism) others ≡ Some mechanism)
         → (if asked then Some first else asked_among settings (mechanism_symbol mechanism) others) ≡ Some mechanism
-    go true asks there later = ap Some (sym (one_mechanism mechanism first (asked_is settings (mechanism_symbol mechanism) first asks).0))
+    go true asks there later = ap Some (sym (one_mechanism mechanism first (asked_is settings
+        (mechanism_symbol mechanism) first asks).0))
     go false asks (inr in_others) later = later in_others
     go false asks (inl here) later =
         let own : is_asked_by settings (mechanism_symbol mechanism) mechanism ≡ false =
         sym (ap (λ (w : Mechanism). is_asked_by settings (mechanism_symbol mechanism) w) here) ∙ asks in
         absurd (other_text (mechanism_symbol mechanism) (mechanism_symbol mechanism)
-        (sym (and_false (is_offered_by settings mechanism) (pointwise nat_eq (mechanism_symbol mechanism) (mechanism_symbol mechanism)) offered own)) refl)
+        (sym (and_false (is_offered_by settings mechanism) (pointwise nat_eq (mechanism_symbol mechanism)
+        (mechanism_symbol mechanism)) offered own)) refl)
 
 pub offered_asked : (settings : ServerSettings) (mechanism : Mechanism) → is_offered_by settings mechanism ≡ true
     → asked_mechanism settings (mechanism_symbol mechanism) ≡ Some mechanism

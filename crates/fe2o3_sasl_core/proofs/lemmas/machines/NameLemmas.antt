@@ -146,7 +146,8 @@ is_either : (a : Bool) → a ≡ (if a then true else false)
 is_either true = refl
 is_either false = refl
 
-one_more_asked : (a b asked : Bool) (mechanism : Mechanism) (rest : Option Mechanism) (both : Bool) → both ≡ (if a then true else b)
+one_more_asked : (a b asked : Bool) (mechanism : Mechanism) (rest : Option Mechanism) (both : Bool)
+    → both ≡ (if a then true else b)
     → b ≡ asked
     → (if both then true else is_some rest) ≡ (if a then true else is_some (if asked then Some mechanism else rest))
 one_more_asked true b asked mechanism rest both is same = ap (λ (x : Bool). if x then true else is_some rest) is

@@ -66,7 +66,8 @@ module _ (settings : ServerSettings) (name : List ℕ) (mechanism : Mechanism) w
       (and_left (is_offered_by settings first) (pointwise nat_eq name (mechanism_symbol first)) asks)
   asked_of first rest false asks same later = later same
 
-  asked_offered : (order : List Mechanism) → asked_among settings name order ≡ Some mechanism → is_offered_by settings mechanism ≡ true
+  asked_offered : (order : List Mechanism) → asked_among settings name order ≡ Some mechanism
+      → is_offered_by settings mechanism ≡ true
   asked_offered [] same = absurd (cc)
   asked_offered (first ∷ others) same =
       asked_of first (asked_among settings name others) _ refl same (asked_offered others)
@@ -119,7 +120,8 @@ module _ (settings : ServerSettings) where
   offers_so mechanism nonce true same = refl
   offers_so mechanism nonce false same = absurd (cc)
 
-  offered : (mechanism : Mechanism) (nonce : List ℕ) → Is (ResponseAsked mechanism nonce) → is_offered_by settings mechanism ≡ true
+  offered : (mechanism : Mechanism) (nonce : List ℕ) → Is (ResponseAsked mechanism nonce)
+      → is_offered_by settings mechanism ≡ true
   unfolding IsRestored
   offered mechanism nonce was = offers_so mechanism nonce (is_offered_by settings mechanism) was
 
