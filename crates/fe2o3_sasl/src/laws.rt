@@ -6,7 +6,7 @@ ghost use Rattle.fe2o3_sasl_core.specs.MechanismLaws.{OneAcceptorReply, OneProfi
 ghost use Rattle.fe2o3_sasl.specs.examples.ClientExamples.{KeysLogIn, StaleKeysLogInLater};
 ghost use Rattle.fe2o3_sasl.specs.examples.Examples.{PremisesCanBeMet, ShiftedTextsPass};
 ghost use Rattle.fe2o3_sasl.specs.examples.MemoryExamples.{AcceptorsAskForNone, AskForNone, OwnedAskForNone, ServersWantNone, ClientsWantNone};
-ghost use Rattle.fe2o3_sasl_core.specs.ProfileMachine.{StepAllocates, ViewAllocates};
+ghost use Rattle.fe2o3_sasl_core.specs.ProfileMachine.{StepAllocates};
 ghost use Rattle.fe2o3_sasl_core.specs.Headline.{AnswersOkExactly, ReportsOkExactly, TakenVerifiersAgree};
 ghost use Rattle.fe2o3_sasl_core.specs.CostLaws.{ServerRunsCost, ClientRunsCost};
 ghost use Rattle.fe2o3_sasl_core.specs.AnyMechanismLaws.{AnyMechanismRunsAreSplit};
@@ -271,7 +271,6 @@ pub fn want_of_memory()
 pub fn no_want_of_memory()
     ensures acceptors { AcceptorsAskForNone }
     ensures owned { OwnedAskForNone }
-    ensures views { AskForNone ViewAllocates }
     ensures steps { AskForNone StepAllocates }
     ensures servers { ServersWantNone }
     ensures clients { ClientsWantNone }

@@ -136,18 +136,6 @@ abbrev pub IsAnswered : ClientState → Type 0
 IsAnswered state = (signature : List ℕ) × (keys : Option ClientKeys)
     × (state ≡ client_states.ClientFinalSent signature keys)
 
--- where a profile allocates for a frame that is a view: the data of an outcome are copied, of one that SCRAM reads if
--- they are UTF-8 and expected
-abbrev pub ViewAllocates : Profile → SaslFrame → Type 0
-ViewAllocates profile (frames.Mechanisms names) = OfferAllocates profile names
-ViewAllocates (ScramProfile client) (frames.Challenge text) =
-    IsUtf8 text × ChallengeAllocates (expects_signature client) client text
-ViewAllocates (MessageProfile mechanism message true) (frames.Challenge []) = Unit {0}
-ViewAllocates (ScramProfile client) (frames.Outcome outcomes.Ok (Some text)) = IsUtf8 text × IsAnswered client.state
-ViewAllocates (PolicyProfile selection) (frames.Outcome code (Some text)) = ⊥
-ViewAllocates profile (frames.Outcome code (Some text)) = Unit {0}
-ViewAllocates profile frame = ⊥
-
 -- a challenge is expected by a client that has sent its first message, or takes the signature there
 abbrev pub IsChallengeDue : ClientSide → Type 0
 IsChallengeDue client = IsStarted client.state ⊎ (expects_signature client ≡ true)

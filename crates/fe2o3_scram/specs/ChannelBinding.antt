@@ -2,7 +2,6 @@
 -- expects of it.
 use Rattle.std.specs.Prelude.{ℕ, List, [], ◌++◌, ◌≡◌, codes, take, replicate, Bool, true, false, ◌||◌, is_some, T, Option, Some, None, if◌then◌else◌}
 use Rattle.base64.specs.GeneralPurpose.{IsBytes}
-use Rattle.fe2o3_scram.specs.declared.channel_binding.ChannelBinding.{ChannelBinding}
 use Rattle.fe2o3_scram.specs.declared.channel_binding.ChannelBindings.{ChannelBindings}
 use Rattle.fe2o3_scram.specs.declared.channel_binding.ChannelData.{ChannelData}
 use Rattle.fe2o3_scram.specs.declared.channel_binding.ChannelKind.{ChannelKind}

@@ -1,5 +1,5 @@
 -- An exchange of the four messages (RFC 5802, section 5) in which each arrives as it was sent.
-use Rattle.std.specs.Prelude.{ℕ, List, [], ◌∷◌, codes, Bool, ◌++◌, ◌≡◌, ◌≢◌, ◌⊎◌, ◌≤◌, ◌<◌, ◌^◌, Ok, T, true}
+use Rattle.std.specs.Prelude.{ℕ, List, Bool, ◌++◌, ◌≡◌, ◌≢◌, ◌⊎◌, ◌≤◌, ◌<◌, ◌^◌, Ok, T, true}
 use Rattle.std.specs.Str.{IsUtf8}
 use Rattle.base64.specs.GeneralPurpose.{IsBytes}
 use Rattle.fe2o3_scram.specs.declared.hmac.ScramVersion.{ScramVersion}
@@ -18,7 +18,7 @@ use Rattle.fe2o3_scram.specs.Keys.{auth_message, client_key, client_proof}
 use Rattle.fe2o3_scram.specs.Pbkdf2Hi.{salted_of}
 use Rattle.fe2o3_scram.specs.ServerFinal.{server_final_of, ReadsServerFinal}
 use Rattle.fe2o3_scram.specs.Passwords.{IsNormal, password_bytes}
-use Rattle.fe2o3_scram.specs.Texts.{NoComma, base64_text, joined}
+use Rattle.fe2o3_scram.specs.Texts.{NoComma}
 
 -- a client's secret opens the record of a password with this salt and this count (RFC 5802, section 3): it is that
 -- password, in normal form, or its keys with that salt and that count; of both, the password opens a record of another

@@ -43,9 +43,6 @@ RestLogsIn settings stage texts login = ⊥
 one_text : (text other : List ℕ) → ◌≡◌ {A = List (List ℕ)} (text ∷ []) (other ∷ []) → other ≡ text
 one_text text other same = cc
 
-none_is_some : {A : Type 0} (text : List ℕ) (texts : List (List ℕ)) → ◌≡◌ {A = List (List ℕ)} [] (text ∷ texts) → A
-none_is_some text texts same = absurd (cc)
-
 one_is_two : {A : Type 0} (text first second : List ℕ) (texts : List (List ℕ))
     → ◌≡◌ {A = List (List ℕ)} (text ∷ []) (first ∷ second ∷ texts) → A
 one_is_two text first second texts same = absurd (cc)

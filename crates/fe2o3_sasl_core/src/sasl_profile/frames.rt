@@ -3,12 +3,12 @@
 ghost use Rattle.std.specs.Prelude.{◌≡◌, ◌≢◌, ◌≤◌, ◌^◌, Option, Some, ℕ, List, IfOk, IfErr, OnOk, OnErr, MatchOption};
 ghost use Rattle.fe2o3_sasl_core.specs.declared.sasl_profile.error.ProfileError.TheVariants.{OutOfMemory as FaultOfMemory};
 ghost use Rattle.fe2o3_sasl_wire.specs.AmqpTypes.{init_frame, response_frame, outcome_frame};
-ghost use Rattle.fe2o3_sasl_wire.specs.FrameView.{shown, viewed_frame};
+ghost use Rattle.fe2o3_sasl_wire.specs.FrameView.{shown};
 ghost use Rattle.fe2o3_sasl_wire.specs.Owned.{owned_frame};
 ghost use Rattle.fe2o3_sasl_wire.specs.SaslFrames.{Init, Challenge, Mechanisms, Outcome};
 ghost use Rattle.fe2o3_sasl_core.specs.Costs.{ProfileCosts};
 ghost use Rattle.fe2o3_sasl_core.specs.Profiles.{profile_name, initial_response, after_init};
-ghost use Rattle.fe2o3_sasl_core.specs.ProfileMachine.{FrameAllocates, OfferAllocates, ViewAllocates, StepAllocates, ProfileAnswers};
+ghost use Rattle.fe2o3_sasl_core.specs.ProfileMachine.{FrameAllocates, OfferAllocates, StepAllocates, ProfileAnswers};
 ghost use Rattle.fe2o3_sasl_core.specs.ProfileFaults.{answered};
 ghost use Rattle.fe2o3_sasl_core.specs.SaslProfile.{negotiated_frame, profile_of};
 ghost use Rattle.fe2o3_sasl_core.specs.private.Writing.{AnswersAlways, IsFor, NoneIsFor, RefusesAlways, is_by_policy};
@@ -17,7 +17,7 @@ use super::scram_frames::{answer, outcome_refusal_unread, refusal_unread, verify
 use super::{Negotiation, ProfileError, SaslProfile};
 use crate::OutOfMemory;
 use crate::offer::Offer;
-use fe2o3_sasl_wire::{Binary, Frame, FrameView, SaslCode, SaslInit, SaslOutcome, SaslResponse};
+use fe2o3_sasl_wire::{Binary, Frame, SaslCode, SaslInit, SaslOutcome, SaslResponse};
 use fe2o3_scram::hmac::Meter;
 use std::alloc::Global;
 
@@ -38,32 +38,12 @@ impl SaslProfile {
             (owned_frame frame) (answered negotiated_frame result) (profile_of self.new) }
         ensures err { OnErr result (profile_of self.new ≡ profile_of self.old) }
     {
-        self.on_frame_metered(alloc, frame, hostname, nonce, &mut Meter::new())
-    }
-
-    /// Like `on_frame`; the meter, of at most 2^63, counts the HMAC values. SCRAM's answer to a server-first message
-    /// makes two by keys, by the password four more than the iterations, and none for an error. A signature in a
-    /// challenge and other frames make none.
-    pub fn on_frame_metered(
-        &mut self,
-        alloc: Global,
-        frame: Frame,
-        hostname: Option<&str>,
-        nonce: &[u8; 32],
-        meter: &mut Meter,
-    ) -> Result<Negotiation, ProfileError>
-        requires { meter.old ≤ 2 ^ 63 }
-        ensures answer { ProfileAnswers FrameAllocates (profile_of self.old) (shown hostname.entry) nonce.now
-            (owned_frame frame) (answered negotiated_frame result) (profile_of self.new) }
-        ensures err { OnErr result (profile_of self.new ≡ profile_of self.old) }
-        ensures cost { ProfileCosts (owned_frame frame) (profile_of self.old) result meter.old meter.new }
-    {
         match frame {
             Frame::Mechanisms(mechanisms) => {
                 Ok(Negotiation::Init(self.answer_offer(alloc, &mechanisms, hostname, nonce)?))
             }
             Frame::Challenge(challenge) => {
-                match self.respond(alloc, &challenge.challenge.0, meter) {
+                match self.respond(alloc, &challenge.challenge.0, &mut Meter::new()) {
                     Ok(response) => Ok(Negotiation::Response(response)),
                     Err(fault) => Err(fault),
                 }
@@ -73,64 +53,6 @@ impl SaslProfile {
                 Ok(Negotiation::Outcome(outcome))
             }
             Frame::Init(_) | Frame::Response(_) => Err(ProfileError::NotImplemented),
-        }
-    }
-
-    /// Answers a frame that is read in place, like `on_frame` answers the frame that it shows.
-    pub fn on_view(
-        &mut self,
-        alloc: Global,
-        view: FrameView<'_>,
-        hostname: Option<&str>,
-        nonce: &[u8; 32],
-    ) -> Result<Negotiation, ProfileError>
-        ensures answer { ProfileAnswers ViewAllocates (profile_of self.old) (shown hostname.entry) nonce.now
-            (viewed_frame view.entry) (answered negotiated_frame result) (profile_of self.new) }
-        ensures err { OnErr result (profile_of self.new ≡ profile_of self.old) }
-    {
-        self.on_view_metered(alloc, view, hostname, nonce, &mut Meter::new())
-    }
-
-    /// Like `on_view`, with a meter like that of `on_frame_metered`.
-    #[tactic(auto, using(crate::proofs::lemmas::steps::ProfileReplyLemmas::view_refuses))]
-    pub fn on_view_metered(
-        &mut self,
-        alloc: Global,
-        view: FrameView<'_>,
-        hostname: Option<&str>,
-        nonce: &[u8; 32],
-        meter: &mut Meter,
-    ) -> Result<Negotiation, ProfileError>
-        requires { meter.old ≤ 2 ^ 63 }
-        ensures answer { ProfileAnswers ViewAllocates (profile_of self.old) (shown hostname.entry) nonce.now
-            (viewed_frame view.entry) (answered negotiated_frame result) (profile_of self.new) }
-        ensures err { OnErr result (profile_of self.new ≡ profile_of self.old) }
-        ensures cost { ProfileCosts (viewed_frame view.entry) (profile_of self.old) result meter.old meter.new }
-    {
-        match view {
-            FrameView::Mechanisms(names) => {
-                Ok(Negotiation::Init(self.answer_offer(alloc, &names, hostname, nonce)?))
-            }
-            FrameView::Challenge(challenge) => {
-                let response = self.respond(alloc, challenge, meter)?;
-                Ok(Negotiation::Response(response))
-            }
-            FrameView::Outcome {
-                code,
-                additional_data,
-            } => {
-                if let Some(fault) = self.outcome_refusal_unread(code, additional_data) {
-                    return Err(fault);
-                }
-                match outcome_of(alloc, code, additional_data) {
-                    Ok(outcome) => {
-                        self.conclude(alloc, &outcome)?;
-                        Ok(Negotiation::Outcome(outcome))
-                    }
-                    Err(_) => Err(ProfileError::OutOfMemory),
-                }
-            }
-            FrameView::Init { .. } | FrameView::Response(_) => Err(ProfileError::NotImplemented),
         }
     }
 

@@ -1,5 +1,5 @@
 -- No step of a profile changes whether it accepts the server's signature in a challenge (RFC 4422, section 5).
-use Rattle.std.proofs.Common.{◌≡◌, ℕ, Bool, true, false, Option, Some, None, List, [], ◌∷◌, refl, ap, ◌∙◌, inl, inr, Result, Ok, Err}
+use Rattle.std.proofs.Common.{◌≡◌, ℕ, Bool, true, false, Option, Some, None, List, [], refl, ap, ◌∙◌, inl, inr, Result, Ok, Err}
 use Rattle.fe2o3_sasl_wire.specs.declared.amqp_types.SaslCode.TheVariants as outcomes
 use Rattle.fe2o3_sasl_wire.specs.declared.sasl_frames.error.Error.{Error}
 use Rattle.fe2o3_sasl_wire.specs.SaslFrames as frames
@@ -11,7 +11,7 @@ use Rattle.fe2o3_sasl_core.specs.Bodies.{carried}
 use Rattle.fe2o3_sasl_core.specs.Events.{Given, ClientSays}
 use Rattle.fe2o3_sasl_core.specs.Profiles.{Profile, ScramProfile, PlainProfile, AnonymousProfile, ExternalProfile, MessageProfile, PolicyProfile, accepts_signature_by_challenge, after_init}
 use Rattle.fe2o3_sasl_core.specs.ProfileMachine.{ChallengeReplies, profile_machine}
-use Rattle.fe2o3_sasl_core.specs.Runs.{ProfileGives, ProfileSteps, Replies, Runs}
+use Rattle.fe2o3_sasl_core.specs.Runs.{ProfileGives, ProfileSteps, Replies}
 use Rattle.fe2o3_sasl_core.specs.declared.sasl_profile.error.ProfileError.{ProfileError}
 use Rattle.fe2o3_sasl_negotiation.proofs.lemmas.SelectedProfileLemmas.{selected_ordinary}
 
@@ -165,10 +165,3 @@ flag_stays hostname profile event says next (spelled, spells, gives) =
     given_stays hostname profile event spelled says next gives
 
 -- ---- a run
-
-pub flag_stays_over : (hostname : Option (List ℕ)) (profile : Profile) (events : List Given) (replies : List ClientSays)
-    (last : Profile) → Runs (ProfileSteps hostname) profile events replies last
-    → accepts_signature_by_challenge last ≡ accepts_signature_by_challenge profile
-flag_stays_over hostname profile [] replies last run = ap accepts_signature_by_challenge run.1
-flag_stays_over hostname profile (event ∷ events) replies last (says, next, others, step, is, run) =
-    flag_stays_over hostname next events others last run ∙ flag_stays hostname profile event says next step

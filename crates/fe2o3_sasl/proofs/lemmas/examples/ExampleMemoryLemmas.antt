@@ -17,7 +17,7 @@ use Rattle.std.specs.List.{AllByRecursion}
 use Rattle.fe2o3_sasl_core.specs.ClientPolicy.{CanTake, by_strength}
 use Rattle.fe2o3_sasl_core.specs.declared.mechanism.Mechanism.{Mechanism}
 use Rattle.fe2o3_sasl_core.specs.Profiles.{Profile, ScramProfile, PlainProfile, AnonymousProfile, ExternalProfile, MessageProfile, PolicyProfile, Selection}
-use Rattle.fe2o3_sasl_core.specs.ProfileMachine.{FrameAllocates, NoneCanBeTaken, OfferAllocates, ViewAllocates, StepAllocates, ChallengeAllocates, IsChallengeDue, IsStarted, IsAnswered}
+use Rattle.fe2o3_sasl_core.specs.ProfileMachine.{FrameAllocates, NoneCanBeTaken, OfferAllocates, StepAllocates, ChallengeAllocates, IsChallengeDue, IsStarted, IsAnswered}
 use Rattle.fe2o3_sasl.specs.examples.MemoryExamples.{AcceptorsAskForNone, AskForNone, OwnedAskForNone, ServersWantNone, ClientsWantNone}
 use Rattle.fe2o3_sasl.proofs.lemmas.machines.MechanismLemmas.{other_name}
 
@@ -103,29 +103,6 @@ owned_ask_for_none = (
   ),
   λ client more asks. asks,
   λ identity user password code more asks. asks,
-)
-
-no_data_in_view : (profile : Profile) (code : SaslCode) → ¬ ViewAllocates profile (frames.Outcome code None)
-no_data_in_view (ScramProfile client) outcomes.Ok asks = asks
-no_data_in_view (ScramProfile client) outcomes.Auth asks = asks
-no_data_in_view (ScramProfile client) outcomes.Sys asks = asks
-no_data_in_view (ScramProfile client) outcomes.SysPerm asks = asks
-no_data_in_view (ScramProfile client) outcomes.SysTemp asks = asks
-no_data_in_view (PlainProfile identity user password) code asks = asks
-no_data_in_view AnonymousProfile code asks = asks
-no_data_in_view ExternalProfile code asks = asks
-no_data_in_view (MessageProfile mechanism message is_due) code asks = asks
-no_data_in_view (PolicyProfile selection) code asks = asks
-
-pub views_ask_for_none : AskForNone ViewAllocates
-views_ask_for_none = (
-  empty_offer,
-  λ client asks. no_text asks.0,
-  λ client text is asks. not_due client text is asks.1,
-  λ identity user password text asks. asks,
-  no_data_in_view,
-  λ client asks. no_text asks.0,
-  λ client text is asks. not_answered client.state is asks.1,
 )
 
 no_data_in_step : (profile : Profile) (code : SaslCode) → ¬ StepAllocates profile (frames.Outcome code None)

@@ -1,6 +1,6 @@
 -- An initial response claims one user name, or none: `one_claim`, `some_claim`. What a server of SCRAM reads is claimed:
 -- `claims_what_servers_read`.
-use Rattle.std.proofs.Common.{Bool, true, false, ◌≡◌, ◌≢◌, ◌⊎◌, ◌≤◌, ℕ, arith, Option, Some, None, List, [], length, codes, refl, sym, ap, subst, ◌∙◌, ◌++◌, inl, inr, Result, Ok, Err}
+use Rattle.std.proofs.Common.{Bool, true, false, ◌≡◌, ◌≢◌, ◌≤◌, ℕ, arith, Option, Some, None, List, [], length, codes, refl, sym, ap, subst, ◌∙◌, ◌++◌, inl, inr, Result, Ok, Err}
 use Rattle.std.proofs.lemmas.Bool.{cases_lt}
 use Rattle.std.specs.Prelude.{◌||◌, T, is_some}
 use Rattle.fe2o3_scram.specs.declared.hmac.ScramVersion.{ScramVersion}
@@ -123,15 +123,6 @@ message_or text = elim (utf8_or text) [
     ]
   ]
 ]
-
-either_or : {P Q : Type 0} → Decided P → Decided Q → Decided (P ⊎ Q)
-either_or (inl left) right = inl (inl left)
-either_or (inr not) (inl right) = inl (inr right)
-either_or {P} {Q} (inr not) (inr neither) = inr none
-  where
-    none : ¬ (P ⊎ Q)
-    none (inl left) = not left
-    none (inr right) = neither right
 
 at_most : (n m : ℕ) → Decided (n ≤ m)
 at_most n m = elim (cases_lt m n) [

@@ -20,16 +20,6 @@ module _ (provider : Provider) (state : ServerState) (mechanism text : List ℕ)
   abbrev Takes : ℕ → Type 0
   Takes n = acceptor_hmacs (ScramAcceptor provider state) (frames.Init mechanism (Some text) hostname) n
 
-  -- one of another mechanism takes none
-  pub other_takes : (before n : ℕ) → mechanism ≢ server_mechanism provider.version provider.rules → Takes n
-      → before ≡ before + n
-  other_takes before n other (inl takes) = absurd (other takes.0.0)
-  other_takes before n other (inr takes) = let none = takes.1 in omega (none, arith)
-
-  pub other_most : (before : ℕ) → mechanism ≢ server_mechanism provider.version provider.rules
-      → CostsAtMost acceptor_hmacs (ScramAcceptor provider state) (frames.Init mechanism (Some text) hostname) before before
-  other_most before other = (omega arith, λ n takes. omega arith)
-
   module _ (next : ServerState) (nonce : List ℕ)
       (is_name : mechanism ≡ server_mechanism provider.version provider.rules) where
     -- an answer is to a message that is read

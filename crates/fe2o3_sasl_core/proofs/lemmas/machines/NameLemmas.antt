@@ -1,5 +1,5 @@
 -- Names in lists of names.
-use Rattle.std.proofs.Common.{◌≡◌, ◌≢◌, ◌<◌, ◌+◌, ℕ, zero, suc, Bool, true, false, Option, Some, List, [], ◌∷◌, ◌++◌, length, take, get_or, map, refl, sym, ◌∙◌, ap, arith}
+use Rattle.std.proofs.Common.{◌≡◌, ◌≢◌, ◌<◌, ◌+◌, ℕ, Bool, true, false, Option, Some, List, [], ◌∷◌, ◌++◌, length, take, get_or, map, refl, sym, ◌∙◌, ap, arith}
 use Rattle.std.specs.Prelude.{if◌then◌else◌, ◌&&◌, not, nat_eq, filter, codes, is_some, IsAscii}
 use Rattle.std.specs.Cmp.Lexicographic.{pointwise, same_text, other_text}
 use Rattle.std.proofs.lemmas.List.{take_more, map-append}
@@ -50,13 +50,6 @@ none_more f xs k other name below none here =
       has_name-append (map f (take k xs)) (f (get_or xs k other) ∷ []) name,
     )
 
-pub found_at : {X : Type 0} (f : X → List ℕ) (xs : List X) (k : ℕ) (other : X) (name : List ℕ) → k < length xs
-    → pointwise nat_eq (f (get_or xs k other)) name ≡ true → has_name (map f xs) name ≡ true
-found_at f [] k other name below here = elim below [ ]
-found_at f (x ∷ xs) zero other name below here = grind (arith, here)
-found_at f (x ∷ xs) (suc k) other name below here =
-    grind (arith, found_at f xs k other name (omega (arith, below)) here)
-
 -- ---- an offer
 
 -- a name that is in no list is none that is left
@@ -85,30 +78,6 @@ something allowed (first ∷ own) name has owns =
 pub nothing : (own : List (List ℕ)) → filter (has_name []) own ≡ []
 nothing [] = refl
 nothing (first ∷ own) = nothing own
-
--- a name is itself
-same_name : (name : List ℕ) → pointwise nat_eq name name ≡ true
-same_name name = go (pointwise nat_eq name name) refl
-  where
-    go : (is : Bool) → is ≡ pointwise nat_eq name name → pointwise nat_eq name name ≡ true
-    go true is = sym is
-    go false is = absurd (other_text name name is refl)
-
--- the same, of the names that were looked at
-pub something_at : {X : Type 0} (f : X → List ℕ) (xs : List X) (own : List (List ℕ)) (k : ℕ) (other : X) (told : Bool)
-    → k < length xs → told ≡ has_name own (f (get_or xs k other)) → told ≡ true
-    → filter (has_name (map f xs)) own ≢ []
-something_at f xs own k other told below is true_here =
-    something (map f xs) own (f (get_or xs k other)) (found_at f xs k other (f (get_or xs k other)) below
-    (same_name (f (get_or xs k other)))) (sym is ∙ true_here)
-
-pub nothing_at : {X : Type 0} (f : X → List ℕ) (xs : List X) (own : List (List ℕ)) (k : ℕ) (other : X) (told : Bool)
-    → k < length xs → told ≡ has_name own (f (get_or xs k other)) → told ≡ false
-    → filter (has_name (map f (take k xs))) own ≡ [] → filter (has_name (map f (take (k + 1) xs))) own ≡ []
-nothing_at f xs own k other told below is false_here none =
-    ap (λ (names : List (List ℕ)). filter (has_name names) own)
-    (ap (map f) (take_more xs k other below) ∙ map-append f (take k xs) (get_or xs k other ∷ []))
-    ∙ nothing_more (map f (take k xs)) own (f (get_or xs k other)) none (sym is ∙ false_here)
 
 -- ---- the name of a SCRAM server
 

@@ -1,8 +1,8 @@
 -- The parts of a message of PLAIN are the pieces between its zero bytes, and no others.
-use Rattle.std.proofs.Common.{◌≡◌, ◌≢◌, ℕ, Bool, true, false, not, eqb, cond, List, [], ◌∷◌, ◌++◌, refl, sym, ◌∙◌, ap, subst, inl, inr}
+use Rattle.std.proofs.Common.{◌≡◌, ◌≢◌, ℕ, Bool, true, false, eqb, cond, List, [], ◌∷◌, ◌++◌, refl, sym, ◌∙◌, ap, subst, inl, inr}
 use Rattle.std.specs.Prelude.{slice_get, Option, None, Some, option_map, MatchOption}
-use Rattle.std.specs.List.{slice_split, onto_first, join_with_byte, list_all, AllByRecursion}
-use Rattle.std.proofs.lemmas.Bool.{ne_eqb, and_parts, not-true, eqb-false}
+use Rattle.std.specs.List.{slice_split, onto_first, join_with_byte, AllByRecursion}
+use Rattle.std.proofs.lemmas.Bool.{ne_eqb, eqb-false}
 use Rattle.std.proofs.lemmas.List.Elements.{All-from_recursion}
 use Rattle.std.proofs.lemmas.List.Splits.{join_with_byte-slice_split, slice_split_at, slice_split_none}
 use Rattle.std.proofs.lemmas.Option.{none-some, same_Some}
@@ -57,13 +57,6 @@ names_no_other user password other secret plain too names =
     let text : List ℕ = 0 ∷ other ++ 0 ∷ secret in
     let own = names_both other secret plain too in
     (one_zero_part text 1 user other names.0 own.0, one_zero_part text 2 password secret names.1 own.1)
-
--- a literal without zero bytes
-pub no_zero-test : (text : List ℕ) → list_all (λ byte. not (eqb byte 0)) text ≡ true → NoZero text
-no_zero-test [] passes = tt
-no_zero-test (x ∷ text) passes =
-    let both = and_parts (not (eqb x 0)) (list_all (λ byte. not (eqb byte 0)) text) passes in
-    (eqb-false x 0 (not-true (eqb x 0) both.0), no_zero-test text both.1)
 
 -- ---- a search among the pieces
 

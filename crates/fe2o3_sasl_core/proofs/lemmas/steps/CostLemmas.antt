@@ -90,12 +90,6 @@ none_in A (client_states.ClientFirstSent nonce bare) client text fault meter = r
 }
 none_in A state client text fault meter = refl
 
-pub no_cost : {F : Type 0} (A : Type 0) (frame : SaslFrame) (profile : Profile) (fault : F) (meter : ℕ)
-    → ProfileCosts {A = A} frame profile (Err fault) meter meter
-no_cost A (frames.Challenge text) (ScramProfile client) fault meter =
-    (λ not. refl, λ utf8. none_in A client.state client text fault meter)
-no_cost A frame profile fault meter = refl
-
 -- of a step over a body that spells a frame, and over one that does not
 pub profile_step_costs : {A F : Type 0} (profile : Profile) (event : Given) (frame : SaslFrame) (n : ℕ)
     (result : Result A F) (before after : ℕ) → ReadsBody event.body (Ok (frame, n))

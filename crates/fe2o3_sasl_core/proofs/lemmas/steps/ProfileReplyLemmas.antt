@@ -11,16 +11,15 @@ use Rattle.fe2o3_scram.specs.declared.scram_messages.error.ScramErrorKind.TheVar
 use Rattle.fe2o3_scram.specs.Readings.{Gives}
 use Rattle.fe2o3_scram.specs.ScramClient as client_states
 use Rattle.fe2o3_scram.specs.ScramClient.{ClientSide, ClientState, AnswersIn, ChecksSignatureIn, VerifiesIn, ReachesSaltIn, ReachesVerifierIn, expects_signature}
-use Rattle.fe2o3_sasl_wire.specs.declared.amqp_types.SaslCode.{SaslCode}
 use Rattle.fe2o3_sasl_wire.specs.declared.amqp_types.SaslCode.TheVariants as outcomes
 use Rattle.fe2o3_scram.specs.ClientKeys.{ClientKeys}
 use Rattle.fe2o3_scram.specs.ServerFinal.{ReadsServerFinal, ReadsSignature}
-use Rattle.fe2o3_sasl_core.specs.Profiles.{Profile, ScramProfile, PlainProfile, AnonymousProfile, ExternalProfile, is_scram, MessageProfile, MessageMechanism, PolicyProfile}
-use Rattle.fe2o3_sasl_core.specs.ProfileMachine.{ChallengeAllocates, ChallengeReplies, profile_machine, FrameAllocates, ViewAllocates, StepAllocates, IsAnswered, ProfileAnswers}
+use Rattle.fe2o3_sasl_core.specs.Profiles.{Profile, ScramProfile, MessageProfile, MessageMechanism}
+use Rattle.fe2o3_sasl_core.specs.ProfileMachine.{ChallengeAllocates, ChallengeReplies, profile_machine, FrameAllocates, StepAllocates, IsAnswered, ProfileAnswers}
 use Rattle.fe2o3_sasl_core.specs.ProfileFaults.{fault_of_kind}
-use Rattle.fe2o3_sasl_core.specs.private.Writing.{AnswersAlways, RefusesAlways, is_by_policy}
+use Rattle.fe2o3_sasl_core.specs.private.Writing.{AnswersAlways, RefusesAlways}
 use Rattle.fe2o3_sasl_core.specs.declared.sasl_profile.error.ProfileError.{ProfileError}
-use Rattle.fe2o3_sasl_core.specs.declared.sasl_profile.error.ProfileError.TheVariants.{NotImplemented, Scram, StaleKeys, Frame, OutOfMemory}
+use Rattle.fe2o3_sasl_core.specs.declared.sasl_profile.error.ProfileError.TheVariants.{Scram, StaleKeys}
 
 -- a challenge in UTF-8 is replied to by whether the client expects the signature there
 pub challenge_replied : (client : ClientSide) (hostname : Option (List ℕ)) (nonce text : List ℕ) (expects : Bool)
@@ -78,38 +77,6 @@ pub waiting : (state : ClientState) (text : List ℕ) → ReachesVerifierIn stat
 waiting (client_states.ClientFinalSent signature keys) text reaches = (reaches.0, (signature, keys, refl))
 waiting state text reaches = absurd reaches
 
--- where a call asks for memory so does one on a view
-view_allocates : (profile : Profile) (frame : SaslFrame) → FrameAllocates profile frame → ViewAllocates profile frame
-view_allocates profile (frames.Mechanisms names) has = has
-view_allocates (ScramProfile client) (frames.Challenge text) has = has
-view_allocates (MessageProfile mechanism message true) (frames.Challenge []) has = has
-view_allocates (ScramProfile client) (frames.Outcome outcomes.Ok (Some text)) has = waiting client.state text has
-view_allocates profile frame has = absurd has
-
--- the data of an outcome are copied alike
-pub outcome_allocates : (profile : Profile) (code : SaslCode) (text : List ℕ)
-    → StepAllocates profile (frames.Outcome code (Some text)) → ViewAllocates profile (frames.Outcome code (Some text))
-outcome_allocates (ScramProfile client) outcomes.Ok text has = has
-outcome_allocates (ScramProfile client) outcomes.Auth text has = tt
-outcome_allocates (ScramProfile client) outcomes.Sys text has = tt
-outcome_allocates (ScramProfile client) outcomes.SysPerm text has = tt
-outcome_allocates (ScramProfile client) outcomes.SysTemp text has = tt
-outcome_allocates (PlainProfile identity user password) code text has = tt
-outcome_allocates AnonymousProfile code text has = tt
-outcome_allocates ExternalProfile code text has = tt
-outcome_allocates (MessageProfile mechanism message is_due) code text has = tt
-outcome_allocates (PolicyProfile selection) code text has = absurd has
-
--- what a profile rejects, it rejects of a view
-pub view_refuses : (profile next : Profile) (hostname : Option (List ℕ)) (nonce : List ℕ) (frame : SaslFrame)
-    (fault : ProfileError) → ProfileAnswers FrameAllocates profile hostname nonce frame (Err fault) next
-    → ProfileAnswers ViewAllocates profile hostname nonce frame (Err fault) next
-view_refuses profile next hostname nonce frame OutOfMemory h = (view_allocates profile frame h.0, h.1)
-view_refuses profile next hostname nonce frame NotImplemented h = h
-view_refuses profile next hostname nonce frame (Scram kind) h = h
-view_refuses profile next hostname nonce frame StaleKeys h = h
-view_refuses profile next hostname nonce frame (Frame fault) h = h
-
 -- a challenge that is not expected is rejected
 undue : (client : ClientSide) (text : List ℕ)
     → ((nonce bare : List ℕ) → client.state ≢ client_states.ClientFirstSent nonce bare)
@@ -157,24 +124,6 @@ outcome_not_text client text not answered =
     go state is = subst (λ (some : ClientState). VerifiesIn some client text (Err kinds.Utf8Error) client) (sym is)
         (inl (inl (not, refl)), refl)
 
--- one that SCRAM does not read is copied, and one that it reads where it is due and UTF-8
-pub other_outcome : (client : ClientSide) (code : SaslCode) (text : List ℕ) → code ≢ outcomes.Ok
-    → StepAllocates (ScramProfile client) (frames.Outcome code (Some text))
-other_outcome client outcomes.Ok text other = absurd (other refl)
-other_outcome client outcomes.Auth text other = tt
-other_outcome client outcomes.Sys text other = tt
-other_outcome client outcomes.SysPerm text other = tt
-other_outcome client outcomes.SysTemp text other = tt
-
-pub unread_outcome : (profile : Profile) (code : SaslCode) (text : List ℕ) → is_scram profile ≡ false
-    → is_by_policy profile ≡ false → StepAllocates profile (frames.Outcome code (Some text))
-unread_outcome (ScramProfile client) code text is other = absurd (cc)
-unread_outcome (PlainProfile identity user password) code text is other = tt
-unread_outcome AnonymousProfile code text is other = tt
-unread_outcome ExternalProfile code text is other = tt
-unread_outcome (MessageProfile mechanism message is_due) code text is other = tt
-unread_outcome (PolicyProfile selection) code text is other = absurd (cc)
-
 -- a single message is the response to a challenge that asks for it
 pub message_responds : (mechanism : MessageMechanism) (message : List ℕ) (is_due : Bool) (text response : List ℕ)
     → StepAllocates (MessageProfile mechanism message is_due) (frames.Challenge text) → response ≡ message
@@ -202,23 +151,3 @@ pub not_among_all : (names : List (List ℕ)) (i : ℕ) (name : List ℕ) → le
     → ¬ Contains (take i names) name → ¬ Contains names name
 not_among_all names i name past none there =
     none (subst (λ (some : List (List ℕ)). Contains some name) (sym (take_all i names past)) there)
-
--- what is rejected in any case, a view is answered by
-pub refused_answers : (profile : Profile) (hostname : Option (List ℕ)) (nonce : List ℕ) (frame : SaslFrame)
-    (fault : ProfileError) → fault ≢ OutOfMemory → RefusesAlways profile frame fault
-    → ProfileAnswers ViewAllocates profile hostname nonce frame (Err fault) profile
-refused_answers profile hostname nonce frame OutOfMemory other refuses = absurd (other refl)
-refused_answers profile hostname nonce frame NotImplemented other refuses = refuses hostname nonce
-refused_answers profile hostname nonce frame (Scram kind) other refuses = refuses hostname nonce
-refused_answers profile hostname nonce frame StaleKeys other refuses = refuses hostname nonce
-refused_answers profile hostname nonce frame (Frame fault) other refuses = refuses hostname nonce
-
--- before a profile is selected, each outcome is rejected
-pub policy_refuses : (profile : Profile) (code : SaslCode) (more : Option (List ℕ)) → is_by_policy profile ≡ true
-    → RefusesAlways profile (frames.Outcome code more) NotImplemented
-policy_refuses (PolicyProfile selection) code more is = λ hostname nonce. (refl, refl)
-policy_refuses (ScramProfile client) code more is = absurd (cc)
-policy_refuses (PlainProfile identity user password) code more is = absurd (cc)
-policy_refuses AnonymousProfile code more is = absurd (cc)
-policy_refuses ExternalProfile code more is = absurd (cc)
-policy_refuses (MessageProfile mechanism message is_due) code more is = absurd (cc)

@@ -1,6 +1,6 @@
 -- What equal AuthMessages of a client and a server say, and what the signature does that both have: first of the values
 -- alone, however their texts came, and then of one client's and one server's texts.
-use Rattle.std.proofs.Common.{◌≡◌, ◌⊎◌, inl, inr, Bool, ℕ, ◌<◌, ◌^◌, Some, List, [], ◌∷◌, ◌++◌, length, get_or, drop, refl, sym, ap, ◌∙◌, subst, arith, codes, Ok}
+use Rattle.std.proofs.Common.{◌≡◌, ◌⊎◌, inl, inr, ℕ, ◌<◌, ◌^◌, Some, List, [], ◌∷◌, ◌++◌, length, get_or, drop, refl, sym, ap, ◌∙◌, subst, arith, codes, Ok}
 use Rattle.std.specs.Fmt.{decimal}
 use Rattle.std.proofs.lemmas.Option.{same_Some}
 use Rattle.fe2o3_scram.specs.declared.hmac.ScramVersion.{ScramVersion}
@@ -28,14 +28,12 @@ use Rattle.fe2o3_scram.specs.Texts.{IsCount, NoComma, Part, Parts, base64_text, 
 use Rattle.fe2o3_scram.proofs.lemmas.hashes.DigestLemmas.{length-hmac_of, IsBytes-hmac_of}
 use Rattle.fe2o3_scram.proofs.lemmas.messages.HeaderLemmas.{IsBytes-cbind_input, one_binding}
 use Rattle.fe2o3_scram.proofs.lemmas.messages.ClientFinalLemmas.{NamesAcceptedFinal, names_client_final}
-use Rattle.fe2o3_scram.proofs.lemmas.hashes.DigestLemmas.{IsBytes-literal}
 use Rattle.fe2o3_scram.proofs.lemmas.messages.ExchangeLemmas.{no_comma-decimal, part_of, only_part}
 use Rattle.fe2o3_scram.proofs.lemmas.messages.OneValueLemmas.{names_client_first, names_server_final, names_server_first}
-use Rattle.fe2o3_scram.proofs.lemmas.texts.GrammarLemmas.{attribute_is_misplaced}
 use Rattle.fe2o3_scram.proofs.lemmas.texts.Base64Lemmas.{no_comma-append, no_comma-base64_text, one_spelled}
 use Rattle.fe2o3_scram.proofs.lemmas.texts.CountLemmas.{count_of_decimal}
 use Rattle.fe2o3_scram.proofs.lemmas.texts.EscapingLemmas.{no_comma-escaped, one_escaped}
-use Rattle.fe2o3_scram.proofs.lemmas.texts.ExtensionLemmas.{AreNone, of_client, of_server, none_after_all, none_after_three, none_after_two, none_of_client, none_of_server}
+use Rattle.fe2o3_scram.proofs.lemmas.texts.ExtensionLemmas.{AreNone, of_client, of_server, none_after_three, none_after_two, none_of_client, none_of_server}
 use Rattle.fe2o3_scram.proofs.lemmas.texts.JoinedTextLemmas.{same_parts, part_in, no_comma-part, two_joined, three_joined, first_two, first_three, with_last}
 use Rattle.fe2o3_scram.proofs.lemmas.texts.PartsLemmas.{pieces, Parts-pieces, one_list_of_parts, one_part}
 
@@ -320,42 +318,6 @@ same_login header rules name own text first version client its stored final hold
           (subst (λ (digits : List ℕ). IsCount digits first.count) (fields.count (only either)) names.count.2);
       not_three = λ three. one_extra client.bare _ _ right.extra right.bare three fields.not_three;
       not_four = λ four. two_extra client.bare _ _ right.extra right.bare four fields.not_four;
-    }
-
--- where the client-first message was plain: one nonce of both sides, salt and count, and one header where the
--- server-first message had three parts
-pub record SameValues (its_header : ClientHeader) (name own text : List ℕ) (first : ServerFirst) (client : ClientFirst)
-    (its : List ℕ) (stored : Record) : Type 0 where
-  pub header : HoldsHeaderBytes its_header → IsPlain client.bare → InParts 3 text → header_of its_header ≡ client.header
-  pub user : name ≡ client.user
-  pub nonce : own ≡ client.nonce
-  pub full_nonce : IsPlain client.bare → first.nonce ≡ (challenge_of client its stored).nonce
-  pub salt : IsPlain client.bare → first.salt ≡ stored.salt
-  pub count : IsPlain client.bare → first.count ≡ stored.count
-  pub not_three : ¬ InParts 3 client.bare
-  pub not_four : ¬ InParts 4 client.bare
-
--- the law over frames cites it
-pub same_values : {rights : Rights} (header : ClientHeader) (rules : ServerRules) (name own text : List ℕ) (first : ServerFirst)
-    (version : ScramVersion) (client : ClientFirst) (its : List ℕ) (stored : Record) (final : ClientFinal)
-    → HoldsBytes (client.user, stored)
-    → ClientHas own text first → ServerHas version rules rights client its stored final
-    → auth_message (client_first_bare name own) text (without_proof_with header first.nonce)
-    ≡ auth_message client.bare (challenge_of client its stored).first final.without
-    → SameValues header name own text first client its stored
-same_values header rules name own text first version client its stored final holds ours theirs same =
-    let login = same_login header rules name own text first version client its stored final holds ours theirs
-    same in
-    record {
-      header = λ bytes plain three. login.header bytes (inl (λ has. none_after_all 3 text three.0 three.1 three.2
-          (attribute_is_misplaced 3 text has)));
-      user = login.user;
-      nonce = login.nonce;
-      full_nonce = λ plain. login.full_nonce (inl plain);
-      salt = λ plain. login.salt (inl plain);
-      count = λ plain. login.count (inl plain);
-      not_three = login.not_three;
-      not_four = login.not_four;
     }
 
 -- ---- the signature

@@ -1,11 +1,10 @@
 -- What each side of an exchange writes, the other reads.
 use Rattle.std.proofs.Common.{◌≡◌, ◌<◌, ◌≤◌, ◌^◌, ℕ, suc, List, [], ◌∷◌, ◌++◌, length, get_or, refl, arith, ◌∙◌, sym, ap, codes, not, eqb, inl, inr, subst, Bool, true, false, Ok, ◌≢◌, ◌⊎◌, append_assoc}
-use Rattle.std.specs.Prelude.{bit_xor, nat_lt, T, if◌then◌else◌}
+use Rattle.std.specs.Prelude.{bit_xor, T, if◌then◌else◌}
 use Rattle.std.specs.List.{list_all}
 use Rattle.std.specs.Fmt.{decimal}
 use Rattle.std.specs.Str.{IsUtf8}
 use Rattle.std.specs.Int.Bits.{xor_assoc, xor_self, xor_zero_r}
-use Rattle.std.proofs.lemmas.Bool.{and_parts}
 use Rattle.std.proofs.lemmas.Fmt.{decimal_is_IsNumeral}
 use Rattle.std.proofs.lemmas.Nat.{xor_of_8}
 use Rattle.std.proofs.lemmas.Str.{IsUtf8-append}

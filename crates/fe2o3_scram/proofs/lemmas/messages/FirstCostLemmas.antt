@@ -1,17 +1,10 @@
 -- What the answer to a client-first message costs.
-use Rattle.std.proofs.Common.{◌+◌, ℕ, List, refl, arith, Ok, Err}
-use Rattle.fe2o3_scram.specs.declared.scram_messages.error.ServerScramErrorKind.{ServerScramErrorKind}
+use Rattle.std.proofs.Common.{◌+◌, ℕ, List, arith, Ok, Err}
 use Rattle.fe2o3_scram.specs.declared.scram_messages.error.ServerScramErrorKind.TheVariants.{OutOfMemory}
 use Rattle.fe2o3_scram.specs.ClientFirst.{ClientFirst, ReadsClientFirst}
 use Rattle.fe2o3_scram.specs.Credentials.{Provider}
 use Rattle.fe2o3_scram.specs.ScramServer.{FirstCosts}
 use Rattle.fe2o3_scram.proofs.lemmas.messages.ClientFirstLemmas.{one_client_first}
-
--- a text that is rejected reaches no look-up
-pub unread_costs : (A : Type 0) (provider : Provider) (text : List ℕ) (fault : ServerScramErrorKind) (count : ℕ)
-    → FirstCosts {A = A} provider text (Err fault) count count
-unread_costs A provider text OutOfMemory count = (omega arith, omega arith, λ fault reads. refl)
-unread_costs A provider text fault count = refl
 
 -- where memory runs out for the challenge, the look-up was made
 pub looked_up_costs : (A : Type 0) (provider : Provider) (text : List ℕ) (client : ClientFirst) (count : ℕ)

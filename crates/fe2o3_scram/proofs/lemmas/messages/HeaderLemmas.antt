@@ -3,15 +3,13 @@ use Rattle.std.proofs.Common.{◌≡◌, ◌≢◌, ◌⊎◌, inl, inr, T, ℕ,
 use Rattle.std.proofs.lemmas.List.{append_cancel_left}
 use Rattle.std.specs.Str.{IsUtf8}
 use Rattle.base64.specs.GeneralPurpose.{IsBytes}
-use Rattle.fe2o3_scram.specs.ChannelBinding.{AcceptsFlag, ClientHeader, Gs2Header, HoldsHeaderBytes, TakesBound, TakesHeader, TakesIdentity, authzid_text, cbind_data, cbind_input, data_of_kind, flag_text, header_of, header_text, own_header}
-use Rattle.fe2o3_scram.specs.ClientFirst.{HasEscapedIdentity}
+use Rattle.fe2o3_scram.specs.ChannelBinding.{AcceptsFlag, ClientHeader, Gs2Header, HoldsHeaderBytes, TakesBound, TakesHeader, TakesIdentity, authzid_text, cbind_data, cbind_input, flag_text, header_of, header_text}
 use Rattle.fe2o3_scram.specs.Escape.{NoEquals, SpellsName, escaped}
 use Rattle.fe2o3_scram.specs.declared.scram_messages.escape.UnescapeError.{UnescapeError}
 use Rattle.fe2o3_scram.specs.declared.scram_messages.escape.UnescapeError.TheVariants.{Invalid, OutOfMemory}
 use Rattle.fe2o3_scram.specs.Grammar.{is_value}
 use Rattle.fe2o3_scram.specs.Texts.{Cut, NoComma, StartsWith}
 use Rattle.fe2o3_scram.specs.declared.channel_binding.ChannelBindings.{ChannelBindings}
-use Rattle.fe2o3_scram.specs.declared.channel_binding.ChannelData.{ChannelData}
 use Rattle.fe2o3_scram.specs.declared.channel_binding.ChannelKind.{ChannelKind}
 use Rattle.fe2o3_scram.specs.declared.channel_binding.ChannelKind.TheVariants.{TlsUnique, TlsServerEndPoint, TlsExporter}
 use Rattle.fe2o3_scram.specs.declared.scram_messages.server_rules.ServerRules.{ServerRules}
@@ -178,26 +176,7 @@ no_kind channels text none NotSupported takes begins = takes
 no_kind channels text none ClientSupports takes begins = takes
 no_kind channels text none (Required kind) takes begins = none kind begins
 
--- a server that has no data of the kind that a text begins with accepts no flag of it
-pub no_data_of : (channels : ChannelBindings) (text rest : List ℕ) (kind : ChannelKind)
-    → text ≡ (flag_text (Required kind) ++ codes ",") ++ rest → data_of_kind channels kind ≡ None
-    → (flag : ChannelBindingFlag) → TakesBound channels flag → ¬ StartsWith text (flag_text flag ++ codes ",")
-no_data_of channels text rest kind is absent NotSupported takes begins = takes
-no_data_of channels text rest kind is absent ClientSupports takes begins = takes
-no_data_of channels text rest kind is absent (Required other) takes begins =
-    let flags = (one_flag (Required kind) (Required other) text rest begins.0 is begins.1).0 in
-    let one : kind ≡ other = cc in
-    let wrong : ◌≡◌ {A = Option ChannelData} None (Some takes.0) =
-    sym absent ∙ (ap (data_of_kind channels) one ∙ takes.1) in
-    absurd (cc)
-
 -- ---- the identity, after the flag and its comma
-
--- a text that begins with no comma begins with no identity that a server accepts which accepts none
-pub none_accepted : (text : List ℕ) → ¬ StartsWith text (codes ",") → (acts_for : Option (List ℕ))
-    → TakesIdentity false acts_for → ¬ StartsWith text (authzid_text acts_for ++ codes ",")
-none_accepted text comma None takes begins = comma begins
-none_accepted text comma (Some name) takes begins = takes.0
 
 -- a text that begins with neither a comma nor an identity begins with none
 pub none_named : (accept : Bool) (text : List ℕ) → ¬ StartsWith text (codes ",") → ¬ StartsWith text (codes "a=")
@@ -276,19 +255,6 @@ module _ (accept : Bool) (text named : List ℕ) (comma : ¬ StartsWith text (co
             subst (λ (spelt : List ℕ). ¬ NoEquals spelt) (sym named.1) some,
           ),
         )
-
--- why a header is not split off
-pub header_error : (rules : ServerRules) (flag : ChannelBindingFlag) (text rest : List ℕ) (error : UnescapeError)
-    → AcceptsFlag rules flag → text ≡ (flag_text flag ++ codes ",") ++ rest
-    → ((error ≡ Invalid) × ((acts_for : Option (List ℕ)) → TakesIdentity rules.accept_authzid acts_for
-    → ¬ StartsWith rest (authzid_text acts_for ++ codes ","))) ⊎ ((error ≡ OutOfMemory) × T rules.accept_authzid
-    × ((name : List ℕ) × (after : List ℕ) × (rest ≡ (authzid_text (Some name) ++ codes ",") ++ after)
-    × ¬ NoEquals (escaped name)))
-    → ((error ≡ Invalid) × ((header : Gs2Header) → TakesHeader rules header → ¬ StartsWith text (header_text header)))
-    ⊎ ((error ≡ OutOfMemory) × HasEscapedIdentity rules text)
-header_error rules flag text rest error takes is (inl (kind, none)) = inl (kind, no_identity rules flag text rest is none)
-header_error rules flag text rest error takes is (inr (kind, on, (name, after, begins, some))) =
-    inr (kind, (flag, name, after, takes, on, joined_header flag (Some name) text rest after is begins, some))
 
 -- a header that names nobody
 pub no_name : {X : Type 0} (found : Option X) (text : X → List ℕ) → is_some found ≡ false → option_map text found ≡ None

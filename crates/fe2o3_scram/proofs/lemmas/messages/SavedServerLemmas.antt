@@ -1,5 +1,5 @@
 -- An open challenge, its record, who has logged in, and for whom it acts are all of a server's state.
-use Rattle.std.proofs.Common.{◌≡◌, refl, ap}
+use Rattle.std.proofs.Common.{◌≡◌, refl}
 use Rattle.fe2o3_scram.specs.ScramServer.{Initial, ServerFirstSent, ServerFinalSent, StatesAreReported}
 
 pub states_are_reported : StatesAreReported

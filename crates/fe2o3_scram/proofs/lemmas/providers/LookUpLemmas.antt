@@ -43,12 +43,6 @@ slice_looked_up {E} name_of record_of entries name found is =
     both None = refl
     both (Some entry) = refl
 
--- names and records themselves
-pub records_in-pairs : (records : Records)
-    → records_in (λ (entry : List ℕ × Record). entry.0) (λ (entry : List ℕ × Record). entry.1) records ≡ records
-records_in-pairs [] = refl
-records_in-pairs (entry ∷ records) = ap (λ (rest : Records). entry ∷ rest) (records_in-pairs records)
-
 -- a map's look-up is that of the first entry whose key passes
 found_entry : {K X : Type 0} (record_of : X → Record) (test : K → Bool) (entries : List (K × X))
     → option_map record_of (lookup test entries)

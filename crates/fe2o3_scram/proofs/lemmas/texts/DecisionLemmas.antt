@@ -15,7 +15,7 @@ use Rattle.base64.specs.GeneralPurpose.{IsBytes, decode_of}
 use Rattle.base64.specs.declared.decode.DecodeError.{DecodeError}
 use Rattle.fe2o3_scram.specs.Escape.{escaped, escaped_byte}
 use Rattle.fe2o3_scram.specs.SaslprepAscii.{IsPrintable}
-use Rattle.fe2o3_scram.specs.Texts.{NoComma, Part, StartsWith, base64_text, IsBase64, IsCount}
+use Rattle.fe2o3_scram.specs.Texts.{NoComma, Part, base64_text, IsBase64, IsCount}
 use Rattle.fe2o3_scram.proofs.lemmas.texts.Base64Lemmas.{decode_of-base64_text, none_spelled}
 use Rattle.fe2o3_scram.proofs.lemmas.texts.EscapingLemmas.{by_cases, escaped-nil, escaped-cons, escaped_byte-plain, no_comma-escaped}
 use Rattle.fe2o3_scram.proofs.lemmas.texts.PartsLemmas.{pieces, one_part, part_from_pieces}
@@ -125,9 +125,6 @@ rest_or (x ∷ prefix) (y ∷ text) = go (same_number_or y x) (rest_or prefix te
     go (inl same) (inl found) = let tail = found.1 in inl (found.0, cc)
     go (inl same) (inr none) = inr (λ rest is. none rest (let tail : text ≡ prefix ++ rest = cc in tail))
     go (inr other) found = inr (λ rest is. other (let head : y ≡ x = cc in head))
-
-pub begins_or : (text prefix : List ℕ) → Decided (StartsWith text prefix)
-begins_or text prefix = some_or (rest_or prefix text)
 
 pub part_or : (text : List ℕ) (k : ℕ) → Found (Part text k)
 part_or text k = go (slice_get (pieces text) k) (part_from_pieces (λ (part : List ℕ). part) text k _ (same _))

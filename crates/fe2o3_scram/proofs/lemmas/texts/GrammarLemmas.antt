@@ -1,6 +1,6 @@
 -- The tests by the grammar of messages: of the parts from a place on, of values and of nonces.
 use Rattle.std.proofs.Common.{◌≡◌, ◌⊎◌, inl, inr, ◌↔◌, Bool, true, false, ◌||◌, not, ◌≤◌, ℕ, zero, suc, Some, List, [], ◌∷◌, drop, refl, sym, ap, ◌∙◌, arith}
-use Rattle.std.specs.Prelude.{T, slice_get, nat_eq, nat_lt, length, replicate, ◌&&◌, codes}
+use Rattle.std.specs.Prelude.{slice_get, nat_eq, nat_lt, length, replicate, ◌&&◌, codes}
 use Rattle.std.specs.Char.{is_ascii_alphabetic}
 use Rattle.std.specs.List.{AllByRecursion, list_all, list_any}
 use Rattle.std.proofs.lemmas.Bool.{and_parts}

@@ -1,4 +1,4 @@
-use Rattle.std.proofs.Common.{◌++◌, Bool, true, false, not, List, ℕ, ◌≡◌, refl, sym, ◌∙◌}
+use Rattle.std.proofs.Common.{◌++◌, Bool, true, false, not, ◌≡◌, refl, sym}
 use Rattle.std.specs.Prelude.{◌↔◌, IsTrue}
 use Rattle.fe2o3_scram.specs.Grammar.{is_nonce}
 use Rattle.fe2o3_scram.specs.ServerFirst.{AddsNoNonce}

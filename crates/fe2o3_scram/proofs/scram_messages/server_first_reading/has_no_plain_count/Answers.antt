@@ -1,4 +1,4 @@
-use Rattle.std.proofs.Common.{◌≡◌, Bool, true, false, not, Option, Some, None, ℕ, List, refl}
+use Rattle.std.proofs.Common.{◌≡◌, Bool, true, false, not, Option, Some, None, ℕ, refl}
 use Rattle.std.specs.Option.{MatchOption, is_some}
 use Rattle.std.specs.Prelude.{◌↔◌, IsTrue}
 use Rattle.fe2o3_scram.specs.ServerFirst.{HasPlainCount}

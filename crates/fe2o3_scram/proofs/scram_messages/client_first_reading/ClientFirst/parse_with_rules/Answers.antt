@@ -1,4 +1,4 @@
-use Rattle.std.proofs.Common.{◌≡◌, Bool, true, false, rules, sym, ◌∙◌, refl}
+use Rattle.std.proofs.Common.{rules, sym, ◌∙◌, refl}
 use Rattle.std.proofs.lemmas.Result.{err_from_is_err_and}
 use Rattle.std.specs.Prelude.{◌↔◌}
 use Rattle.std.specs.Cow.{cow_str_bytes, IsBorrowedStr}

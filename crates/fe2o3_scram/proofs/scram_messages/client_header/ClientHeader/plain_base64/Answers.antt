@@ -1,4 +1,4 @@
-use Rattle.std.proofs.Common.{◌≡◌, Bool, false, is_some, refl, rules}
+use Rattle.std.proofs.Common.{◌≡◌, false, is_some, refl, rules}
 use Rattle.base64.specs.Rfc4648.{encode_symbols}
 use Rattle.fe2o3_scram.specs.Texts.{base64_text}
 use Rattle.fe2o3_scram.proofs.lemmas.messages.HeaderLemmas.{no_name}

@@ -1,4 +1,3 @@
-use Rattle.std.proofs.Common.{rules}
 use Rattle.std.proofs.lemmas.Result.{err_from_is_err_and}
 use Rattle.fe2o3_scram.specs.ClientSecret.{secret_of}
 use Rattle.fe2o3_scram.specs.ServerFirst.{Client, client_of}
