@@ -1,22 +1,18 @@
 -- Which stages a struct shows alike, and the struct of a side.
 use Rattle.std.proofs.Common.{arith, refl, sym, ap, subst, ◌∙◌, ◌≡◌, ◌≢◌, ℕ, List}
-use Rattle.std.specs.Prelude.{Bool, true, false, if◌then◌else◌, nat_eq, Option, Some, None}
-use Rattle.std.specs.Cmp.Lexicographic.{pointwise}
+use Rattle.std.specs.Prelude.{Bool, true, false, if◌then◌else◌, Option, Some, None}
 use Rattle.fe2o3_scram.specs.ActingRights.{Rights}
 use Rattle.fe2o3_scram.specs.ChannelBinding.{is_required}
 use Rattle.fe2o3_scram.specs.Mixed.{MultiRecords}
 use Rattle.fe2o3_scram.specs.ServerFirst.{OpenExchange, ServerChallenge}
 use Rattle.fe2o3_scram.specs.declared.channel_binding.ChannelKind.TheVariants.{TlsUnique, TlsServerEndPoint, TlsExporter}
 use Rattle.fe2o3_scram.specs.declared.hmac.ScramVersion.{ScramVersion}
-use Rattle.fe2o3_scram.specs.declared.hmac.ScramVersion.TheVariants.{Sha1, Sha256, Sha512}
 use Rattle.fe2o3_scram.specs.declared.scram_messages.channel_binding_flag.ChannelBindingFlag.{ChannelBindingFlag}
 use Rattle.fe2o3_scram.specs.declared.scram_messages.channel_binding_flag.ChannelBindingFlag.TheVariants.{NotSupported, ClientSupports, Required}
 use Rattle.fe2o3_sasl_core.specs.MockChoices.{MockChoice}
 use Rattle.fe2o3_sasl_core.specs.SavedServers.{IsRestored, KeptStage, KeptNothing, KeptAsked, KeptOpen, KeptSignature, KeptLogin, challenge_mechanism, exchange_now, kept_stage, restored_stage}
-use Rattle.fe2o3_sasl_core.specs.Mechanisms.{mechanism_symbol}
 use Rattle.fe2o3_sasl_core.specs.Servers.{ExchangeOpen, NotStarted, ResponseAsked, ServerSettings, ServerStage, SignatureShown, UserAuthenticated, is_offered_by, logged_in_at}
 use Rattle.fe2o3_sasl_core.specs.declared.mechanism.Mechanism.{Mechanism}
-use Rattle.fe2o3_sasl_core.specs.declared.mechanism.Mechanism.TheVariants as mechanisms
 use Rattle.fe2o3_sasl_core.proofs.lemmas.machines.MechanismLemmas.{one_mechanism}
 use Rattle.sasl_c.specs.declared.server.ScramServer.{ScramServer as ScramStruct}
 use Rattle.sasl_c.specs.Server.{HasSigned, HoldsIdentity, ShowsSigned, ShowsStage, ShowsUser, fresh_server_struct, open_number, stage_struct, struct_challenge, struct_where}
