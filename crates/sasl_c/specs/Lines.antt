@@ -54,7 +54,7 @@ abbrev pub find_tests : List ℕ → List ℕ → ℕ → List (Status × Type 0
 find_tests lines name version = (statuses.NoSuchVersion, (known : ScramVersion) → ¬ IsVersion version known)
     ∷ (statuses.NotUtf8, ¬ IsUtf8 name) ∷ (statuses.NotUtf8, ¬ IsUtf8 lines) ∷ []
 
--- none of them holds
+-- none of `text_tests` holds: the version is known, and the text is UTF-8
 abbrev pub PassesTests : List ℕ → ℕ → Type 0
 PassesTests lines version = ((known : ScramVersion) × IsVersion version known) × IsUtf8 lines
 
