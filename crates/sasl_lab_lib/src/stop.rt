@@ -2,42 +2,44 @@
 
 use fe2o3_sasl::audit::AuditError;
 use fe2o3_sasl::{ProfileError, ScramErrorKind, ServerScramErrorKind};
-use fe2o3_sasl_wire::{Error, SaslCode};
+use fe2o3_sasl_wire::{Error as FrameError, SaslCode};
 use std::alloc::{AllocError, AllocFailed};
 use std::io;
 use std::io::Write;
+use thiserror::Error;
 
-/// Why the program stops.
-#[derive(Debug, Clone, Copy)]
+/// Why the program stops. The text of each reason is the last line of the output.
+#[derive(Debug, Clone, Copy, Error)]
 pub enum Stop {
     /// The arguments are not those of a command.
+    #[error("wrong words")]
     WrongWords,
-
     /// This line of the input, counted from 1, is not an event.
+    #[error("wrong line {0}")]
     WrongLine(usize),
-
     /// The arguments or the input could not be read.
+    #[error("refused Input")]
     Input,
-
     /// The client rejected a SCRAM message.
-    Scram(ScramErrorKind),
-
+    #[error("refused {0:?}")]
+    Scram(#[from] ScramErrorKind),
     /// The keys of a client are stale: the server sent another salt or iteration count.
+    #[error("refused StaleKeys")]
     StaleKeys,
-
     /// The server rejected a password.
-    Server(ServerScramErrorKind),
-
+    #[error("refused {0:?}")]
+    Server(#[from] ServerScramErrorKind),
     /// A frame was not read, not written, or not implemented.
-    Frame(Error),
-
+    #[error("refused {0:?}")]
+    Frame(#[from] FrameError),
     /// The negotiation did not end with `Ok`.
+    #[error("refused {0:?}")]
     Outcome(SaslCode),
-
     /// Out of memory.
+    #[error("refused OutOfMemory")]
     OutOfMemory,
-
-    /// A write failed.
+    /// A write failed. Nothing more is written.
+    #[error("refused Output")]
     Output,
 }
 
@@ -61,16 +63,8 @@ impl Stop {
     /// Prints the last line, unless a write has failed.
     pub(crate) fn print<W: Write>(&self, output: &mut W) -> io::Result<()> {
         match self {
-            Stop::WrongWords => writeln!(output, "wrong words"),
-            Stop::WrongLine(number) => writeln!(output, "wrong line {number}"),
-            Stop::Input => writeln!(output, "refused Input"),
-            Stop::Scram(kind) => writeln!(output, "refused {kind:?}"),
-            Stop::StaleKeys => writeln!(output, "refused StaleKeys"),
-            Stop::Server(kind) => writeln!(output, "refused {kind:?}"),
-            Stop::Frame(fault) => writeln!(output, "refused {fault:?}"),
-            Stop::Outcome(code) => writeln!(output, "refused {code:?}"),
-            Stop::OutOfMemory => writeln!(output, "refused OutOfMemory"),
             Stop::Output => Ok(()),
+            _ => writeln!(output, "{self}"),
         }
     }
 
@@ -78,40 +72,15 @@ impl Stop {
     pub(crate) fn status(&self) -> u8 {
         match self {
             Stop::WrongWords | Stop::WrongLine(_) => 2,
-            Stop::Input
-            | Stop::Scram(_)
-            | Stop::StaleKeys
-            | Stop::Server(_)
-            | Stop::Frame(_)
-            | Stop::Outcome(_)
-            | Stop::OutOfMemory
-            | Stop::Output => 1,
+            _ => 1,
         }
-    }
-}
-
-impl From<ScramErrorKind> for Stop {
-    fn from(kind: ScramErrorKind) -> Stop {
-        Stop::Scram(kind)
-    }
-}
-
-impl From<ServerScramErrorKind> for Stop {
-    fn from(kind: ServerScramErrorKind) -> Stop {
-        Stop::Server(kind)
-    }
-}
-
-impl From<Error> for Stop {
-    fn from(fault: Error) -> Stop {
-        Stop::Frame(fault)
     }
 }
 
 impl From<ProfileError> for Stop {
     fn from(fault: ProfileError) -> Stop {
         match fault {
-            ProfileError::NotImplemented => Stop::Frame(Error::NotImplemented),
+            ProfileError::NotImplemented => Stop::Frame(FrameError::NotImplemented),
             ProfileError::Scram(kind) => Stop::Scram(kind),
             ProfileError::StaleKeys => Stop::StaleKeys,
             ProfileError::Frame(fault) => Stop::Frame(fault),

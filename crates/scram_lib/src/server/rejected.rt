@@ -6,7 +6,7 @@ ghost use Rattle.scram_lib.specs.LoginLine.{channel_said, rejected_line, user_sa
 
 use crate::server::Service;
 use fe2o3_sasl_negotiation::{Frame, FrameView, Rejection, SaslAcceptor, SaslServerFrame};
-use fe2o3_scram::{OutOfMemory, RecordStore, ScramAuthenticator, ServerScramErrorKind};
+use fe2o3_scram::{OutOfMemory, ServerScramErrorKind};
 use scram_base_lib::channel::parts_of;
 use scram_base_lib::shown::shown;
 use scram_base_lib::stop::Stop;
@@ -14,9 +14,9 @@ use std::alloc::{AllocError, Global};
 use std::io::Write;
 
 /// Returns why the library rejects a frame that this server has rejected, which left the server as it was.
-pub(crate) fn reason_of(
+pub(crate) fn reason_of<A: SaslAcceptor>(
     alloc: Global,
-    server: &ScramAuthenticator<RecordStore>,
+    server: &A,
     frame: &FrameView<'_>,
 ) -> Result<Rejection, OutOfMemory> {
     let mut server = server.clone()?;

@@ -17,23 +17,12 @@ impl<R: System, I: BufRead, O: Write, E: Write, B: Backend<R>> Process<'_, R, I,
     /// Prints each record that has another form than the first for its mechanism, and each user without a record for a
     /// mechanism that others have. Returns an error if there is one.
     pub(crate) fn check_file(&mut self, named: &Named<'_>) -> Result<(), Stop> {
-        let alloc = self.rt.alloc();
         let text = self.lines(named)?;
-        let users = lines::parse(alloc, &text)?;
-        let mut names = BTreeSet::new(alloc);
-        let mut is_alike = true;
-        for line in text.lines() {
-            let line = UserLine::of(line);
-            is_alike &= check_form(alloc, &users, &line, &mut self.output)?;
-            if names.insert(line.name)? {
-                is_alike &= check_hashes(alloc, &users, line.name, &mut self.output)?;
-            }
+        let users = lines::parse(self.rt.alloc(), &text)?;
+        if are_alike(self.rt.alloc(), &users, &text, &mut self.output)? {
+            return Ok(());
         }
-        if is_alike {
-            Ok(())
-        } else {
-            Err(Stop::NotAlike)
-        }
+        Err(Stop::NotAlike)
     }
 
     /// Prints the mechanisms for which each user of a file has a record. Of a file without users, none is printed.
@@ -47,6 +36,24 @@ impl<R: System, I: BufRead, O: Write, E: Write, B: Backend<R>> Process<'_, R, I,
         }
         Ok(())
     }
+}
+
+/// Returns whether the records of a text look alike, and prints which do not.
+fn are_alike<O: Write>(
+    alloc: Global,
+    users: &MultiRecordStore,
+    text: &str,
+    output: &mut O,
+) -> Result<bool, Stop> {
+    let (mut names, mut is_alike) = (BTreeSet::new(alloc), true);
+    for line in text.lines() {
+        let line = UserLine::of(line);
+        is_alike &= check_form(alloc, users, &line, output)?;
+        if names.insert(line.name)? {
+            is_alike &= check_hashes(alloc, users, line.name, output)?;
+        }
+    }
+    Ok(is_alike)
 }
 
 /// Returns whether a line has the form of the first record for its mechanism, and prints it otherwise.
