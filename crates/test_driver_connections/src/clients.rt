@@ -35,8 +35,7 @@ pub fn named_by(row: &mut Row<'_>) -> Option<(SaslProfile, Option<String>, usize
         false => Some(row.text_of_digits()),
     };
     let by_challenge = row.takes("by-challenge");
-    let identity = text_after(row, "for");
-    let limit = frame_limit(row);
+    let (identity, limit) = (text_after(row, "for"), frame_limit(row));
     let profile = match mechanism {
         "ANONYMOUS" => SaslProfile::Anonymous,
         "EXTERNAL" => SaslProfile::External,
@@ -88,6 +87,7 @@ pub fn answer_paragraph<'a>(row: &mut Row<'a>, lines: &'a str) {
     };
     let mut side = ClientNegotiation::with_frame_limit(row.alloc, profile, hostname, limit);
     answer_events(row, &mut side, (), lines);
+    drop(side);
 }
 
 /// Reads what a client may log in by: `MECHANISM`, the weakest SCRAM, and the options `plain`, `channel KIND DATA` and
@@ -98,8 +98,8 @@ fn policy_of(row: &mut Row<'_>, mechanism: &str) -> Option<ClientPolicy> {
         policy.plain = true;
     }
     if row.takes("channel") {
-        let (kind, data) = (ChannelKind::from_name(row.word())?, row.digits());
-        let cbind_data = ChannelData::new(&data).ok()?;
+        let kind = ChannelKind::from_name(row.word())?;
+        let cbind_data = ChannelData::new(&row.digits()).ok()?;
         policy.channel = Some(ChannelBinding { kind, cbind_data });
     }
     if row.takes("must-bind") {
@@ -128,4 +128,5 @@ pub fn answer_policy_paragraph<'a>(row: &mut Row<'a>, lines: &'a str) {
     let limit = frame_limit(row);
     let mut side = ClientNegotiation::with_frame_limit(row.alloc, profile, hostname, limit);
     answer_events(row, &mut side, (), lines);
+    drop(side);
 }

@@ -55,15 +55,13 @@ struct Wire<C: Copy> {
 }
 
 /// Answers the lines of a paragraph, `EVENT => ANSWER`, one after another.
-pub fn answer_events<'a, E, R, C: Copy>(
+pub fn answer_events<'a, E: Endpoint<R>, R: Role, C: Copy>(
     row: &mut Row<'a>,
     side: &mut ConnectionSide<E, R>,
     over: C,
     lines: &'a str,
 )
 where
-    E: Endpoint<R>,
-    R: Role,
     ConnectionSide<E, R>: Side<C>,
 {
     let mut wire = Wire {

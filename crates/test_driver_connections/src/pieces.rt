@@ -49,6 +49,7 @@ fn say_served<A: AuthenticatedUser + Drop>(
     if let Some(negotiated) = row.get(made) {
         say_negotiated(row, &negotiated);
         say_user(row, &negotiated.side);
+        drop(negotiated);
     }
 }
 
@@ -83,5 +84,6 @@ pub fn answer_client(row: &mut Row<'_>) {
         client_connection(row.alloc, profile, hostname, &pieces));
     if let Some(negotiated) = row.get(made) {
         say_negotiated(row, &negotiated);
+        drop(negotiated);
     }
 }

@@ -112,8 +112,7 @@ impl Served {
     /// Returns the server that is restored from what another saves, or from the login of these words, if they are next:
     /// `authenticated USER`, and `for IDENTITY` if the user acts for one.
     fn restored(&self, row: &mut Row<'_>, server: &Server<'_>) -> Option<Server<'_>> {
-        let named = text_after(row, "authenticated");
-        let acts_for = text_after(row, "for");
+        let (named, acts_for) = (text_after(row, "authenticated"), text_after(row, "for"));
         let saved = match &named {
             Some(_) => SavedStage::Authenticated(SavedLogin {
                 mechanism: Mechanism::Scram(ScramVersion::Sha256, false),
@@ -197,6 +196,7 @@ impl<'a> Side<&'a Served> for ServerNegotiation<Server<'a>> {
 fn serve<'a, A: AuthenticatedUser + Drop>(row: &mut Row<'a>, acceptor: A, lines: &'a str) {
     let mut side = ServerNegotiation::new(row.alloc, acceptor);
     answer_events(row, &mut side, (), lines);
+    drop(side);
 }
 
 /// Answers the lines of a paragraph by a server.
@@ -205,7 +205,8 @@ pub fn answer_paragraph<'a>(row: &mut Row<'a>, lines: &'a str) {
     if !served.is_lenient {
         let (server, limit) = (served.server(), served.limit);
         let mut side = ServerNegotiation::with_frame_limit(row.alloc, server, limit);
-        return answer_events(row, &mut side, &served, lines);
+        answer_events(row, &mut side, &served, lines);
+        return drop(side);
     }
     if served.options.mechanisms.plain {
         let (user, password) = served.plain;

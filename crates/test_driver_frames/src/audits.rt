@@ -50,9 +50,9 @@ fn answer<'a>(row: &mut Row<'a>, run: &Run<'a>) {
     let (alloc, version) = (row.alloc, version(row));
     let (user, password) = (row.text_of_digits(), row.text_of_digits());
     let (client, server) = (run.client_events.as_slice(), run.events.as_slice());
-    let credential = credential_of(row, version);
-    let Some(credential) = &credential else {
-        return;
+    let made = credential_of(row, version);
+    let Some(credential) = &made else {
+        return drop(made);
     };
     let (options, rules) = options_of(row);
     let limit = options.limits.max_iterations;
@@ -71,6 +71,7 @@ fn answer<'a>(row: &mut Row<'a>, run: &Run<'a>) {
             audit_with_options(alloc, &user, &password, version, options, client, rules, credential, server))
     };
     say_all(row, found);
+    drop(made);
 }
 
 /// Returns the options of a client and the rules of a server, as the head of `channel-audits.txt` has them.

@@ -42,6 +42,7 @@ impl Side for Client {
             _ => return say_part(row, profile, call, nonce),
         };
         reply.say(row);
+        drop(reply);
     }
 }
 
@@ -63,8 +64,11 @@ fn own_step(
             call!(row: "SaslProfile::on_frame" => profile.on_frame(alloc, frame, hostname, nonce)),
         _ => call!(row: "SaslProfile::on_view" => profile.on_view(alloc, view, hostname, nonce)),
     };
+    if call == "shown" {
+        row.show(&reply);
+        return drop(reply);
+    }
     match reply {
-        reply if call == "shown" => row.show(&reply),
         Ok(Negotiation::Init(init)) => say_frame(row, "Init", Frame::Init(init)),
         Ok(Negotiation::Response(it)) => say_frame(row, "Response", Frame::Response(it)),
         Ok(Negotiation::Outcome(outcome)) => say_outcome(row, outcome),
@@ -140,6 +144,7 @@ pub fn check_scram(row: &mut Row<'_>, run: &Run<'_>, kind: &str) {
     let client = ScramClient::new(user, password, version).with_options(options);
     if let Some(mut client) = client_of(row, Some(SaslProfile::from(client))) {
         check_steps(row, run, &mut client);
+        drop(client);
     }
 }
 
@@ -152,7 +157,8 @@ pub fn check_profile(row: &mut Row<'_>, run: &Run<'_>, kind: &str) {
         profile_of(row, kind)
     };
     if let Some(mut client) = client_of(row, profile) {
-        return check_side(row, run, &mut client);
+        check_side(row, run, &mut client);
+        return drop(client);
     }
     row.say("no profile");
     run.agree(row);

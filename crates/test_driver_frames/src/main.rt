@@ -5,7 +5,8 @@
 macro_rules! show_call {
     ($row:ident: $name:expr => $made:expr) => {{
         let made = call!($row: $name => $made);
-        $row.show_made(&made)
+        $row.show_made(&made);
+        drop(made)
     }};
 }
 

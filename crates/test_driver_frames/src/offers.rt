@@ -2,6 +2,7 @@
 
 use crate::runs::{Run, Side, check_side};
 use crate::servers::{own_step, run_copy, say_offer, say_reply};
+use crate::values::say_copied;
 use crate::words::{channels, passwords, version};
 use fe2o3_sasl::*;
 use fe2o3_sasl_wire::{Error, view_frame};
@@ -62,9 +63,13 @@ pub fn check<'a>(row: &mut Row<'a>, run: &Run<'a>) {
         }
     }
     if row.fault().is_some() {
-        return run.agree(row);
+        run.agree(row);
+    } else {
+        let mut server = Server::new(&users, &options, transport);
+        check_side(row, run, &mut server);
+        drop(server);
     }
-    check_side(row, run, &mut Server::new(&users, &options, transport));
+    drop(options);
 }
 
 /// Sets the option of the next words.
@@ -113,16 +118,14 @@ impl Side for Server<'_> {
             "brief" => say_briefly(row, &reply, self.last_rejection()),
             _ => say_reply(row, self, call, &reply, meter),
         }
+        drop(reply);
     }
 }
 
 /// Says what a server says of itself.
 fn say_part(row: &mut Row<'_>, server: &Server<'_>, call: &str) {
     match (call, server.last_attempt()) {
-        ("clone", _) => {
-            let copy = call!(row: "Server::clone" => server.clone());
-            row.judge(&copy, "copied");
-        }
+        ("clone", _) => say_copied(row, "Server::clone", server),
         ("offers_any", _) => row.say(server.offers_any()),
         ("login", _) => row.show(&server.mechanism()),
         ("claims", None) => row.say("none"),

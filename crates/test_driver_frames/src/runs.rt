@@ -11,16 +11,12 @@ use test_rows::{Row, again};
 pub struct Run<'a> {
     /// The words for the side or the two sides of an audit.
     pub side: &'a str,
-
     /// The events that arrive, of an audit at its server.
     pub events: Vec<Event>,
-
     /// The call that answers each event in a step.
     pub calls: Vec<&'a str>,
-
     /// The events that arrive at the client of an audit.
     pub client_events: Vec<Event>,
-
     /// The answer to each event, or the findings of an audit.
     pub wanted: Vec<&'a str>,
 }

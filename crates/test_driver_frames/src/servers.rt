@@ -3,6 +3,7 @@
 use crate::frames::say_frame;
 use crate::replies::{Reply, say_all, say_outcome};
 use crate::runs::{Run, Side, check_side, check_steps};
+use crate::values::say_copied;
 use crate::words::{channels, version};
 use fe2o3_sasl::scram_messages::ServerRules;
 use fe2o3_sasl::*;
@@ -26,14 +27,15 @@ impl<A: AuthenticatedUser + Drop> Side for Acceptor<A> {
         let Event { body, nonce } = event;
         let reply = match (call, view_frame(body)) {
             ("step", _) => call!(row: "acceptor_step" => acceptor_step(alloc, acceptor, event)),
-            ("body", _) => call!(row: "acceptor_body_step" =>
-                acceptor_body_step(alloc, acceptor, body, nonce, &mut meter)),
+            ("body", _) =>
+                call!(row: "acceptor_body_step" => acceptor_body_step(alloc, acceptor, body, nonce, &mut meter)),
             ("frame", Ok((view, _))) => call!(row: "acceptor_frame_step" =>
                 acceptor_frame_step(alloc, acceptor, view, nonce, &mut meter)),
             (_, Ok(_)) => return own_step(row, acceptor, call, event),
             _ => return say_offer(row, acceptor, call),
         };
         say_reply(row, acceptor, call, &reply, meter);
+        drop(reply);
     }
 }
 
@@ -84,25 +86,20 @@ fn say_user<A: AuthenticatedUser>(row: &mut Row<'_>, acceptor: &A) {
 }
 
 /// Says the answer of an acceptor by its own call.
-pub fn own_step<A: AuthenticatedUser>(
-    row: &mut Row<'_>,
-    acceptor: &mut A,
-    call: &str,
-    event: &Event,
-) {
+pub fn own_step<A: AuthenticatedUser>(row: &mut Row<'_>, side: &mut A, call: &str, event: &Event) {
     let (alloc, nonce, mut meter) = (row.alloc, &event.nonce, Meter::new());
     let Ok((view, _)) = view_frame(&event.body) else {
         return row.refuse("no frame");
     };
     let reply = match (view.to_frame(alloc), call) {
         (Ok(Frame::Init(init)), "metered") =>
-            call!(row: "SaslAcceptor::on_init_metered" => acceptor.on_init_metered(alloc, init, nonce, &mut meter)),
+            call!(row: "SaslAcceptor::on_init_metered" => side.on_init_metered(alloc, init, nonce, &mut meter)),
         (Ok(Frame::Response(response)), "metered") =>
-            call!(row: "SaslAcceptor::on_response_metered" => acceptor.on_response_metered(alloc, response, &mut meter)),
+            call!(row: "SaslAcceptor::on_response_metered" => side.on_response_metered(alloc, response, &mut meter)),
         (Ok(Frame::Init(init)), _) =>
-            call!(row: "SaslAcceptor::on_init" => acceptor.on_init(alloc, init, nonce)),
+            call!(row: "SaslAcceptor::on_init" => side.on_init(alloc, init, nonce)),
         (Ok(Frame::Response(response)), _) =>
-            call!(row: "SaslAcceptor::on_response" => acceptor.on_response(alloc, response)),
+            call!(row: "SaslAcceptor::on_response" => side.on_response(alloc, response)),
         _ => return row.refuse("neither an init nor a response"),
     };
     match reply {
@@ -114,7 +111,7 @@ pub fn own_step<A: AuthenticatedUser>(
         }
         Err(error) => return row.show(&error),
     }
-    say_user(row, acceptor);
+    say_user(row, side);
 }
 
 /// Checks this acceptor, or copies it by a call of this name.
@@ -127,10 +124,7 @@ pub fn serve<A: AuthenticatedUser + Drop>(
     if run.calls.first() != Some(&"clone") {
         return check_side(row, run, &mut Acceptor { acceptor });
     }
-    again!(row: {
-        let copy = call!(row: clone => acceptor.clone());
-        row.judge(&copy, "copied");
-    });
+    again!(row: say_copied(row, clone, &acceptor));
     run.agree(row);
 }
 
@@ -201,7 +195,9 @@ fn check_stored<C: ScramCredentialProvider + Drop>(
         run.agree(row);
     }
     let acceptor = ScramAuthenticator::new(credentials).with_rules(rules);
-    check_steps(row, run, &mut Acceptor { acceptor });
+    let mut side = Acceptor { acceptor };
+    check_steps(row, run, &mut side);
+    drop(side);
 }
 
 /// Says the answers of a server of these credentials in a whole run.

@@ -46,16 +46,16 @@ pub fn errors(row: &mut Row<'_>) {
 pub fn shown(row: &mut Row<'_>) {
     let (kind, body, other) = (row.word(), row.bytes(), row.bytes());
     match kind {
-        "init" => row.show(&ClientReply::Init { body }),
-        "response" => row.show(&ClientReply::Response { body }),
+        "init" => show(row, ClientReply::Init { body }),
+        "response" => show(row, ClientReply::Response { body }),
         "outcome" => row.show(&ClientReply::Outcome(SaslOutcome {
             code: SaslCode::Auth,
             additional_data: Some(Binary(body)),
         })),
-        "sent" => row.show(&ServerReply::Outcome {
-            code: SaslCode::Sys,
-            body,
-        }),
+        "sent" => {
+            let code = SaslCode::Sys;
+            show(row, ServerReply::Outcome { code, body });
+        }
         "other-key" => row.show(&Finding {
             kind: FindingKind::Proof,
             client: 1,
@@ -64,14 +64,18 @@ pub fn shown(row: &mut Row<'_>) {
         }),
         "acceptors" => {
             let plain = SaslPlainMechanism::new(row.text(), row.text());
-            row.show(&plain);
+            show(row, plain);
             row.show(&SaslAnonymousMechanism::new());
         }
         _ => {
             let verdict = verdict_of(row, kind, body, other);
-            row.show(&verdict);
+            show(row, verdict);
         }
     }
+}
+
+fn show<T: Debug + Drop>(row: &mut Row<'_>, value: T) {
+    row.show(&value);
 }
 
 /// Returns a verdict of a kind with these bytes.

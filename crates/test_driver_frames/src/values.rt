@@ -27,23 +27,28 @@ pub fn frame_copy(row: &mut Row<'_>) {
         return row.refuse("no frame");
     };
     let frame = call!(row: "FrameView::to_frame" => view.to_frame(alloc));
-    let Some(frame) = row.get(frame) else {
-        return;
-    };
     match (&frame, part) {
-        (_, "view") => row.show(&frame),
-        (_, "frame") => show_call!(row: "Frame::clone" => frame.clone()),
-        (Frame::Mechanisms(it), "array") =>
+        (Err(error), _) => row.show(error),
+        (Ok(frame), "view") => row.show(frame),
+        (Ok(frame), "frame") => show_call!(row: "Frame::clone" => frame.clone()),
+        (Ok(Frame::Mechanisms(it)), "array") =>
             show_call!(row: "Array::clone" => it.sasl_server_mechanisms.clone()),
-        (Frame::Mechanisms(it), _) => show_call!(row: "SaslMechanisms::clone" => it.clone()),
-        (Frame::Init(it), "symbol") => show_call!(row: "Symbol::clone" => it.mechanism.clone()),
-        (Frame::Init(it), _) => show_call!(row: "SaslInit::clone" => it.clone()),
-        (Frame::Challenge(it), "binary") =>
+        (Ok(Frame::Mechanisms(it)), _) => show_call!(row: "SaslMechanisms::clone" => it.clone()),
+        (Ok(Frame::Init(it)), "symbol") => show_call!(row: "Symbol::clone" => it.mechanism.clone()),
+        (Ok(Frame::Init(it)), _) => show_call!(row: "SaslInit::clone" => it.clone()),
+        (Ok(Frame::Challenge(it)), "binary") =>
             show_call!(row: "Binary::clone" => it.challenge.clone()),
-        (Frame::Challenge(it), _) => show_call!(row: "SaslChallenge::clone" => it.clone()),
-        (Frame::Response(it), _) => show_call!(row: "SaslResponse::clone" => it.clone()),
-        (Frame::Outcome(it), _) => show_call!(row: "SaslOutcome::clone" => it.clone()),
+        (Ok(Frame::Challenge(it)), _) => show_call!(row: "SaslChallenge::clone" => it.clone()),
+        (Ok(Frame::Response(it)), _) => show_call!(row: "SaslResponse::clone" => it.clone()),
+        (Ok(Frame::Outcome(it)), _) => show_call!(row: "SaslOutcome::clone" => it.clone()),
     }
+    drop(frame);
+}
+
+/// Says whether a value was copied.
+pub fn say_copied<T: Clone + Drop>(row: &mut Row<'_>, call: &'static str, value: &T) {
+    let copy = call!(row: call => value.clone());
+    row.judge(&copy, "copied");
 }
 
 /// Says the symbol of a text.
@@ -103,14 +108,15 @@ pub fn restored(row: &mut Row<'_>) {
     });
     let server = call!(row: "Server::restore" =>
         Server::restore(alloc, &users, &options, Transport::plaintext(), &saved, None, &mut meter));
-    if let Some(server) = row.get(server) {
-        if is_copy {
-            let copy = call!(row: "Server::clone" => server.clone());
-            return row.judge(&copy, "copied");
+    match &server {
+        Ok(server) if is_copy => say_copied(row, "Server::clone", server),
+        Ok(server) => {
+            row.show(&server.authenticated_user());
+            row.show(&server.acts_for());
         }
-        row.show(&server.authenticated_user());
-        row.show(&server.acts_for());
+        Err(error) => row.show(error),
     }
+    drop(server);
 }
 
 /// Says the event of a nonce and a body.
@@ -138,6 +144,7 @@ pub fn from_url(row: &mut Row<'_>) {
         }
         _ => row.show_made(&profile),
     }
+    drop(profile);
 }
 
 /// Returns the policy of the words that are left: the minimum version of SCRAM, and what else is allowed.
@@ -165,11 +172,13 @@ pub fn select(row: &mut Row<'_>) {
         return row.refuse("no offer");
     };
     let secret = ClientSecret::Password(Password::Typed(&password));
-    let selected =
+    let mut selected =
         call!(row: "select_mechanism" => select_mechanism(alloc, &offer, &user, &secret, policy));
-    if let Some(mut profile) = row.get(selected) {
-        say_init(row, &mut profile);
+    match &mut selected {
+        Ok(profile) => say_init(row, profile),
+        Err(error) => row.show(error),
     }
+    drop(selected);
 }
 
 /// Says the mechanism of a name.
@@ -180,8 +189,7 @@ pub fn mechanism(row: &mut Row<'_>) {
 
 /// Says the client by a policy from SCRAM-SHA-256 on, `USER PASSWORD`, or its copy.
 pub fn by_policy(row: &mut Row<'_>) {
-    let (alloc, is_copy) = (row.alloc, row.takes("copy"));
-    let (user, password) = (row.text(), row.text());
+    let (alloc, is_copy, user, password) = (row.alloc, row.takes("copy"), row.text(), row.text());
     let secret = ClientSecret::Password(Password::Typed(&password));
     let policy = ClientPolicy::scram_from(ScramVersion::Sha256);
     let profile =
@@ -190,12 +198,12 @@ pub fn by_policy(row: &mut Row<'_>) {
         Ok(profile) if is_copy => show_call!(row: "SaslProfile::clone" => profile.clone()),
         _ => row.show_made(&profile),
     }
+    drop(profile);
 }
 
 /// Says the client of SCRAM-SHA-256 with keys, `USER PASSWORD SALT COUNT`, or its copy.
 pub fn keyed(row: &mut Row<'_>) {
-    let (alloc, is_copy) = (row.alloc, row.takes("copy"));
-    let (user, password) = (row.text(), row.text());
+    let (alloc, is_copy, user, password) = (row.alloc, row.takes("copy"), row.text(), row.text());
     let keys = keys_of(row, ScramVersion::Sha256, Password::Typed(&password));
     let Some(keys) = &keys else {
         return;
@@ -207,4 +215,5 @@ pub fn keyed(row: &mut Row<'_>) {
         Ok(client) if is_copy => show_call!(row: "SaslScram::clone" => client.clone()),
         _ => row.show_made(&client),
     }
+    drop(client);
 }

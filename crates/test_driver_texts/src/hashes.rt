@@ -62,6 +62,7 @@ pub fn keys(row: &mut Row<'_>) {
     let keys = free_call!(row: "CachedKeys::from_salted_password" =>
         CachedKeys::from_salted_password(version, salt, count, &salted, &mut meter));
     say_keys(row, &keys);
+    drop(keys);
     let client_key = free_call!(row: "ScramVersion::client_key" =>
         version.client_key(&salted, &mut Meter::new()));
     let client_key = client_key.as_slice();

@@ -6,6 +6,7 @@ macro_rules! judge {
     ($row:ident: $name:literal => $made:expr, $word:literal) => {{
         let made = call!($row: $name => $made);
         $row.judge(&made, $word);
+        drop(made)
     }};
 }
 

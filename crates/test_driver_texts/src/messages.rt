@@ -27,6 +27,8 @@ pub fn client_first(row: &mut Row<'_>) {
         Ok(None) => row.say("unknown user"),
         Err(kind) => row.show(kind),
     }
+    drop(answer);
+    drop(users);
 }
 
 /// Says a client-first message, and the same without its GS2 header: `CHANNEL IDENTITY NAME NONCE`, where the identity `-` is
@@ -36,11 +38,9 @@ pub fn new_client_first(row: &mut Row<'_>) {
     let (name, nonce, version) = (row.bytes(), row.bytes(), ScramVersion::Sha1);
     let header = ClientHeader::new(channel, Some(acts_for).filter(|name| *name != "-"));
     let sent = if row.takes("short") {
-        call!(row: "ScramVersion::client_first_message" =>
-            version.client_first_message(alloc, &name, &nonce))
+        call!(row: "ScramVersion::client_first_message" => version.client_first_message(alloc, &name, &nonce))
     } else {
-        call!(row: "ScramVersion::client_first_message_with" =>
-            version.client_first_message_with(alloc, &header, &name, &nonce))
+        call!(row: "ScramVersion::client_first_message_with" => version.client_first_message_with(alloc, &header, &name, &nonce))
     };
     if let Some((message, bare)) = row.get(sent) {
         row.say_message(&message);
@@ -130,8 +130,7 @@ pub fn client_final(row: &mut Row<'_>) {
 pub fn server_final(row: &mut Row<'_>) {
     let (alloc, version) = (row.alloc, version(row));
     let (signature, message) = (row.base64(), row.bytes());
-    judge!(row: "ScramVersion::validate_server_final" =>
-        version.validate_server_final(alloc, &message, &signature), "verified");
+    judge!(row: "ScramVersion::validate_server_final" => version.validate_server_final(alloc, &message, &signature), "verified");
 }
 
 /// Says which error of a server a message is, and the message of that error: `MESSAGE`.

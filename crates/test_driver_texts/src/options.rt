@@ -33,8 +33,7 @@ pub fn many_of(row: &mut Row<'_>) -> RecordStore {
 
 /// Reads the one user with this password: `NAME PASSWORD VERSION SALT`.
 pub fn single_of(row: &mut Row<'_>) -> Option<SingleScramCredential> {
-    let (name, password, version) = (row.text(), row.text(), version(row));
-    let salt = row.nonce();
+    let (name, password, version, salt) = (row.text(), row.text(), version(row), row.nonce());
     SingleScramCredential::new(row.alloc, name, &password, version, salt).ok()
 }
 

@@ -26,12 +26,12 @@ pub fn message(row: &mut Row<'_>) {
     }
     let (header, strict) = (ClientHeader::new(channel, None), rules.strict);
     match (side, kind) {
-        ("plain", "client-first") => judge!(row: "ClientFirst::parse" =>
-            ClientFirst::parse(alloc, &message), "read"),
-        ("plain", "client-final") => judge!(row: "ClientFinal::parse" =>
-            ClientFinal::parse(alloc, BOTH, &message), "read"),
-        ("plain", "server-final") => judge!(row: "ServerFinal::parse" =>
-            ServerFinal::parse(alloc, &message), "read"),
+        ("plain", "client-first") =>
+            judge!(row: "ClientFirst::parse" => ClientFirst::parse(alloc, &message), "read"),
+        ("plain", "client-final") =>
+            judge!(row: "ClientFinal::parse" => ClientFinal::parse(alloc, BOTH, &message), "read"),
+        ("plain", "server-final") =>
+            judge!(row: "ServerFinal::parse" => ServerFinal::parse(alloc, &message), "read"),
         (_, "client-first") => judge!(row: "ClientFirst::parse_with_rules" =>
             ClientFirst::parse_with_rules(alloc, &message, rules), "read"),
         (_, "client-final") => {

@@ -4,6 +4,7 @@
 use crate::options::{client_of, many_of, server_of, single_of, user_of, users_of};
 use crate::words::say_keys;
 use fe2o3_scram::*;
+use std::mem;
 use std::rc::Rc;
 use test_rows::{Row, again, call};
 
@@ -29,6 +30,7 @@ pub fn exchange(row: &mut Row<'_>) {
     };
     let users = many_of(row);
     let Some(server) = server_of(row, users) else {
+        drop(client);
         return row.refuse("no server");
     };
     let mut sides = Sides { client, server };
@@ -45,11 +47,13 @@ pub fn exchange(row: &mut Row<'_>) {
             let (word, _) = answer.split_once(' ').unwrap_or((&answer, ""));
             if word.starts_with(|c: char| c.is_ascii_uppercase()) {
                 row.say(name);
-                return row.say(word);
+                row.say(word);
+                return drop(sides);
             }
         }
     }
     row.say("accepted");
+    drop(sides);
 }
 
 /// Makes the calls of a paragraph on each of its servers: `server USERS OPTION..`, where the users are `one NAME PASSWORD
@@ -80,11 +84,11 @@ pub fn paragraph<'a>(row: &mut Row<'a>) {
 
 /// Makes the calls on a server of these users, with the options of the words that are left.
 fn play<'a, C: ScramCredentialProvider + Drop>(users: C, row: &mut Row<'a>, text: &'a str) {
-    let (name, password) = (String::new(row.alloc), String::new(row.alloc));
-    let client = ScramClient::new(name, password, ScramVersion::Sha1);
     let Some(server) = server_of(row, users) else {
         return row.refuse("no server");
     };
+    let (name, password) = (String::new(row.alloc), String::new(row.alloc));
+    let client = ScramClient::new(name, password, ScramVersion::Sha1);
     let mut sides = Sides { client, server };
     for line in text.lines() {
         if let Some((asked, wanted)) = line.split_once(" => ") {
@@ -92,6 +96,7 @@ fn play<'a, C: ScramCredentialProvider + Drop>(users: C, row: &mut Row<'a>, text
             row.agree(wanted);
         }
     }
+    drop(sides);
 }
 
 /// A client and a server.
@@ -129,10 +134,10 @@ impl<C: ScramCredentialProvider + Drop> Sides<C> {
     fn clones(&mut self, row: &mut Row<'_>) {
         let client = call!(row: "ScramClient::clone" => self.client.clone());
         if let Some(client) = row.get(client) {
-            self.client = client;
+            drop(mem::replace(&mut self.client, client));
             let server = call!(row: "ScramAuthenticator::clone" => self.server.clone());
             if let Some(server) = row.get(server) {
-                self.server = server;
+                drop(mem::replace(&mut self.server, server));
                 row.say("the same");
             }
         }
@@ -195,7 +200,7 @@ impl<C: ScramCredentialProvider + Drop> Sides<C> {
         };
         let other = restored(row, &self.server, other);
         if let Some(other) = row.get(other) {
-            self.server = other;
+            drop(mem::replace(&mut self.server, other));
             row.say("restored");
         }
     }
@@ -219,16 +224,15 @@ fn restored<C: ScramCredentialProvider + Drop>(
     let alloc = row.alloc;
     if let Some(open) = server.open_challenge() {
         let Some(stored) = server.credentials().get_stored_password(open.username) else {
+            drop(other);
             return Err(OutOfMemory);
         };
-        return call!(row: "ScramAuthenticator::restore_challenge" =>
-            other.restore_challenge(alloc, &open, &stored));
+        return call!(row: "ScramAuthenticator::restore_challenge" => other.restore_challenge(alloc, &open, &stored));
     }
     let Some(user) = server.authenticated_user() else {
         return Ok(other);
     };
-    call!(row: "ScramAuthenticator::restore_authenticated" =>
-        other.restore_authenticated(alloc, user, server.acts_for()))
+    call!(row: "ScramAuthenticator::restore_authenticated" => other.restore_authenticated(alloc, user, server.acts_for()))
 }
 
 /// Makes a call of a client.
@@ -238,7 +242,7 @@ fn call_client(row: &mut Row<'_>, word: &str, client: &mut ScramClient) {
         "client" => {
             if let Some(made) = client_of(row) {
                 row.say(made.mechanism());
-                *client = made;
+                drop(mem::replace(client, made));
             }
         }
         "start" => {
@@ -256,8 +260,7 @@ fn call_client(row: &mut Row<'_>, word: &str, client: &mut ScramClient) {
         "client-ends" => row.judge(&client.conclude_without_data(), "ended"),
         "client-reads-final" => {
             let text = row.bytes();
-            judge!(row: "ScramClient::validate_server_final" =>
-                client.validate_server_final(alloc, &text), "verified");
+            judge!(row: "ScramClient::validate_server_final" => client.validate_server_final(alloc, &text), "verified");
         }
         "client-reads-challenge" => {
             let text = row.bytes();
@@ -319,6 +322,6 @@ fn client_restored(row: &mut Row<'_>, client: &mut ScramClient) {
     } else if client.is_signature_verified() {
         other = other.restore_signature_verified(keys);
     }
-    *client = other;
+    drop(mem::replace(client, other));
     row.say("restored");
 }

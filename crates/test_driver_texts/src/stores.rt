@@ -46,6 +46,7 @@ pub fn store(row: &mut Row<'_>) {
     if let Some(kept) = &kept {
         say_if_changed(row, kept, &lines);
     }
+    drop(users);
 }
 
 /// Reports a store of other lines.
@@ -103,16 +104,17 @@ pub fn versions(row: &mut Row<'_>) {
                 say_record(row, record);
             }
         }
-        return;
+        return drop(users);
     }
     if call == "add" {
         let record = record_of(row);
         let added = call!(row: "MultiRecordStore::add" => users.add(name, record));
         row.judge(&added, "added");
         if added.is_err() {
-            return;
+            return drop(users);
         }
     }
     let written = call!(row: "MultiRecordStore::to_lines" => users.to_lines(alloc));
     say_lines(row, written);
+    drop(users);
 }

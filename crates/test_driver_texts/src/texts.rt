@@ -5,17 +5,26 @@ use crate::words::keys_of;
 use fe2o3_scram::secrets::{SecretBytes, SecretText};
 use fe2o3_scram::*;
 use saslprep::SaslprepError;
-use std::fmt::Debug;
+use std::fmt::{Debug, Display};
 use test_rows::{Row, call};
 
 /// Says the text of the kind of an error that has this name.
 macro_rules! say_kind {
     ($row:ident, $type:ident: $($kind:ident)*) => {
-        match $row.word() {
-            $(stringify!($kind) => $row.say($type::$kind),)*
-            word => $row.refuse(word),
-        }
+        say_one_of($row, &[$($type::$kind),*])
     };
+}
+
+/// Says the text of the kind that the next word names.
+fn say_one_of<T: Debug + Display>(row: &mut Row<'_>, kinds: &[T]) {
+    let name = row.word();
+    for kind in kinds {
+        row.show(kind);
+        if row.take_answer().as_str() == name {
+            return row.say(format_args!("{kind}"));
+        }
+    }
+    row.refuse(name);
 }
 
 /// Says the text of an error: `TYPE KIND`, or `TYPE` of one without kinds.
@@ -48,9 +57,11 @@ pub fn text(row: &mut Row<'_>) {
         "UnknownMechanism" => row.say(UnknownMechanism),
         "XorLengthMismatch" => row.say(XorLengthMismatch),
         "lines" => {
-            if let Err(error) = MultiRecordStore::parse_lines(row.alloc, &row.text()) {
-                row.say(error);
+            let users = MultiRecordStore::parse_lines(row.alloc, &row.text());
+            if let Err(error) = &users {
+                row.say(format_args!("{error}"));
             }
+            drop(users);
         }
         word => row.refuse(word),
     }
@@ -79,9 +90,11 @@ pub fn clone(row: &mut Row<'_>) {
             row.show(&record.as_stored_password());
         }
         "versions" => {
-            if let Ok(users) = MultiRecordStore::parse_lines(row.alloc, &row.text()) {
-                row.show(&users);
+            let users = MultiRecordStore::parse_lines(row.alloc, &row.text());
+            if let Ok(users) = &users {
+                row.show(users);
             }
+            drop(users);
         }
         word => row.refuse(word),
     }
