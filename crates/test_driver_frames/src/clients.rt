@@ -54,16 +54,11 @@ fn own_step(
     call: &str,
     (view, nonce): (FrameView<'_>, &[u8; 32]),
 ) {
-    let (alloc, mut meter) = (row.alloc, Meter::new());
-    let reply = match (call, view.to_frame(alloc)) {
-        ("on_view_metered", _) =>
-            call!(row: "SaslProfile::on_view_metered" => profile.on_view_metered(alloc, view, hostname, nonce, &mut meter)),
-        ("on_frame_metered", Ok(frame)) =>
-            call!(row: "SaslProfile::on_frame_metered" => profile.on_frame_metered(alloc, frame, hostname, nonce, &mut meter)),
-        ("on_frame", Ok(frame)) =>
-            call!(row: "SaslProfile::on_frame" => profile.on_frame(alloc, frame, hostname, nonce)),
-        _ => call!(row: "SaslProfile::on_view" => profile.on_view(alloc, view, hostname, nonce)),
+    let Ok(frame) = view.to_frame(row.alloc) else {
+        return row.refuse("no frame");
     };
+    let reply =
+        call!(row: "SaslProfile::on_frame" => profile.on_frame(row.alloc, frame, hostname, nonce));
     if call == "shown" {
         row.show(&reply);
         return drop(reply);
