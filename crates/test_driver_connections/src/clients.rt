@@ -24,9 +24,8 @@ pub fn frame_limit(row: &mut Row<'_>) -> usize {
     512
 }
 
-/// Reads a client: `MECHANISM USER PASSWORD ITERATIONS HOSTNAME`, where `none` is no hostname, and then the options
-/// `by-challenge`, if it accepts the signature of the server in a challenge too, `for IDENTITY` and `limit N`. Returns
-/// its profile, the hostname of its init, and the maximum size of a frame.
+/// Reads a client: `MECHANISM USER PASSWORD ITERATIONS HOSTNAME`, where `none` is no hostname, and the options `by-challenge`,
+/// `for IDENTITY` and `limit N`. Returns its profile, the hostname of its init, and the maximum size of a frame.
 pub fn named_by(row: &mut Row<'_>) -> Option<(SaslProfile, Option<String>, usize)> {
     let (mechanism, user, password) = (row.word(), row.text_of_digits(), row.text_of_digits());
     let iterations = row.number();
@@ -90,8 +89,7 @@ pub fn answer_paragraph<'a>(row: &mut Row<'a>, lines: &'a str) {
     drop(side);
 }
 
-/// Reads what a client may log in by: `MECHANISM`, the weakest SCRAM, and the options `plain`, `channel KIND DATA` and
-/// `must-bind`.
+/// Reads what a client may log in by: `MECHANISM`, the weakest SCRAM, and `plain`, `channel KIND DATA` and `must-bind`.
 fn policy_of(row: &mut Row<'_>, mechanism: &str) -> Option<ClientPolicy> {
     let mut policy = ClientPolicy::scram_from(ScramVersion::from_mechanism(mechanism)?);
     if row.takes("plain") {
@@ -108,8 +106,7 @@ fn policy_of(row: &mut Row<'_>, mechanism: &str) -> Option<ClientPolicy> {
     Some(policy)
 }
 
-/// Answers the lines of a paragraph by a client of a policy: `MECHANISM USER PASSWORD`, the options of the policy,
-/// `for IDENTITY`, `hostname HOSTNAME` and `limit N`.
+/// Answers lines by a client of a policy: `MECHANISM USER PASSWORD`, its options, `for IDENTITY`, `hostname NAME`, `limit N`.
 pub fn answer_policy_paragraph<'a>(row: &mut Row<'a>, lines: &'a str) {
     let (mechanism, user, password) = (row.word(), row.text_of_digits(), row.text_of_digits());
     let Some(policy) = policy_of(row, mechanism) else {

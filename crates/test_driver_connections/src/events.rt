@@ -20,8 +20,7 @@ pub trait Side<C: Copy> {
         None
     }
 
-    /// Restores what the side saves, over a copy of its acceptor or its profile, or over what that saves or the row names,
-    /// and says the error if there is one.
+    /// Restores what the side saves, over a copy or over what the row names, and says the error if there is one.
     fn restore(&mut self, row: &mut Row<'_>, _over: C, _is_copy: bool) {
         row.refuse("no snapshot");
     }

@@ -49,7 +49,6 @@ fn say_served<A: AuthenticatedUser + Drop>(
     if let Some(negotiated) = row.get(made) {
         say_negotiated(row, &negotiated);
         say_user(row, &negotiated.side);
-        drop(negotiated);
     }
 }
 
@@ -84,6 +83,5 @@ pub fn answer_client(row: &mut Row<'_>) {
         client_connection(row.alloc, profile, hostname, &pieces));
     if let Some(negotiated) = row.get(made) {
         say_negotiated(row, &negotiated);
-        drop(negotiated);
     }
 }

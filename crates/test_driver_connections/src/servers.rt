@@ -109,8 +109,7 @@ impl Served {
         Server::new(&self.users, &self.options, self.transport())
     }
 
-    /// Returns the server that is restored from what another saves, or from the login of these words, if they are next:
-    /// `authenticated USER`, and `for IDENTITY` if the user acts for one.
+    /// Returns the server restored from what another saves, or from the words `authenticated USER` and `for IDENTITY`.
     fn restored(&self, row: &mut Row<'_>, server: &Server<'_>) -> Option<Server<'_>> {
         let (named, acts_for) = (text_after(row, "authenticated"), text_after(row, "for"));
         let saved = match &named {
@@ -196,7 +195,6 @@ impl<'a> Side<&'a Served> for ServerNegotiation<Server<'a>> {
 fn serve<'a, A: AuthenticatedUser + Drop>(row: &mut Row<'a>, acceptor: A, lines: &'a str) {
     let mut side = ServerNegotiation::new(row.alloc, acceptor);
     answer_events(row, &mut side, (), lines);
-    drop(side);
 }
 
 /// Answers the lines of a paragraph by a server.

@@ -25,8 +25,7 @@ impl Side for Client {
         }
     }
 
-    /// Says the answer to an event by a call: one of the steps, one of the profile's own, or a part of its init with
-    /// the nonce.
+    /// Says the answer to an event by a call: a step, the profile's own, or a part of its init with the nonce.
     fn step(&mut self, row: &mut Row<'_>, call: &str, event: &Event) {
         let (alloc, hostname, mut meter) = (row.alloc, self.hostname.as_deref(), Meter::new());
         let profile: &mut SaslProfile = &mut self.profile;

@@ -99,8 +99,7 @@ pub fn say_frame(row: &mut Row<'_>, name: &str, frame: Frame) {
     say_named(row, name, &body);
 }
 
-/// Returns the body of a frame: hexadecimal digits, `init MECHANISM RESPONSE`, of which the last word may be
-/// absent or `none`, `response TEXT`, or `mechanisms NAME,..`.
+/// Returns the body of a frame: digits, `init MECHANISM [RESPONSE]`, `response TEXT` or `mechanisms NAME,..`.
 pub fn body_of(row: &mut Row<'_>) -> Vec<u8> {
     let frame = if row.takes("init") {
         init_of(row)

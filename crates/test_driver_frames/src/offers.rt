@@ -34,8 +34,7 @@ fn rights_of(row: &mut Row<'_>) -> ActingRights {
     rights
 }
 
-/// Checks a server: `MECHANISM,.. USER.. RIGHT.. OPTION..`, as the head of `offers.txt` has them. If an option cannot be made,
-/// the row says why.
+/// Checks a server, by the words of the head of `offers.txt`. If an option cannot be made, the row says why.
 pub fn check<'a>(row: &mut Row<'a>, run: &Run<'a>) {
     let names = row.word();
     let has = |name: &str| names.split(',').any(|it| it == name);
@@ -101,8 +100,7 @@ impl Side for Server<'_> {
         run_copy(row, self, events);
     }
 
-    /// Says the answer to an event by a call: one of the steps, one of the server's own, or what it says of itself. `brief`
-    /// says only the kind of the answer, and why it rejects.
+    /// Says the answer to an event by a call: a step, the server's own, or a part of it. `brief` says its kind and the reason.
     fn step(&mut self, row: &mut Row<'_>, call: &str, event: &Event) {
         let (alloc, mut meter) = (row.alloc, Meter::new());
         let Event { body, nonce } = event;

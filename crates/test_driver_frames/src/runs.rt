@@ -21,8 +21,7 @@ pub struct Run<'a> {
     pub wanted: Vec<&'a str>,
 }
 
-/// Reads a paragraph: a line for the side, and one for each event, with the answer to it, or for the findings of an
-/// audit.
+/// Reads a paragraph: a line for the side, and one for each event with its answer, or for the findings of an audit.
 pub fn read<'a>(row: &mut Row<'a>) -> Run<'a> {
     let mut run = Run {
         side: "",
@@ -52,8 +51,7 @@ pub fn read<'a>(row: &mut Row<'a>) -> Run<'a> {
     run
 }
 
-/// Adds the event of a nonce and a body, or of none, and returns the call that answers it: that after the word `by`, or
-/// `step`.
+/// Adds the event of a nonce and a body, or of none, and returns its call: that after the word `by`, or `step`.
 fn push_event<'a>(row: &mut Row<'a>, asked: &'a str, events: &mut Vec<Event>) -> &'a str {
     row.turn_to(asked);
     let call = if row.takes("by") { row.word() } else { "step" };

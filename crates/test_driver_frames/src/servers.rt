@@ -168,8 +168,7 @@ pub fn check_scram(row: &mut Row<'_>, run: &Run<'_>, kind: &str) {
     }
 }
 
-/// Checks a server whose store has these records, in order: `VERSION RECORD..`, each of which is a name, a salt, a
-/// count, a stored key and a server key.
+/// Checks a server with these records, in order: `VERSION RECORD..`, each a name, a salt, a count and its two keys.
 pub fn check_records(row: &mut Row<'_>, run: &Run<'_>) {
     let version = version(row);
     let mut store = RecordStore::new(row.alloc, version);

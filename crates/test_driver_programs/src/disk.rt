@@ -37,8 +37,7 @@ struct System {
 pub struct Disk {
     system: Rc<System>,
 
-    /// The random bytes. A call returns copies of one byte: the n-th call of all, of the n-th byte or of the last one.
-    /// Without any, the bytes count up.
+    /// The random bytes: the n-th call returns copies of the n-th, or of the last. Without any, the bytes count up.
     pub random: Vec<u8>,
 }
 

@@ -11,8 +11,7 @@ use std::io::{BufRead, BufReader, Read, Result, Write};
 use std::mem::replace;
 use test_rows::Row;
 
-/// Answers the run of a paragraph. If the paragraph says so, each call of files and of random bytes fails in turn, and
-/// then the status must be 4 and the files unchanged.
+/// Answers the run of a paragraph. If it says so, each call fails in turn: the status must be 4, the files unchanged.
 pub fn answer(row: &mut Row<'_>, text: &str, private: &Metadata) -> Result<()> {
     let mut run = read(row.alloc, text, private, 0)?;
     let mut before = String::from_str(row.alloc, "= 4\n")?;
@@ -54,8 +53,7 @@ fn tells_change(run: &Run, told: &str) -> Result<bool> {
     Ok(told.contains("The file is changed, but") && told.ends_with(after.as_str()))
 }
 
-/// Runs the program with an input in pieces of this length, and returns its output, its errors, its status and the files
-/// as lines.
+/// Runs the program with an input in pieces of this length, and returns output, errors, status and files as lines.
 fn play(run: &mut Run, piece: usize) -> Result<String> {
     let alloc = run.disk.alloc();
     let input = run.input.clone()?;

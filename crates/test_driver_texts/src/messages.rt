@@ -31,8 +31,7 @@ pub fn client_first(row: &mut Row<'_>) {
     drop(users);
 }
 
-/// Says a client-first message, and the same without its GS2 header: `CHANNEL IDENTITY NAME NONCE`, where the identity `-` is
-/// none.
+/// Says a client-first message, and its bare text: `CHANNEL IDENTITY NAME NONCE`, where the identity `-` is none.
 pub fn new_client_first(row: &mut Row<'_>) {
     let (alloc, channel, acts_for) = (row.alloc, channel_of(row), row.word());
     let (name, nonce, version) = (row.bytes(), row.bytes(), ScramVersion::Sha1);
@@ -54,8 +53,7 @@ fn bare_of(row: &mut Row<'_>, nonce: &str) -> String {
     row.made(bare, String::new(row.alloc))
 }
 
-/// Says the answer of a client of `user` by a secret: `VERSION NONCE MESSAGE LEAST MOST SECRET PASSWORD KEYS`, of which
-/// a secret has one or both.
+/// Says the answer of `user` by a secret, of one or both: `VERSION NONCE MESSAGE LEAST MOST SECRET PASSWORD KEYS`.
 pub fn client_secret(row: &mut Row<'_>) {
     let (alloc, version, nonce, text) = (row.alloc, version(row), row.word(), row.word());
     let mut limits = IterationLimits::none();

@@ -44,8 +44,7 @@ const NO_CHANNELS: ChannelBindings = ChannelBindings {
     tls_exporter: None,
 };
 
-/// Reads the options of a server, up to the end of the words or the word `.`: its rules, the rights of its users, and the
-/// secret, the length of the salts and the count of its mock users.
+/// Reads a server's options up to the end or the word `.`: rules, rights, and secret, salt length and count of mock users.
 fn options_of(row: &mut Row<'_>) -> (ServerRules, ActingRights, Option<(Vec<u8>, u32, u32)>) {
     let (mut rules, mut channels) = (ServerRules::new(), NO_CHANNELS);
     let (mut rights, mut mock) = (ActingRights::new(row.alloc), None);

@@ -18,8 +18,7 @@ pub fn record(row: &mut Row<'_>) {
     }
 }
 
-/// Says what a typed password is prepared to, whether that meets the record and makes it again, and which record the
-/// typed password has: `RECORD TYPED`.
+/// Says what a typed password is prepared to, whether that meets the record, and which it makes: `RECORD TYPED`.
 pub fn prepared_record(row: &mut Row<'_>) {
     let (alloc, text, typed) = (row.alloc, row.word(), row.text());
     let read = ScramRecord::parse(alloc, text);
@@ -82,8 +81,7 @@ fn refusal(row: &mut Row<'_>, version: ScramVersion, text: &str) {
     }
 }
 
-/// Says the mock record of a name, and the HMAC values that it costs: `VERSION SECRET NAME LENGTH COUNT`, of which the
-/// length is the salt's.
+/// Says the mock record of a name, and its HMAC values: `VERSION SECRET NAME LENGTH COUNT`, with the salt's length.
 pub fn made_up(row: &mut Row<'_>) {
     let (alloc, version, secret, name) = (row.alloc, version(row), row.bytes(), row.text());
     let (len, count, mut meter) = (row.number() as usize, row.number(), Meter::new());

@@ -31,8 +31,7 @@ pub struct Secret<'a> {
 }
 
 impl<'a> Secret<'a> {
-    /// Reads a secret: `password PASSWORD`, `keys KEYS` or `both PASSWORD KEYS`, and `prepared PASSWORD` or `prepared-both
-    /// PASSWORD KEYS` of a prepared password.
+    /// Reads a secret: `password PASSWORD`, `keys KEYS`, `both PASSWORD KEYS`; `prepared` or `prepared-both` of a prepared one.
     pub fn read(row: &mut Row<'a>) -> Secret<'a> {
         let kind = row.word();
         let text = match kind {

@@ -42,8 +42,7 @@ struct File<'a> {
     text: &'a str,
 }
 
-/// Prints which calls of a row ran out of memory, and what it answers otherwise than it says, and returns whether it
-/// does.
+/// Prints which calls of a row ran out of memory, and a wrong answer, and returns whether there is one.
 fn differs<W: Write>(row: &Row<'_>, name: &str, text: &str, output: &mut W) -> io::Result<bool> {
     for call in row.calls_without_memory().lines() {
         writeln!(output, "{name}: ran out of memory: {call}")?;
@@ -132,7 +131,7 @@ fn replay_file<A: Answers, W: Write>(
     Ok(counts)
 }
 
-/// Answers the rows of the files that the program's arguments name, and returns whether each answer is the row's.
+/// Answers the rows of the files of the arguments, prints those that differ and their number, and succeeds if none does.
 fn replay_all<A: Answers>(rt: &HostRuntime, answers: &mut A) -> io::Result<bool> {
     let (mut output, mut differ, alloc) = (io::writer(rt), 0u64, rt.alloc());
     for name in env::args(rt)?.skip(1) {

@@ -5,8 +5,7 @@ use std::alloc::Global;
 use std::fmt::{Debug, Display, Write};
 use std::mem;
 
-/// The sizes of the blocks that mark a call for `tools/test_memory.py`: its begin, the begin of one that requests no
-/// memory, its end, and the end of all calls of an answer.
+/// Sizes of blocks that mark a call for `tools/test_memory.py`: its begin, one without requests, its end, and an answer's end.
 const BEGIN: usize = 700001;
 
 const BEGIN_FREE: usize = 700003;
@@ -84,8 +83,7 @@ impl<'a> Row<'a> {
         }
     }
 
-    /// Returns whether the answer says that a call ran out of memory. If it does, the row notes the last call and drops
-    /// the answer, so that the call can be made again.
+    /// Returns whether a call ran out of memory. If so, the row notes it and drops the answer, so that it can be made again.
     pub fn ran_out(&mut self) -> bool {
         let mut words = self.answer.as_str().split([' ', '(', ')']);
         let ran_out = !self.call.is_empty()
