@@ -69,7 +69,7 @@ abbrev pub channel_with : Bool → Option ChannelBinding → ClientChannel
 channel_with true channel = bound_channel channel
 channel_with false channel = unbound_channel channel
 
--- the options of a client of SCRAM that a policy selects, with -PLUS or without
+-- the options of a client of SCRAM that a policy selects, with -PLUS or without. It takes no signature in a challenge
 abbrev pub scram_options : ClientPolicy → Bool → ClientOptions
 scram_options policy plus = record {
   limits = policy.limits;
